@@ -1,6 +1,6 @@
 //! The objects of an explanation.
 
-ghost use Rattle.std.specs.Prelude.{◌≡◌, ◌++◌, ◌∷◌, [], map, IfOk, OnOk};
+ghost use Rattle.std.specs.Prelude.{IfOk};
 ghost use Rattle.std.specs.String.{string_bytes};
 ghost use Rattle.explanation_json.specs.Lines.{AreLinesOf, IsObjectLine, IsToldBy, item_texts};
 

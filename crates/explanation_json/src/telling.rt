@@ -1,6 +1,6 @@
 //! The lines of an explanation, item by item.
 
-ghost use Rattle.std.specs.Prelude.{◌≡◌, ◌++◌, ◌∷◌, [], IfOk};
+ghost use Rattle.std.specs.Prelude.{IfOk};
 ghost use Rattle.std.specs.String.{string_bytes};
 ghost use Rattle.explanation_json.specs.Lines.{IsLineOf};
 

@@ -1,6 +1,6 @@
 //! A script's explanation as objects, from its bytes to what is written.
 
-ghost use Rattle.std.specs.Prelude.{◌≡◌, ◌≢◌, Err, IfErr, IfOk};
+ghost use Rattle.std.specs.Prelude.{◌≡◌, Err, IfOk};
 ghost use Rattle.std.specs.String.{string_bytes};
 ghost use Rattle.script_run.specs.Run.{IsCausedBy, both_counts};
 ghost use Rattle.explanation_json.specs.Endings.{Tells};

@@ -1,6 +1,6 @@
 //! A negotiation of structs.
 
-ghost use Rattle.std.specs.Prelude.{◌≡◌, ◌≤◌, length, IfErr, IfOk};
+ghost use Rattle.std.specs.Prelude.{IfErr, IfOk};
 ghost use Rattle.flat_negotiation.specs.Unsettled.{AreSettled, AreUnsettled};
 ghost use Rattle.flat_negotiation.specs.Written.{CanBeWritten};
 

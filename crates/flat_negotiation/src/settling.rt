@@ -1,7 +1,7 @@
 //! The best settings of a list, or where it stops having some.
 
 ghost use Rattle.flat_negotiation.specs.declared.negotiating.TheConstants.{MOST_PARTICIPANTS};
-ghost use Rattle.std.specs.Prelude.{◌≡◌, ◌≤◌, length, true, false, IfErr, IfOk, IfSome};
+ghost use Rattle.std.specs.Prelude.{◌≤◌, length, true, false, IfErr, IfOk, IfSome};
 ghost use Rattle.sysmem_merge.specs.Aggregate.{StandsFor};
 ghost use Rattle.sysmem_merge.specs.Best.{IsBest, IsUnmet};
 ghost use Rattle.sysmem_merge.specs.Reasons.{IsFirstReason};

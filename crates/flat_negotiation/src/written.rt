@@ -1,6 +1,6 @@
 //! Settings as a C program is told them.
 
-ghost use Rattle.std.specs.Prelude.{◌≡◌, ◌<◌, ◌≤◌, ◌^◌, IsSome};
+ghost use Rattle.std.specs.Prelude.{◌≡◌, ◌<◌, ◌^◌, IsSome};
 ghost use Rattle.drm_images.specs.Codes.{fourcc};
 ghost use Rattle.drm_images.specs.Planes.{bytes_of};
 ghost use Rattle.flat_negotiation.specs.Written.{CanBeWritten, HasImage, HoldsOffer, IsImageWritten, IsLaid, IsOfferWritten, IsWritten, domain_code, no_image};

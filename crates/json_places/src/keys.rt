@@ -1,7 +1,5 @@
 //! Places in a text, and paths that lead to values.
 
-ghost use Rattle.std.specs.Prelude.{◌≡◌};
-
 use serde_json::Value;
 use std::alloc::{AllocError, Global};
 

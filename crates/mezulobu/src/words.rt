@@ -1,7 +1,6 @@
 //! The words of a refusal.
 
-ghost use Rattle.std.specs.Prelude.{◌≡◌, ◌++◌, codes, IfOk, OnOk, string_bytes};
-ghost use Rattle.std.specs.Fmt.{decimal};
+ghost use Rattle.std.specs.Prelude.{◌≡◌, IfOk, string_bytes};
 ghost use Rattle.script_run.specs.Lines.{Puts};
 ghost use Rattle.mezulobu.specs.Words.{at_call, refusal_words, script_words};
 

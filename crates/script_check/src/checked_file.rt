@@ -6,7 +6,7 @@ ghost use Rattle.std.specs.String.{string_bytes};
 ghost use Rattle.serde_json.specs.View.{view};
 ghost use Rattle.script_reading.specs.Seen.{script_seen};
 ghost use Rattle.script_check.specs.Checked.{Answers, too_many};
-ghost use Rattle.script_check.specs.CheckedFile.{AnswersIn, HasChecked, IsNoList, IsRefusal, IsScriptFault, IsValueOf, answer_text, no_text};
+ghost use Rattle.script_check.specs.CheckedFile.{AnswersIn, HasChecked, IsRefusal, IsScriptFault, IsValueOf, answer_text, no_text};
 ghost use Rattle.script_replay.specs.Lines.{Puts};
 ghost use Rattle.script_run.specs.Run.{IsCausedBy, both_counts};
 

@@ -1,5 +1,5 @@
 //! The form of one call: what its object says, apart from the other calls.
-ghost use Rattle.std.specs.Prelude.{◌≡◌, codes, option_map};
+ghost use Rattle.std.specs.Prelude.{◌≡◌, option_map};
 ghost use Rattle.std.specs.List.{list_all};
 ghost use Rattle.serde_json.specs.View.{view, members_view};
 ghost use Rattle.script_reading.specs.Call.{actor_of, constraints_of, act_of, makes_name, may_have, form_of, name_in, text_at};

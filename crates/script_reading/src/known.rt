@@ -1,9 +1,8 @@
 //! What the calls so far made known: the names of tokens, and the actors.
-ghost use Rattle.std.specs.Prelude.{◌≡◌, [], ◌∷◌, IfOk, IfErr, Some, None, bytes_eq, option_map, position, if◌then◌else◌};
+ghost use Rattle.std.specs.Prelude.{◌≡◌, IfOk, IfErr, Some, None, bytes_eq, option_map, position, if◌then◌else◌};
 ghost use Rattle.serde_json.specs.View.{view};
 ghost use Rattle.script_reading.specs.Faults.{Gives};
 ghost use Rattle.script_reading.specs.Known.{known_seen, texts};
-ghost use Rattle.script_reading.specs.Names.{root};
 ghost use Rattle.script_reading.specs.Script.{actor_number, actors_after, names_after, names_found, call_of, nothing_known};
 ghost use Rattle.script_reading.specs.Seen.{call_seen, form_seen};
 

@@ -1,5 +1,5 @@
 //! A script: the platform that it names and its calls.
-ghost use Rattle.std.specs.Prelude.{◌≡◌, codes, map, option_and_then, option_map};
+ghost use Rattle.std.specs.Prelude.{◌≡◌, codes, option_and_then, option_map};
 ghost use Rattle.std.specs.List.{list_all};
 ghost use Rattle.serde_json.specs.Find.{as_array, get};
 ghost use Rattle.serde_json.specs.View.{items_view, members_view, view};

@@ -1,6 +1,5 @@
 //! The bytes of a script, and the value that they spell.
-ghost use Rattle.std.specs.Prelude.{◌≡◌, Ok, Result};
-ghost use Rattle.serde_json.specs.Data.{Data};
+ghost use Rattle.std.specs.Prelude.{Ok, Result};
 ghost use Rattle.serde_json.specs.View.{view};
 ghost use Rattle.script_reading.specs.Faults.{GivesOneOf};
 ghost use Rattle.script_reading.specs.Text.{Outcome, IsValue};

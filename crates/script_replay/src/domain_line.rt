@@ -1,6 +1,6 @@
 //! The lines of domains, each put after the text so far.
 
-ghost use Rattle.std.specs.Prelude.{◌≡◌, ℕ, ◌++◌, codes, option_map, slice_get};
+ghost use Rattle.std.specs.Prelude.{◌≡◌, ◌++◌, codes, option_map, slice_get};
 ghost use Rattle.std.specs.Fmt.{decimal};
 ghost use Rattle.certificate_text.specs.Paths.{path_text};
 ghost use Rattle.script_replay.specs.Lines.{Puts, chosen_text, domain_line, heap_text, image_text, marked, selection_text, settings_text};

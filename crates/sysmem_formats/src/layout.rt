@@ -10,7 +10,6 @@ ghost use Rattle.sysmem_formats.specs.Layout.{
   row_divisor_of,
   plane_bytes,
   rows_of,
-  row_up_to,
   format_width_alignment,
   format_height_alignment,
   IsTiledMisfit,

@@ -1,6 +1,6 @@
 //! Whether bounds keep to what an entry asks for.
 
-ghost use Rattle.std.specs.Prelude.{◌≤◌, ◌↔◌, IsTrue, IfSome, OnSome, IfNone};
+ghost use Rattle.std.specs.Prelude.{◌≤◌, ◌↔◌, IsTrue, IfSome, IfNone};
 ghost use Rattle.std.specs.Int.{◌∣◌};
 ghost use Rattle.sysmem_image.specs.Size.{IsSizeUpTo, DividesSize};
 ghost use Rattle.sysmem_image.specs.Bounds.{IsTighter, KeepsField, IsFirstFailing, Suits};

@@ -1,7 +1,7 @@
 //! What entries ask of an offer's images, kept so that each line of
 //! the conflict table can be asked.
 
-ghost use Rattle.std.specs.Prelude.{◌≡◌, ◌↔◌, ◌≤◌, ◌<◌, ◌^◌, ℕ, List, [], ◌∷◌, ◌++◌, IsTrue, IfSome, IfNone};
+ghost use Rattle.std.specs.Prelude.{◌↔◌, ◌≤◌, ◌<◌, ◌^◌, ℕ, List, [], ◌∷◌, ◌++◌, IsTrue, IfSome, IfNone};
 ghost use Rattle.std.proofs.Props.{props};
 ghost use Rattle.sysmem_counts.specs.declared.field.Field.{Field};
 ghost use Rattle.sysmem_counts.specs.declared.field.Field.TheVariants.{MaxSize, MaxWidthTimesHeight, MaxBytesPerRow};

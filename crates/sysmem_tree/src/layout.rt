@@ -1,6 +1,6 @@
 //! The forest of a domain in a flat layout, in pre-order.
 
-ghost use Rattle.std.specs.Prelude.{◌≡◌, ◌≤◌, ◌<◌, ◌+◌, ℕ, Some, None, IfSome, [], drop, length, is_some, slice_get, if◌then◌else◌};
+ghost use Rattle.std.specs.Prelude.{◌≡◌, ◌≤◌, ◌<◌, ◌+◌, ℕ, Some, None, IfSome, [], length, slice_get, if◌then◌else◌};
 ghost use Rattle.sysmem_tree.specs.Nodes.{IsTree};
 ghost use Rattle.sysmem_tree.specs.Shape.{by_number};
 ghost use Rattle.sysmem_tree.specs.Layout.{is_group, size, HoldNumbers, Lays};

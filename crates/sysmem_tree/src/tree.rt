@@ -1,14 +1,14 @@
 //! The tree of a collection.
 
-ghost use Rattle.std.specs.Prelude.{◌≡◌, ℕ, List, ◌<◌, ◌≤◌, true, false, Some, None, Ok, Err, length, map, option_map, slice_get, IfOk, IfErr, IfSome, OnErr};
+ghost use Rattle.std.specs.Prelude.{◌≡◌, ℕ, List, ◌<◌, ◌≤◌, true, Some, None, Ok, Err, length, option_map, slice_get, IfOk, IfErr, IfSome, OnErr};
 ghost use Rattle.std.specs.Result.{result_err};
 ghost use Rattle.std.specs.Vec.{vec_capacity};
 ghost use Rattle.sysmem_tree.specs.ActionKind.{deed_of, kind_of};
-ghost use Rattle.sysmem_tree.specs.Domain.{AreDomains, HasDomain, IsSoundTree, decision_of, fate_of, host_number, is_ready, is_selected, is_undecided};
+ghost use Rattle.sysmem_tree.specs.Domain.{AreDomains, HasDomain, IsSoundTree, decision_of, fate_of, host_number, is_ready, is_selected};
 ghost use Rattle.sysmem_tree.specs.Nodes.{HasNode, IsTree};
 ghost use Rattle.sysmem_tree.specs.Path.{node_at, path_of};
 ghost use Rattle.sysmem_tree.specs.Table.{makes_root};
-ghost use Rattle.sysmem_tree.specs.Tree.{applied, decided, domains_after, first_tree, has_room, is_barred, nodes_after, number_after};
+ghost use Rattle.sysmem_tree.specs.Tree.{applied, domains_after, first_tree, has_room, is_barred, nodes_after, number_after};
 
 use crate::action::{Action, ActionKind, Event};
 use crate::copying::{copied_domains, copied_nodes};

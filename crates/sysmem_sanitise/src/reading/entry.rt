@@ -1,10 +1,10 @@
 //! Reads the image entries of a participant.
 
 ghost use Rattle.std.specs.Prelude.{◌≡◌, ◌++◌, [], map};
-ghost use Rattle.serde_json.specs.View.{view, items_view};
+ghost use Rattle.serde_json.specs.View.{view};
 ghost use Rattle.sysmem_counts.specs.declared.field.Field.TheVariants.{ImageFormatConstraints};
 ghost use Rattle.sysmem_sanitise.specs.Reading.Entries.{entry_object, entry_with, with_entry, entries_of};
-ghost use Rattle.sysmem_sanitise.specs.Reading.Fields.{Reads, kept, optional, read_each, seen_by};
+ghost use Rattle.sysmem_sanitise.specs.Reading.Fields.{Reads, kept, optional, seen_by};
 
 use super::asked::asked_pairs;
 use super::bounds::bounds_of;

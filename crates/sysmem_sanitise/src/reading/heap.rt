@@ -1,8 +1,8 @@
 //! Reads the name of a heap, and a list of permitted heaps.
 
-ghost use Rattle.std.specs.Prelude.{◌≡◌, [], string_bytes};
-ghost use Rattle.serde_json.specs.View.{view, items_view};
-ghost use Rattle.sysmem_sanitise.specs.Reading.Fields.{seen_by, read_each, Reads};
+ghost use Rattle.std.specs.Prelude.{string_bytes};
+ghost use Rattle.serde_json.specs.View.{view};
+ghost use Rattle.sysmem_sanitise.specs.Reading.Fields.{seen_by, Reads};
 ghost use Rattle.sysmem_sanitise.specs.Reading.Heaps.{heap_type_of, heap_name_of, permitted_heap, with_permitted, permitted_of};
 
 use super::field::{add, expect_object, list_of, number_or, stated, text_of};

@@ -1,6 +1,6 @@
 //! Reads the heaps of a platform.
 
-ghost use Rattle.std.specs.Prelude.{◌≡◌, []};
+ghost use Rattle.std.specs.Prelude.{◌≡◌};
 ghost use Rattle.serde_json.specs.View.{view, items_view};
 ghost use Rattle.sysmem_counts.specs.declared.field.Field.TheVariants.{Domains};
 ghost use Rattle.sysmem_sanitise.specs.Reading.Fields.{seen_by, read_each, required, Reads};

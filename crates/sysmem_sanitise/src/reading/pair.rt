@@ -1,10 +1,10 @@
 //! Reads the pairs and the colour spaces of a platform.
 
-ghost use Rattle.std.specs.Prelude.{◌≡◌, []};
-ghost use Rattle.serde_json.specs.View.{view, items_view};
+ghost use Rattle.std.specs.Prelude.{◌≡◌};
+ghost use Rattle.serde_json.specs.View.{view};
 ghost use Rattle.sysmem_counts.specs.declared.field.Field.TheVariants.{PixelFormatModifier};
 ghost use Rattle.sysmem_formats.specs.declared.modifier.Modifier.TheVariants.{Linear};
-ghost use Rattle.sysmem_sanitise.specs.Reading.Fields.{seen_by, read_each, Reads, optional, named};
+ghost use Rattle.sysmem_sanitise.specs.Reading.Fields.{seen_by, Reads, optional, named};
 ghost use Rattle.sysmem_sanitise.specs.Reading.Names.{modifier_named};
 ghost use Rattle.sysmem_sanitise.specs.Reading.Platform.{pair_of, with_pair, pairs_of, with_new_colour, colours_of};
 
