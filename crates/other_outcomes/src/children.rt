@@ -133,8 +133,8 @@ fn outcome_with(
     }
 }
 
-/// What the report would say last of the domain at a path if each call on one of two names were made
-/// on the other; `None` where it would say nothing, and where nothing more is to be tried.
+/// What the report would say last of the domain at a path if each call on one of two names were
+/// made on the other; `None` where it would say nothing, and where nothing more is to be tried.
 fn outcome_exchanged(
     alloc: Global,
     setting: &Setting<'_>,
