@@ -45,5 +45,7 @@ any_listed bits = if has_bit bits 8 then with_any no_colours else no_colours
 -- the set of what has its bit set
 abbrev pub set_said : ℕ → ColourSet
 set_said bits =
-    listed bits Rec2100 (listed bits Rec2020 (listed bits Rec709 (listed bits Rec601PalFullRange (listed bits Rec601Pal
-    (listed bits Rec601NtscFullRange (listed bits Rec601Ntsc (listed bits Srgb (any_listed bits))))))))
+    listed bits Rec2100 (listed bits Rec2020 (listed bits Rec709
+    (listed bits Rec601PalFullRange (listed bits Rec601Pal
+    (listed bits Rec601NtscFullRange (listed bits Rec601Ntsc
+    (listed bits Srgb (any_listed bits))))))))

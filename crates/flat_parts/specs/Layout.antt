@@ -10,7 +10,8 @@ use Rattle.flat_parts.specs.declared.flat.FlatPlane.{FlatPlane}
 
 -- a plane as C has it, or all 0 where there is none
 abbrev pub flat_plane : Option Plane → FlatPlane
-flat_plane (Some plane) = record { offset = plane.offset; rows = plane.rows; pitch = plane.pitch; reserved = 0 }
+flat_plane (Some plane) =
+    record { offset = plane.offset; rows = plane.rows; pitch = plane.pitch; reserved = 0 }
 flat_plane None = record { offset = 0; rows = 0; pitch = 0; reserved = 0 }
 
 -- four of them

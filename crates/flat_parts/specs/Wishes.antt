@@ -3,6 +3,7 @@ use Rattle.std.specs.Prelude.{◌^◌, ◌-◌, ◌||◌, ◌&&◌, not}
 use Rattle.sysmem_counts.specs.Bounds.{most_number}
 use Rattle.sysmem_counts.specs.declared.constraints.CountConstraints.{CountConstraints}
 use Rattle.sysmem_memory.specs.Wishes.{MemoryWishes}
+use Rattle.sysmem_memory.specs.declared.bounds.TheConstants.{MOST_HEAPS}
 use Rattle.flat_parts.specs.declared.flat.FlatParticipant.{FlatParticipant}
 use Rattle.flat_parts.specs.Heaps.{permitted_said}
 use Rattle.flat_parts.specs.Stated.{stated}
@@ -26,5 +27,5 @@ memory_said p = record {
   cpu_domain_supported = p.cpu || (not p.ram && not p.inaccessible);
   ram_domain_supported = p.ram;
   inaccessible_domain_supported = p.inaccessible;
-  permitted_heaps = permitted_said 64 p.heaps;
+  permitted_heaps = permitted_said MOST_HEAPS p.heaps;
 }

@@ -3,6 +3,7 @@
 ghost use Rattle.std.specs.Prelude.{◌≡◌, ◌↔◌, ◌<◌, IfErr, IfOk, IfSome, IfNone, Some};
 ghost use Rattle.std.specs.List.{AllZip};
 ghost use Rattle.sysmem_formats.specs.declared.colour_space.ColourSpace.{ColourSpace as Colour};
+ghost use Rattle.flat_parts.specs.declared.stated.TheConstants.{SET_BITS};
 ghost use Rattle.flat_parts.specs.Colours.{ColourUnsaid, IsColourSaid, any_listed, colour_bit, colour_index, listed, set_said};
 ghost use Rattle.flat_parts.specs.Unsaid.{IfAmiss, IsAmiss};
 
@@ -72,7 +73,7 @@ pub fn colours_of(alloc: Global, bits: &[u32]) -> Result<Vec<ColourSpace>, Unsai
 }
 
 fn listed(set: ColourSet, bits: u32, index: u32, colour: ColourSpace) -> ColourSet
-    requires { index < 64 }
+    requires { index < SET_BITS }
     ensures { index ≡ colour_index colour → result ≡ listed bits colour set }
 {
     let mut set = set;

@@ -20,7 +20,8 @@ use sysmem_image::{Entry, EntryBounds, ImageBounds};
 /// One more than the greatest set of colour spaces.
 const COLOUR_SETS: u32 = 512;
 
-/// The greatest divisor of a row.
+/// The greatest divisor of a row: `most_multiple` of the definitions, neither more, by what an
+/// `Entry` asks of its bounds, nor less, by what `entry_of` says of a fault.
 const MOST_DIVISOR: u32 = 65_536;
 
 /// The format that is asked for, where it isn't any.

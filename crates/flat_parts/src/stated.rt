@@ -6,6 +6,9 @@ ghost use Rattle.flat_parts.specs.Stated.{has_bit, sides_stated, stated};
 use crate::flat::FlatSize;
 use sysmem_image::Size;
 
+/// How many bits the widest set has, that of heaps.
+pub(crate) const SET_BITS: u32 = 64;
+
 /// The number, or what is absent where it is 0.
 pub(crate) fn stated(absent: u32, number: u32) -> u32
     ensures value { result ≡ stated absent number }
@@ -35,7 +38,7 @@ pub(crate) fn sides_stated(absent: u32, sides: FlatSize) -> Size
 
 /// Whether a set has the bit of this index.
 pub(crate) fn has_bit(bits: u64, index: u32) -> bool
-    requires { index < 64 }
+    requires { index < SET_BITS }
     ensures { result ≡ has_bit bits index }
 {
     (bits >> index) % 2 == 1

@@ -2,6 +2,7 @@
 
 ghost use Rattle.std.specs.Prelude.{◌≡◌, ◌≤◌, IfOk};
 ghost use Rattle.sysmem_counts.specs.Usage.{usage_bits};
+ghost use Rattle.flat_parts.specs.declared.stated.TheConstants.{SET_BITS};
 ghost use Rattle.flat_parts.specs.Heaps.{permitted_said};
 ghost use Rattle.flat_parts.specs.Wishes.{counts_said, memory_said};
 
@@ -11,10 +12,7 @@ use crate::stated::{has_bit, large_stated, stated};
 use bitflags::Flags;
 use std::alloc::{AllocError, Global};
 use sysmem_counts::{CountConstraints, Usage};
-use sysmem_memory::{Heap, MemoryConstraints};
-
-/// How many heaps a platform has at most.
-const MOST_HEAPS: u32 = 64;
+use sysmem_memory::{Heap, MOST_HEAPS, MemoryConstraints};
 
 /// What the participant uses the buffers for.
 pub fn usage_of(flat: &FlatParticipant<'_>) -> Usage
@@ -38,7 +36,7 @@ pub fn counts_of(flat: &FlatParticipant<'_>) -> CountConstraints
 
 /// The names of the heaps, of the first `most`, whose bits are set.
 fn permitted_heaps(alloc: Global, bits: u64, most: u32) -> Result<Vec<Heap>, AllocError>
-    requires { most ≤ 64 }
+    requires { most ≤ SET_BITS }
     ensures { IfOk result (λ heaps. heaps.items ≡ permitted_said most bits) }
 {
     let mut heaps = Vec::new(alloc);
@@ -62,6 +60,6 @@ pub fn memory_of(alloc: Global, flat: &FlatParticipant<'_>) -> Result<MemoryCons
         cpu_domain_supported: flat.cpu || !flat.ram && !flat.inaccessible,
         ram_domain_supported: flat.ram,
         inaccessible_domain_supported: flat.inaccessible,
-        permitted_heaps: permitted_heaps(alloc, flat.heaps, MOST_HEAPS)?,
+        permitted_heaps: permitted_heaps(alloc, flat.heaps, MOST_HEAPS as u32)?,
     })
 }
