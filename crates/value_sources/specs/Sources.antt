@@ -61,4 +61,5 @@ wish_of MostPixels entry = entry.bounds.asked.max_width_times_height
 
 -- what a participant's entry for the offer asks for; this number where it has none
 abbrev pub wish_or : ℕ → Offer → Wish → Asked → ℕ
-wish_or absent offer wish one = option_map_or (wish_of wish) (first_match offer one.asked.now.entries) absent
+wish_or absent offer wish one =
+    option_map_or (wish_of wish) (first_match offer one.asked.now.entries) absent

@@ -10,8 +10,8 @@ use std::alloc::{AllocError, Global};
 use std::fmt::Write;
 use sysmem_counts::{BUFFER_COUNT_LIMIT, CountBounds, Field};
 
-/// How many nodes a tree has at most.
-const MOST_NODES: usize = 128;
+/// How many participants are counted at most: as many as a tree may have nodes.
+pub const MOST_COUNTED: usize = 128;
 
 /// How many parts of a sum are shown.
 const MOST_PARTS: usize = 5;
@@ -37,12 +37,12 @@ fn value_of(one: &Asked<'_>, part: Part) -> u32
     }
 }
 
-/// The bounds of the counts of participants, of the first 128 where there are more.
+/// The bounds of the counts of participants, of the first `MOST_COUNTED` where there are more.
 fn bounds_of(people: &[Asked<'_>]) -> CountBounds
-    ensures { length people.now ≤ 128 → IsTallyOf result (counts_of people.now) }
+    ensures { length people.now ≤ MOST_COUNTED → IsTallyOf result (counts_of people.now) }
 {
     let mut bounds = CountBounds::new();
-    let some = &people[..people.len().min(MOST_NODES)];
+    let some = &people[..people.len().min(MOST_COUNTED)];
     for one in some {
         bounds.add(one.asked.counts());
     }
@@ -179,9 +179,11 @@ fn put_why(text: &mut String, people: &[Asked<'_>]) -> Result<(), AllocError> {
     put_held(text, people)
 }
 
-/// Whether a line on the count is true of participants; of more than 128 only the first are asked.
+/// Whether a line on the count is true of participants; of more than `MOST_COUNTED` only the first
+/// are asked.
 pub fn is_count_line(field: Field, people: &[Asked<'_>]) -> bool
-    ensures { length people.now ≤ 128 → IsTrue result ↔ IsCountLine field (counts_of people.now) }
+    ensures { length people.now ≤ MOST_COUNTED
+        → IsTrue result ↔ IsCountLine field (counts_of people.now) }
 {
     bounds_of(people).is_line(field)
 }

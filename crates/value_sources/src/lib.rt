@@ -16,6 +16,6 @@ mod sizes;
 mod wishes;
 
 pub use asked::{Asked, put_has, put_people, put_texts};
-pub use counting::{count_text, is_count_line, why_needed};
+pub use counting::{MOST_COUNTED, count_text, is_count_line, why_needed};
 pub use sizes::{Derived, format_of};
 pub use wishes::{Side, Wish, Wishes};
