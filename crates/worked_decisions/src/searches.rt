@@ -95,8 +95,8 @@ pub(crate) const ROWS: &[Row] = &[
         "/ duplicate duplicate release /0 bind camps_on_2_and_slack /1 bind camps_on_3 decide /0 attach_token /0/0 create_group /0/0/0 create_child create_child all_children_present /0/0 release /0/0/0/0 bind camps_on_2 /0/0/0/1 bind camps_on_2",
         "empty visits 3 told 3 most 1",
     ),
-    // two ask for a tenth buffer of nine: that of a, who was released once their domain waited, still
-    // counts for them
+    // two ask for a tenth buffer of nine: that of a, who was released once their domain waited,
+    // still counts for them
     (
         "released_meanwhile",
         0,

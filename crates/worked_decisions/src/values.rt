@@ -1,5 +1,5 @@
-//! Values that no report shows: the text of a want of memory, the corner of no image, a copy of what
-//! is kept of participants, and heaps that make no platform.
+//! Values that no report shows: the text of a want of memory, the corner of no image, a copy of
+//! what is kept of participants, and heaps that make no platform.
 
 use crate::equal::is_equal;
 use crate::steps::{asked, platform};

@@ -1,6 +1,7 @@
 //! Searches by several workers beside those of one, and that workers search at the same time.
 
 ghost use Rattle.std.specs.Prelude.{◌≤◌};
+ghost use Rattle.sysmem_search.specs.declared.wide.TheConstants.{MOST_WORKERS};
 
 use crate::equal::is_equal;
 use crate::finding::search_frozen;
@@ -14,7 +15,7 @@ use std::thread::Threads;
 use std::time::Clock;
 use sysmem_alloc::Frozen;
 use sysmem_proof::Verdict;
-use sysmem_search::{Gate, NoGate, search_wide};
+use sysmem_search::{Gate, MOST_WORKERS, NoGate, search_wide};
 
 // So many workers find the verdict of what is frozen.
 fn find_alike<R: Threads + Abort + Sync, G: Gate + Sync>(
@@ -26,7 +27,7 @@ fn find_alike<R: Threads + Abort + Sync, G: Gate + Sync>(
     wanted: &Verdict,
 ) -> Result<(), AllocError>
     requires some { 1 ≤ workers }
-    requires few { workers ≤ 64 }
+    requires few { workers ≤ MOST_WORKERS }
 {
     let platform = frozen.platform();
     let tree = frozen.tree();
@@ -37,14 +38,14 @@ fn find_alike<R: Threads + Abort + Sync, G: Gate + Sync>(
     Ok(())
 }
 
-// One worker, two and 64 find what one search does.
+// One worker, two and the most find what one search does.
 fn all_find<R: Threads + Abort + Sync>(
     rt: &R,
     alloc: Global,
     frozen: &Frozen,
 ) -> Result<(), AllocError> {
     let alone = search_frozen(alloc, frozen)?;
-    for workers in [1, 2, 64] {
+    for workers in [1, 2, MOST_WORKERS as u32] {
         find_alike(rt, alloc, frozen, &NoGate, workers, &alone.verdict)?;
     }
     Ok(())
@@ -73,7 +74,7 @@ fn all_meet<R: Threads + Abort + Clock + Sync>(
     workers: u32,
 ) -> Result<(), AllocError>
     requires some { 1 ≤ workers }
-    requires few { workers ≤ 64 }
+    requires few { workers ≤ MOST_WORKERS }
 {
     let wanted = u64::from(workers);
     let held = fresh();
@@ -98,7 +99,7 @@ fn meet<R: Threads + Abort + Clock + Sync>(
     workers: u32,
 ) -> Result<(), Fail>
     requires some { 1 ≤ workers }
-    requires few { workers ≤ 64 }
+    requires few { workers ≤ MOST_WORKERS }
 {
     let frozen = frozen(alloc, 0, then)?;
     Ok(all_meet(rt, alloc, &frozen, workers)?)
