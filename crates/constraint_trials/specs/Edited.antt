@@ -10,20 +10,24 @@ use Rattle.script_story.specs.Told.{IsReportedOn}
 -- the calls, of which that at a place, from 0, states these constraints
 abbrev pub stating : List CallFacts → ℕ → Data → List CallFacts
 stating rs place stated =
-    option_map_or (λ r. set rs place (record r { act = states (Some stated) })) (slice_get rs place) rs
+    option_map_or (λ r. set rs place (record r { act = states (Some stated) }))
+    (slice_get rs place) rs
 
 -- with some constraints in one call, the report of the calls says this of the domain at a path
-pub record IsPromised (platform : PlatformFacts) (rs : List CallFacts) (place : ℕ) (path what : List ℕ) : Type 0 where
+pub record IsPromised (platform : PlatformFacts) (rs : List CallFacts)
+    (place : ℕ) (path what : List ℕ) : Type 0 where
   pub stated : Data
   pub reported : IsReportedOn platform (stating rs place stated) path what
 
 -- some of the calls state other constraints
 pub data IsRestated (rs : List CallFacts) : List CallFacts → Type 0 where
   as_they_are : IsRestated rs rs
-  one_more : (qs : List CallFacts) (place : ℕ) (d : Data) → IsRestated rs qs → IsRestated rs (stating qs place d)
+  one_more : (qs : List CallFacts) (place : ℕ) (d : Data) → IsRestated rs qs
+      → IsRestated rs (stating qs place d)
 
 -- with other constraints in some calls, the report of the calls says this of the domain at a path
-pub record IsPromisedSo (platform : PlatformFacts) (rs : List CallFacts) (path what : List ℕ) : Type 0 where
+pub record IsPromisedSo (platform : PlatformFacts) (rs : List CallFacts)
+    (path what : List ℕ) : Type 0 where
   pub calls : List CallFacts
   pub restated : IsRestated rs calls
   pub reported : IsReportedOn platform calls path what

@@ -1,13 +1,15 @@
 //! Bounds of an entry, of which one is left out or has another amount.
 
-ghost use Rattle.std.specs.Prelude.{◌≤◌};
+ghost use Rattle.std.specs.Prelude.{◌≡◌, ◌≤◌};
 ghost use Rattle.sysmem_image.specs.Size.{most_multiple};
+ghost use Rattle.sysmem_sanitise.specs.Reading.Bounds.{is_multiple};
 
 use constraint_edits::Amount;
 use sysmem_counts::Field;
 use sysmem_image::{EntryBounds, ImageBounds, Size};
 
-/// The greatest alignment or divisor that an entry may have.
+/// The greatest alignment or divisor that an entry may have: `most_multiple` of the definitions, to
+/// which `is_multiple` holds it.
 const MOST_MULTIPLE: u32 = 65_536;
 
 /// A bound that is left out, or has an amount.
@@ -21,7 +23,9 @@ fn is_count(number: u64) -> bool {
     number <= u64::from(u32::MAX)
 }
 
-fn is_multiple(number: u64) -> bool {
+fn is_multiple(number: u64) -> bool
+    ensures { result ≡ is_multiple number }
+{
     1 <= number && number <= u64::from(MOST_MULTIPLE)
 }
 

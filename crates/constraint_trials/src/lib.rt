@@ -1,5 +1,5 @@
-//! Other constraints of a script's participants, tried by a run of the changed script: which are worth a try, and what the report says then of
-//! a domain.
+//! Other constraints of a script's participants, tried by a run of the changed script: which are
+//! worth a try, and what the report says then of a domain.
 //!
 //! ```
 //! let trial = Trial { setting: &setting, path: "/", place: 4 };

@@ -3,11 +3,9 @@
 
 use crate::group::Group;
 use std::alloc::{AllocError, Global};
+use sysmem_counts::BUFFER_COUNT_LIMIT;
 use sysmem_memory::{CoherencyDomain, HeapInfo, refuses};
 use value_sources::Asked;
-
-/// The most buffers that there can be.
-const LIMIT: u32 = 128;
 
 const DOMAINS: [CoherencyDomain; 3] = [
     CoherencyDomain::Cpu,
@@ -83,7 +81,7 @@ impl Need {
     pub(crate) fn is_too_great(self) -> bool {
         let together = self.own.saturating_add(u64::from(self.shared));
         let needed = together.max(u64::from(self.least));
-        needed > u64::from(self.most.min(LIMIT))
+        needed > u64::from(self.most.min(BUFFER_COUNT_LIMIT))
     }
 }
 
