@@ -7,7 +7,7 @@ ghost use Rattle.flat_negotiation.specs.Unsettled.{AreUnsettled};
 ghost use Rattle.flat_negotiation.specs.declared.unsettled.Unsettled.TheVariants as why;
 ghost use Rattle.flat_parts.specs.declared.flat.FlatParticipant.{FlatParticipant};
 ghost use Rattle.flat_parts.specs.declared.flat.FlatPlatform.{FlatPlatform};
-ghost use Rattle.negotiation_inputs.specs.declared.constraints.TheConstants.{MOST_ENTRIES};
+ghost use Rattle.negotiation_inputs.specs.declared.constraints.TheConstants.{MOST_ENTRIES, MOST_MULTIPLE};
 ghost use Rattle.negotiation_inputs.specs.declared.heaps.TheConstants.{LONGEST_HEAP_TYPE};
 ghost use Rattle.script_reading.specs.Script.{few_calls, items_len};
 ghost use Rattle.serde_json.specs.Data.{Items};
@@ -16,6 +16,7 @@ ghost use Rattle.sysmem_memory.specs.declared.bounds.TheConstants.{MOST_HEAPS};
 ghost use Rattle.sysmem_merge.specs.declared.sum.TheConstants.{MOST_ADDED};
 ghost use Rattle.sysmem_search.specs.declared.wide.TheConstants.{MOST_WORKERS};
 ghost use Rattle.sysmem_tree.specs.declared.tree.TheConstants.{MOST_NODES};
+ghost use Rattle.value_sources.specs.declared.counting.TheConstants.{MOST_COUNTED};
 ghost use Rattle.verdict_claims.specs.declared.verdict.TheConstants.{MOST_SELECTIONS};
 
 /// What participants and platforms may state at most.
@@ -24,12 +25,14 @@ pub fn limits_of_inputs()
     ensures heaps { MOST_HEAPS ≡ 64 }
     ensures entries { MOST_ENTRIES ≡ 64 }
     ensures heap_type { LONGEST_HEAP_TYPE ≡ 128 }
+    ensures multiple { MOST_MULTIPLE ≡ 65536 }
 {}
 
-/// How many nodes a collection has at most, how many selections a decision goes through, and among
-/// how many workers.
+/// How many nodes a collection has at most, and so how many participants an explanation counts; how
+/// many selections a decision goes through, and among how many workers.
 pub fn limits_of_collections()
     ensures nodes { MOST_NODES ≡ 128 }
+    ensures counted { MOST_COUNTED ≡ MOST_NODES }
     ensures selections { MOST_SELECTIONS ≡ 4096 }
     ensures workers { MOST_WORKERS ≡ 64 }
 {}
