@@ -1,16 +1,14 @@
 -- What those who ask something of offers ask is what all ask.
-use Rattle.std.proofs.Common.{◌≡◌, ◌≤◌, ◌<◌, ◌^◌, ℕ, ◌+◌, Bool, true, false, List, [], ◌∷◌, ◌++◌, length, Option, Some, None, take, get_or, slice_get, refl, sym, ◌∙◌, ap, subst, append-nil, arith}
-use Rattle.std.specs.Prelude.{◌||◌, ◌==◌, ◌↔◌, not, if◌then◌else◌, All, Contains, IfSome, filter, is_some, option_map}
+use Rattle.std.proofs.Common.{◌≡◌, ◌≤◌, ◌<◌, ℕ, ◌+◌, Bool, true, false, List, [], ◌∷◌, ◌++◌, length, Option, Some, None, take, get_or, slice_get, refl, sym, ◌∙◌, ap, subst, append-nil, arith}
+use Rattle.std.specs.Prelude.{◌||◌, ◌==◌, not, All, IfSome, filter, is_some, option_map}
 use Rattle.std.specs.Option.{option_map_or}
 use Rattle.std.specs.List.{cons_option, list_any}
 use Rattle.std.proofs.lemmas.Bool.{eqb-true, ne_eqb}
 use Rattle.std.proofs.lemmas.List.Elements.{All-nil, All-cons, All-head, All-tail, All-append, filter-append, filter_map-append}
 use Rattle.sysmem_formats.specs.declared.offer.Offer.{Offer}
 use Rattle.sysmem_formats.specs.declared.offer.Offer.TheVariants.{NoImage, Image}
-use Rattle.sysmem_image.specs.declared.bounds.ImageBounds.{ImageBounds}
 use Rattle.sysmem_image.specs.declared.entry.Entry.{Entry}
 use Rattle.sysmem_image.specs.Read.{AreRead}
-use Rattle.sysmem_merge.specs.Aggregate.{AreSizes}
 use Rattle.sysmem_merge.specs.declared.offer_read.OfferRead.{OfferRead}
 use Rattle.sysmem_merge.specs.Demands.{OfferDemand, offer_demand, offer_demands}
 use Rattle.sysmem_merge.specs.OfferRead.{IsOfferRead}

@@ -1,5 +1,5 @@
 -- Participants who ask something of offers, among others.
-use Rattle.std.specs.Prelude.{◌≡◌, ◌==◌, ◌||◌, ◌-◌, ◌^◌, not, ℕ, Bool, List, All, Contains, filter, length}
+use Rattle.std.specs.Prelude.{◌≡◌, ◌==◌, ◌||◌, not, ℕ, Bool, List, All, Contains, filter, length}
 use Rattle.sysmem_merge.specs.Demands.{OfferDemand, offer_demand}
 use Rattle.sysmem_sanitise.specs.Participant.{Participant}
 use Rattle.sysmem_tree.specs.Node.{NodeFacts}

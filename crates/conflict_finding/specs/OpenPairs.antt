@@ -23,12 +23,13 @@ takes_in pair colour entries =
 abbrev pub TakesEach : Pair → Participant → Type 0
 TakesEach pair p = (colour : ColourSpace) → takes_in pair colour p.entries ≡ true
 
--- the participant takes the offer's pair in every colour space
+-- where the offer is of images, the participant takes its pair in every colour space
 abbrev pub TakesAny : Offer → Participant → Type 0
 TakesAny NoImage p = Unit {0}
 TakesAny (Image pair _) p = TakesEach pair p
 
--- some of these don't take the offer's pair; or all do, and if so in every colour space
+-- `None` says that one or more of these don't take the offer's format; `Some each` says that all of
+-- them take it, and where `each` is true, that each takes the offer's pair in every colour space
 abbrev pub AreTaking : Offer → List Participant → Option Bool → Type 0
 AreTaking o ps None = IsOfferLine PixelFormat o (offer_demands ps)
 AreTaking o ps (Some each) = All (λ p. TakesIn PixelFormat o (offer_demand p)) ps

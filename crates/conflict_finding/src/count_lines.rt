@@ -1,6 +1,6 @@
 //! What participants of a tree ask of the number of buffers, and why a number doesn't suit them.
 
-ghost use Rattle.std.specs.Prelude.{◌≡◌, ◌≤◌, List, [], ◌∷◌, All, IfSome, IfNone, length};
+ghost use Rattle.std.specs.Prelude.{◌≤◌, List, [], ◌∷◌, All, IfSome, IfNone, length};
 ghost use Rattle.sysmem_counts.specs.Bounds.{IsTallyOf};
 ghost use Rattle.sysmem_counts.specs.Counts.{IsCounted, IsFixedCountLine};
 ghost use Rattle.sysmem_counts.specs.declared.bounds.TheConstants.{BUFFER_COUNT_LIMIT};

@@ -1,6 +1,6 @@
 //! The first of some participants who refuses an offer, a place, or settings that are given.
 
-ghost use Rattle.std.specs.Prelude.{◌≡◌, ◌<◌, true, false, List, [], ◌∷◌, Some, All, Any, Contains, IfSome, IfNone, IsSomeAnd, IsTrue, length, option_map, slice_get};
+ghost use Rattle.std.specs.Prelude.{◌≡◌, ◌<◌, true, false, [], ◌∷◌, Some, All, Any, Contains, IfSome, IfNone, IsSomeAnd, IsTrue, length, option_map, slice_get};
 ghost use Rattle.std.specs.List.{cons_option};
 ghost use Rattle.sysmem_counts.specs.declared.field.Field.TheVariants.{ColorSpaces};
 ghost use Rattle.sysmem_memory.specs.PlaceTable.{AllowsPlace, first_refusing, refuses_by};

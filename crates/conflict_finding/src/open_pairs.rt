@@ -41,7 +41,8 @@ fn takes_pair(entries: &[Entry], offer: &Offer) -> Option<bool>
     }
 }
 
-/// The same of a participant, if there is one; nobody takes each.
+/// The same of one participant, or of none at all: then there is nobody who doesn't take the pair
+/// in every colour space.
 fn pair_taken(asked: Option<&Constraints>, offer: &Offer) -> Option<bool>
     ensures { AreTaking offer.now (cons_option (option_map (λ one. one.now) asked.entry) [])
         result }

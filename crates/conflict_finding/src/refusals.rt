@@ -1,6 +1,6 @@
 //! Lines that refuse the offers of a platform, or its places, one after another.
 
-ghost use Rattle.std.specs.Prelude.{◌≡◌, ◌⊎◌, ◌+◌, true, List, ◌∷◌, All, Some, IfOk, IfSome, IfNone, IsTrue, OnOk, filter, option_map, slice_get};
+ghost use Rattle.std.specs.Prelude.{◌≡◌, ◌⊎◌, ◌+◌, true, List, ◌∷◌, All, Some, IfOk, IfSome, IfNone, IsTrue, filter, slice_get};
 ghost use Rattle.sysmem_counts.specs.declared.field.Field.TheVariants.{ColorSpaces, PixelFormat};
 ghost use Rattle.sysmem_formats.specs.declared.offer.Offer.{Offer as Offered};
 ghost use Rattle.sysmem_memory.specs.Domain.{has_domain};

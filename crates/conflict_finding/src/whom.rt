@@ -2,7 +2,6 @@
 
 ghost use Rattle.std.specs.Prelude.{◌≡◌, All, IfOk, IfSome, option_map, false};
 ghost use Rattle.std.specs.Option.{option_map_or};
-ghost use Rattle.sysmem_counts.specs.declared.constraints.CountConstraints.{CountConstraints as Counted};
 ghost use Rattle.conflict_finding.specs.AloneLines.{AreAlone};
 ghost use Rattle.verdict_claims.specs.Finder.{has_count};
 ghost use Rattle.conflict_finding.specs.Whom.{NamesThose, line_on, names};

@@ -1,6 +1,6 @@
 //! Whether a verdict is proved by what comes with it.
 
-ghost use Rattle.std.specs.Prelude.{◌≡◌, ◌↔◌, IfOk, IsOk, MatchResult, option_map};
+ghost use Rattle.std.specs.Prelude.{IfOk, IsOk, MatchResult, option_map};
 ghost use Rattle.verdict_claims.specs.Base.{IsGivenBase, terms_of};
 ghost use Rattle.verdict_claims.specs.Check.{RefutationPasses, VerdictPasses};
 ghost use Rattle.verdict_claims.specs.Matter.{forest, terms};

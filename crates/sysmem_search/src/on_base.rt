@@ -1,6 +1,6 @@
 //! How the participants of an attached domain take the settings of its base.
 
-ghost use Rattle.std.specs.Prelude.{◌≡◌, ◌≤◌, ◌<◌, ◌+◌, ◌*◌, ◌^◌, ◌↔◌, ◌++◌, List, [], ◌∷◌, All, IsTrue, length, option_map};
+ghost use Rattle.std.specs.Prelude.{◌≤◌, ◌<◌, ◌+◌, ◌*◌, ◌^◌, ◌↔◌, ◌++◌, List, [], ◌∷◌, All, IsTrue, length, option_map};
 ghost use Rattle.std.specs.List.{cons_option};
 ghost use Rattle.sysmem_counts.specs.Bounds.{IsTallyOf};
 ghost use Rattle.sysmem_counts.specs.Counts.{IsCounted};

@@ -1,6 +1,6 @@
 //! What the nodes that a choice settles ask.
 
-ghost use Rattle.std.specs.Prelude.{◌≡◌, ◌≤◌, ◌++◌, ℕ, List, [], length, option_map};
+ghost use Rattle.std.specs.Prelude.{◌≤◌, ◌++◌, ℕ, List, [], length, option_map};
 ghost use Rattle.std.specs.List.{cons_option};
 ghost use Rattle.sysmem_sanitise.specs.Participant.{Participant};
 ghost use Rattle.sysmem_search.specs.Kept.{HasRoom, IsPartFor};

@@ -1,7 +1,7 @@
 //! The decision of a domain by several workers, each of whom has a share of the choices for the
 //! first group.
 
-ghost use Rattle.std.specs.Prelude.{◌≡◌, ◌<◌, ◌≤◌, ◌+◌, [], ◌∷◌, ℕ, List, true, vec_len, option_map, Option, Some, IfOk, IfSome, MatchOption};
+ghost use Rattle.std.specs.Prelude.{◌≡◌, ◌<◌, ◌≤◌, ◌+◌, [], ◌∷◌, ℕ, true, vec_len, option_map, Option, Some, IfOk, IfSome, MatchOption};
 ghost use Rattle.verdict_claims.specs.Base.{IsGivenBase};
 ghost use Rattle.verdict_claims.specs.Matter.{Matter, forest};
 ghost use Rattle.verdict_claims.specs.Verdict.{IsOptimalIn, IsSameAnswer};

@@ -1,6 +1,6 @@
 //! The first test that a choice fails, with what is to prove it.
 
-ghost use Rattle.std.specs.Prelude.{◌≡◌, ◌↔◌, [], Some, None, IsTrue, MatchResult};
+ghost use Rattle.std.specs.Prelude.{◌≡◌, ◌↔◌, Some, None, IsTrue, MatchResult};
 ghost use Rattle.sysmem_merge.specs.Settings.{Meets};
 ghost use Rattle.verdict_claims.specs.Certificate.{HasNoLines, RefuseBefore};
 ghost use Rattle.verdict_claims.specs.Check.{ChoicePasses};

@@ -1,7 +1,7 @@
 //! The first test that a line fails: that it names participants, each
 //! once, and that it is true of them.
 
-ghost use Rattle.std.specs.Prelude.{◌≡◌, [], ◌∷◌, Any, MatchResult};
+ghost use Rattle.std.specs.Prelude.{[], ◌∷◌, Any, MatchResult};
 ghost use Rattle.sysmem_counts.specs.Counts.{IsCountLine, IsFixedCountLine};
 ghost use Rattle.sysmem_merge.specs.Demands.{counts_asked};
 ghost use Rattle.sysmem_merge.specs.Failing.{FailsOn};

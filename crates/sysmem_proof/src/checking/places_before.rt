@@ -1,6 +1,6 @@
 //! The lines for the places before that of a choice.
 
-ghost use Rattle.std.specs.Prelude.{◌≡◌, ◌<◌, ◌++◌, List, IsSomeAnd, MatchResult, Some, length, slice_get};
+ghost use Rattle.std.specs.Prelude.{◌≡◌, ◌<◌, ◌++◌, List, MatchResult, Some, length, slice_get};
 ghost use Rattle.std.specs.List.{AllZip};
 ghost use Rattle.sysmem_memory.specs.Heap.{HeapFacts};
 ghost use Rattle.sysmem_memory.specs.Listed.{HeapPlace};
