@@ -257,30 +257,37 @@ pub fn find_conflict_as(
 /// selection for which they are the best; none in an attached domain, whose settings are given.
 /// `AllocError` where memory is refused.
 pub fn lines_before(
-    subject: &Subject<'_>,
+    alloc: Global,
+    platform: &Platform,
+    tree: &Tree,
+    domain: DomainId,
+    base: Option<&Base>,
     selection: &Prefix,
     settings: &Settings,
 ) -> Result<LinesBefore, AllocError>
-    requires { IsBestChoice subject.now.platform (terms subject.now) (forest subject.now)
-        selection.now settings.now }
-    ensures { (members : Forest Member) → IsSelection (forest subject.now) selection.now members
-        → IfOk result (λ lines. (earlier : List (List (List Item)))
-        → RefuseBeforeFor subject.now.platform (terms subject.now) (settled members) settings.now
+    requires domain { HasDomain tree.now.nodes domain }
+    requires best { IsBestChoice platform.now
+        (option_map (terms_of tree.now.nodes) (option_map (λ b. b.now) base))
+        (shape_of tree.now.nodes domain) selection.now settings.now }
+    ensures { (members : Forest Member)
+        → IsSelection (shape_of tree.now.nodes domain) selection.now members
+        → IfOk result (λ lines. (earlier : List (List (List Item))) → RefuseBeforeFor platform.now
+        (option_map (terms_of tree.now.nodes) (option_map (λ b. b.now) base.entry))
+        (settled members) settings.now
         (record { earlier = earlier; offers = lines.offers; places = lines.places })) }
 {
     offer_line_leaves_none();
     place_line_leaves_none();
     count_line_leaves_none();
     unnamed_line_leaves_none();
-    let (alloc, platform, tree) = (subject.alloc, subject.platform, subject.tree);
-    if subject.base.is_some() {
+    if base.is_some() {
         return Ok(LinesBefore {
             offers: Lines::new(Vec::new(alloc)),
             places: Lines::new(Vec::new(alloc)),
         });
     }
-    let layout = tree.layout(subject.domain);
-    let nodes = settled_at(tree, subject.domain, &layout, selection)?;
+    let layout = tree.layout(domain);
+    let nodes = settled_at(tree, domain, &layout, selection)?;
     let (offer, place) = (settings.offer, settings.place);
     let mut learnt = Learnt::new(alloc);
     let (asked, alone) = (&mut learnt.asked, &mut learnt.alone);

@@ -102,6 +102,13 @@ impl<'a> Subject<'a> {
         self.tree
     }
 
+    /// The domain.
+    pub fn domain(&self) -> DomainId
+        ensures { result ≡ self.now.domain }
+    {
+        self.domain
+    }
+
     /// The base, where the domain is an attached one.
     pub fn base(&self) -> Option<&'a Base>
         ensures { option_map (λ b. b.now) result ≡ self.now.base }

@@ -1,7 +1,9 @@
 -- What proves a verdict, by what was refuted from no choices on.
-use Rattle.std.proofs.Common.{◌≡◌, ◌≤◌, ℕ, List, [], ◌++◌, is_some, length, sym, ◌∙◌, ap, subst}
+use Rattle.std.proofs.Common.{◌≡◌, ◌≤◌, ℕ, List, [], ◌++◌, Option, is_some, length, sym, ◌∙◌, ap, subst}
 use Rattle.std.specs.Prelude.{IfSome}
 use Rattle.sysmem_merge.specs.declared.settings.Settings.{Settings}
+use Rattle.sysmem_sanitise.specs.Platform.{PlatformFacts}
+use Rattle.verdict_claims.specs.Base.{BaseFacts}
 use Rattle.verdict_claims.specs.Certificate.{IsCertificate, IsRefutation, RefutesEarlier, RefuseBeforeFor}
 use Rattle.verdict_claims.specs.CertificateFacts.{CertificateFacts}
 use Rattle.verdict_claims.specs.Conflict.{IsConflictFor}
@@ -16,11 +18,21 @@ use Rattle.sysmem_search.specs.Standing.{Standing}
 use Rattle.sysmem_search.proofs.Shapes.{prefix_of_numbers}
 use Rattle.sysmem_tree.specs.Forest.{Forest, settled}
 use Rattle.sysmem_tree.specs.LayoutLaws.{FewChoices}
+use Rattle.sysmem_tree.specs.Node.{NodeFacts}
 use Rattle.sysmem_tree.specs.Nodes.{IsTree}
 use Rattle.sysmem_tree.specs.Selection.{IsPrefix, IsSelection, after}
 use Rattle.sysmem_tree.specs.Shape.{Member}
 
+abbrev matter_of : PlatformFacts → List NodeFacts → ℕ → Option BaseFacts → Matter
+matter_of platform nodes domain base = record { platform = platform; nodes = nodes; domain = domain; base = base }
+
 module _ (m : Matter) where
+  -- what has the parts of a matter is that matter
+  pub of_parts : (platform : PlatformFacts) (nodes : List NodeFacts) (domain : ℕ) (base : Option BaseFacts)
+      → platform ≡ m.platform → nodes ≡ m.nodes → domain ≡ m.domain → base ≡ m.base → matter_of platform nodes domain base ≡ m
+  of_parts platform nodes domain base p n d b = ap (λ x. matter_of x nodes domain base) p ∙ (ap (λ x. matter_of m.platform x domain base) n
+      ∙ (ap (λ x. matter_of m.platform m.nodes x base) d ∙ ap (λ x. matter_of m.platform m.nodes m.domain x) b))
+
   abbrev start : Standing
   start = record { matter = m; choices = [] }
 

@@ -70,7 +70,9 @@ fn certify(subject: &Subject<'_>, chosen: &Chosen) -> Result<Certificate, AllocE
     let selection = chosen.selection();
     let settings = chosen.settings();
     let earlier = refute_earlier(subject.alloc(), &mut question, selection)?;
-    let lines = lines_before(subject, selection, &settings)?;
+    let (alloc, platform, tree) = (subject.alloc(), subject.platform(), subject.tree());
+    let (domain, base) = (subject.domain(), subject.base());
+    let lines = lines_before(alloc, platform, tree, domain, base, selection, &settings)?;
     Ok(Certificate::new(earlier, lines.offers, lines.places))
 }
 

@@ -5,13 +5,9 @@ use Rattle.sysmem_sanitise.specs.Platform.{offers_of}
 use Rattle.std.proofs.lemmas.Option.{same_Some}
 use Rattle.sysmem_tree.specs.Forest.{settled}
 use Rattle.verdict_claims.specs.Base.{IsElsewhere}
-use Rattle.verdict_claims.specs.Certificate.{RefuseBeforeFor}
 use Rattle.verdict_claims.specs.Conflict.{RefusesOffer, RefusesPlace}
 use Rattle.verdict_claims.specs.FirstConflict.{IsOfferLineGiven, IsPlaceLineGiven}
-use Rattle.verdict_claims.specs.Matter.{Matter, forest, terms}
 use Rattle.verdict_claims.specs.Verdict.{IsBestFor}
-use Rattle.conflict_finding.specs.Found.{IsBestChoice}
-use Rattle.sysmem_tree.specs.Selection.{IsSelection}
 use Rattle.conflict_finding.proofs.BeforeBest.{before_initial, best_initial, offers_before, places_before}
 use Rattle.verdict_claims.proofs.Conflicts.{LineLaws}
 use Rattle.conflict_finding.proofs.FirstKinds.{refusals_weaker}
@@ -20,38 +16,31 @@ use Rattle.verdict_claims.proofs.SettledNodes.{no_pairs}
 use Rattle.conflict_finding.proofs.finder.lines_before.Goals as goal
 
 pub refused_offers-requires-clause-there : goal.refused_offers-requires-clause-there
-refused_offers-requires-clause-there c =
-    let given = subst (λ (m : Matter). IsBestChoice m.platform (terms m) (forest m) c.args.selection.now c.args.settings.now) (sym c.subject.view_is) c.requires in
-    (found_at c.subject.inside.tree.now.nodes given.members [] c.in_ok-nodes.nodes.items c.deref.result.now c.deref.ensures.value
-    (c.in_ok-nodes.ensures given.members [] given.selects.leads (no_nodes (IsElsewhere c.subject.inside.tree.now.nodes c.subject.inside.domain)) no_pairs)).there
+refused_offers-requires-clause-there c = (found_at c.args.tree.now.nodes c.requires.best.members [] c.in_ok-nodes.nodes.items c.deref.result.now c.deref.ensures.value
+    (c.in_ok-nodes.ensures c.requires.best.members [] c.requires.best.selects.leads (no_nodes (IsElsewhere c.args.tree.now.nodes c.args.domain)) no_pairs)).there
 
 pub refused_offers-requires-clause-alone : goal.refused_offers-requires-clause-alone
-refused_offers-requires-clause-alone c = (c.new-learnt.ensures c.subject.inside.tree.now.nodes c.subject.inside.platform.now.heaps).alone
+refused_offers-requires-clause-alone c = (c.new-learnt.ensures c.args.tree.now.nodes c.args.platform.now.heaps).alone
 
 pub refused_places-requires-clause-asked : goal.refused_places-requires-clause-asked
-refused_places-requires-clause-asked c = (c.new-learnt.ensures c.subject.inside.tree.now.nodes c.subject.inside.platform.now.heaps).asked
+refused_places-requires-clause-asked c = (c.new-learnt.ensures c.args.tree.now.nodes c.args.platform.now.heaps).asked
 
 pub refused_places-requires-clause-there : goal.refused_places-requires-clause-there
-refused_places-requires-clause-there c =
-    let given = subst (λ (m : Matter). IsBestChoice m.platform (terms m) (forest m) c.args.selection.now c.args.settings.now) (sym c.subject.view_is) c.requires in
-    (found_at c.subject.inside.tree.now.nodes given.members [] c.in_ok-nodes.nodes.items c.deref-2.result.now c.deref-2.ensures.value
-    (c.in_ok-nodes.ensures given.members [] given.selects.leads (no_nodes (IsElsewhere c.subject.inside.tree.now.nodes c.subject.inside.domain)) no_pairs)).there
+refused_places-requires-clause-there c = (found_at c.args.tree.now.nodes c.requires.best.members [] c.in_ok-nodes.nodes.items c.deref-2.result.now c.deref-2.ensures.value
+    (c.in_ok-nodes.ensures c.requires.best.members [] c.requires.best.selects.leads (no_nodes (IsElsewhere c.args.tree.now.nodes c.args.domain)) no_pairs)).there
 
 pub returns : goal.returns
-returns c = λ members chosen earlier.
-    let given = subst (λ (m : Matter). IsBestChoice m.platform (terms m) (forest m) c.args.selection.now c.args.settings.now) (sym c.subject.view_is) c.requires in
-    let selects = subst (λ (m : Matter). IsSelection (forest m) c.args.selection.now members) (sym c.subject.view_is) chosen in
+returns c = λ members selects earlier.
     let laws : LineLaws = record { offer = c.offer_line_leaves_none.ensures; place = c.place_line_leaves_none.ensures; count = c.count_line_leaves_none.ensures; unnamed = c.unnamed_line_leaves_none.ensures } in
     let none = sym c.is_some.ensures ∙ c.if-is_some.false in
-    let same : given.members ≡ members = same_Some given.members members (sym given.selects.leads ∙ selects.leads) in
-    let best = subst (λ e. IsBestFor c.subject.inside.platform.now None (settled e) c.args.settings.now) same
-    (best_initial _ c.subject.inside.base c.subject.inside.platform.now c.subject.inside.tree.now.nodes (settled given.members) c.args.settings.now none given.best) in
-    let one = found_at c.subject.inside.tree.now.nodes members [] c.in_ok-nodes.nodes.items c.deref.result.now c.deref.ensures.value
-    (c.in_ok-nodes.ensures members [] selects.leads (no_nodes (IsElsewhere c.subject.inside.tree.now.nodes c.subject.inside.domain)) no_pairs) in
-    let two = found_at c.subject.inside.tree.now.nodes members [] c.in_ok-nodes.nodes.items c.deref-2.result.now c.deref-2.ensures.value
-    (c.in_ok-nodes.ensures members [] selects.leads (no_nodes (IsElsewhere c.subject.inside.tree.now.nodes c.subject.inside.domain)) no_pairs) in
-    subst (λ (m : Matter). RefuseBeforeFor m.platform (terms m) (settled members) c.args.settings.now (record { earlier = earlier; offers = c.into_lines.result; places = c.into_lines-2.result })) c.subject.view_is
-    (before_initial _ c.subject.inside.base c.subject.inside.platform.now c.subject.inside.tree.now.nodes (settled members) c.args.settings.now (record { earlier = earlier; offers = c.into_lines.result; places = c.into_lines-2.result }) none (record {
-      offers = offers_before laws c.subject.inside.platform.now (settled members) c.args.settings.now best c.in_ok-offers.offers c.into_lines.result c.into_lines.ensures (refusals_weaker (IsOfferLineGiven true (settled members)) (RefusesOffer true (settled members)) (λ o line given. given.refuses) _ (offers_of c.subject.inside.platform.now) _ (c.in_ok-offers.ensures.lines (settled members) one.stand));
-      places = places_before laws c.subject.inside.platform.now (settled members) c.args.settings.now best c.in_ok-places.places c.into_lines-2.result c.into_lines-2.ensures (refusals_weaker (IsPlaceLineGiven (settled members)) (RefusesPlace (settled members)) (λ p line given. given.refuses) _ (places_of c.subject.inside.platform.now.heaps) _ (c.in_ok-places.ensures.lines (settled members) two.stand));
-    }))
+    let same : c.requires.best.members ≡ members = same_Some c.requires.best.members members (sym c.requires.best.selects.leads ∙ selects.leads) in
+    let best = subst (λ e. IsBestFor c.args.platform.now None (settled e) c.args.settings.now) same
+    (best_initial _ c.args.base c.args.platform.now c.args.tree.now.nodes (settled c.requires.best.members) c.args.settings.now none c.requires.best.best) in
+    let one = found_at c.args.tree.now.nodes members [] c.in_ok-nodes.nodes.items c.deref.result.now c.deref.ensures.value
+    (c.in_ok-nodes.ensures members [] selects.leads (no_nodes (IsElsewhere c.args.tree.now.nodes c.args.domain)) no_pairs) in
+    let two = found_at c.args.tree.now.nodes members [] c.in_ok-nodes.nodes.items c.deref-2.result.now c.deref-2.ensures.value
+    (c.in_ok-nodes.ensures members [] selects.leads (no_nodes (IsElsewhere c.args.tree.now.nodes c.args.domain)) no_pairs) in
+    before_initial _ c.args.base c.args.platform.now c.args.tree.now.nodes (settled members) c.args.settings.now (record { earlier = earlier; offers = c.into_lines.result; places = c.into_lines-2.result }) none (record {
+      offers = offers_before laws c.args.platform.now (settled members) c.args.settings.now best c.in_ok-offers.offers c.into_lines.result c.into_lines.ensures (refusals_weaker (IsOfferLineGiven true (settled members)) (RefusesOffer true (settled members)) (λ o line given. given.refuses) _ (offers_of c.args.platform.now) _ (c.in_ok-offers.ensures.lines (settled members) one.stand));
+      places = places_before laws c.args.platform.now (settled members) c.args.settings.now best c.in_ok-places.places c.into_lines-2.result c.into_lines-2.ensures (refusals_weaker (IsPlaceLineGiven (settled members)) (RefusesPlace (settled members)) (λ p line given. given.refuses) _ (places_of c.args.platform.now.heaps) _ (c.in_ok-places.ensures.lines (settled members) two.stand));
+    })

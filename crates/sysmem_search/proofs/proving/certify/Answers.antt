@@ -3,10 +3,13 @@ use Rattle.std.proofs.Common.{sym, ap, subst}
 use Rattle.verdict_claims.specs.Certificate.{RefutesEarlier, RefuseBeforeFor}
 use Rattle.verdict_claims.specs.CertificateFacts.{CertificateFacts}
 use Rattle.verdict_claims.specs.Conflict.{IsConflictFor}
-use Rattle.verdict_claims.specs.Matter.{forest, terms}
-use Rattle.sysmem_search.proofs.Proved.{few_selected, selected_prefix, selected_unmet, selected_best, certified, certified_cut}
+use Rattle.verdict_claims.specs.Matter.{Matter, forest, terms}
+use Rattle.conflict_finding.specs.Found.{IsBestChoice}
+use Rattle.std.specs.Prelude.{option_map}
+use Rattle.sysmem_search.proofs.Proved.{of_parts, few_selected, selected_prefix, selected_unmet, selected_best, certified, certified_cut}
 use Rattle.sysmem_search.specs.Cut.{AreCut}
 use Rattle.sysmem_tree.specs.Forest.{settled}
+use Rattle.sysmem_tree.specs.Selection.{IsSelection}
 use Rattle.sysmem_search.proofs.proving.certify.Goals as goal
 
 pub refute_earlier-requires : goal.refute_earlier-requires
@@ -22,9 +25,12 @@ refute_earlier-requires c =
       unmet = selected_unmet m selection chosen.selection chosen.settings c.selection-selection.ensures optimal q c.in_ok-question.ensures;
     }
 
-pub lines_before-requires : goal.lines_before-requires
-lines_before-requires c = selected_best c.args.subject.now c.selection-selection.result.now c.args.chosen.now.selection c.args.chosen.now.settings c.selection-selection.ensures c.requires.1
-    c.settings-settings.result c.settings-settings.ensures
+pub lines_before-requires-clause-best : goal.lines_before-requires-clause-best
+lines_before-requires-clause-best c =
+    let m = c.args.subject.now in
+    let is = of_parts m c.platform-platform.result.now c.tree-tree.result.now.nodes c.domain-domain.result (option_map (λ b. b.now) c.base-base.result) c.platform-platform.ensures c.tree-tree.ensures c.domain-domain.ensures c.base-base.ensures in
+    subst (λ (x : Matter). IsBestChoice x.platform (terms x) (forest x) c.selection-selection.result.now c.settings-settings.result) (sym is)
+    (selected_best m c.selection-selection.result.now c.args.chosen.now.selection c.args.chosen.now.settings c.selection-selection.ensures c.requires.1 c.settings-settings.result c.settings-settings.ensures)
 
 pub returns-clause-cut : goal.returns-clause-cut
 returns-clause-cut c =
@@ -42,6 +48,9 @@ returns-clause-proved c =
     let selection = c.selection-selection.result.now in
     let settings = c.settings-settings.result in
     let chosen = c.args.chosen.now in
+    let is = of_parts m c.platform-platform.result.now c.tree-tree.result.now.nodes c.domain-domain.result (option_map (λ b. b.now) c.base-base.result) c.platform-platform.ensures c.tree-tree.ensures c.domain-domain.ensures c.base-base.ensures in
     certified m selection chosen.selection chosen.settings c.selection-selection.ensures c.requires.1 q settings c.new-2.result c.in_ok-question.ensures c.settings-settings.ensures
     (subst (λ (f : CertificateFacts). RefutesEarlier (IsConflictFor q.matter.platform (terms q.matter)) (forest q.matter) selection f.earlier) (sym c.new-2.ensures) c.in_ok-earlier.ensures.refuted)
-    (λ members selects. subst (RefuseBeforeFor m.platform (terms m) (settled members) settings) (sym c.new-2.ensures) (c.in_ok-lines.ensures members selects c.in_ok-earlier.earlier.items))
+    (λ members selects. subst (RefuseBeforeFor m.platform (terms m) (settled members) settings) (sym c.new-2.ensures)
+    (subst (λ (x : Matter). RefuseBeforeFor x.platform (terms x) (settled members) settings (record { earlier = c.in_ok-earlier.earlier.items; offers = c.in_ok-lines.lines.offers; places = c.in_ok-lines.lines.places })) is
+    (c.in_ok-lines.ensures members (subst (λ (x : Matter). IsSelection (forest x) selection members) (sym is) selects) c.in_ok-earlier.earlier.items)))
