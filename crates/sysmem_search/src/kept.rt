@@ -65,6 +65,8 @@ impl Part {
 
 impl Kept {
     /// Of no participant at all, behind those that the base names as accepted.
+    // In line, what is made isn't copied to its caller.
+    #[inline]
     pub(crate) fn new(subject: &Subject<'_>) -> Result<Kept, AllocError>
         ensures { IfOk result (λ made. IsKeptFor subject.now made []) }
     {

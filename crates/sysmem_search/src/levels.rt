@@ -84,6 +84,19 @@ pub(crate) fn reserve_level(
     if depth + 1 < levels.len() {
         return Ok(());
     }
+    add_level(levels, subject)
+}
+
+/// Has one level more. A visit that needs none isn't burdened with the memory that a new one takes
+/// on the stack.
+#[cold]
+#[inline(never)]
+fn add_level(levels: &mut Vec<Level>, subject: &Subject<'_>) -> Result<(), AllocError>
+    ensures there { OnOk result (length levels.new.items ≡ length levels.old.items + 1) }
+    ensures kept { (k : ℕ) → k < length levels.old.items
+        → slice_get levels.new.items k ≡ slice_get levels.old.items k }
+    ensures made { AreMade subject.now levels.old.items → AreMade subject.now levels.new.items }
+{
     let kept = Kept::new(subject)?;
     levels.push(Level { group: None, kept })?;
     Ok(())

@@ -23,9 +23,9 @@ use sysmem_tree::layout_laws::{choice_settles_share, none_open_is_selection};
 use sysmem_tree::{Layout, Prefix};
 use verdict_claims::Conflict;
 
-/// What a search is about, and a prefix of choices at which it stands. What a choice settles is read
-/// once, when the choice is first made; each prefix on the way is kept by what its participants ask
-/// together.
+/// What a search is about, and a prefix of choices at which it stands. What a choice settles is
+/// read once, when the choice is first made; each prefix on the way is kept by what its
+/// participants ask together.
 #[derive(Drop)]
 pub(crate) struct Question<'a> {
     subject: &'a Subject<'a>,
@@ -60,7 +60,8 @@ impl<'a> Question<'a> {
         subject.recall();
         let layout = subject.layout();
         let first = first_level(subject, &layout)?;
-        let levels = Vec::from_array(subject.alloc(), [first])?;
+        let mut levels = Vec::with_capacity(subject.alloc(), 1)?;
+        levels.push(first)?;
         Ok(Question {
             subject,
             layout,

@@ -1,5 +1,5 @@
 -- What a search keeps at no choice.
-use Rattle.std.proofs.Common.{arith, ◌≡◌, ◌≤◌, ℕ, zero, suc, List, [], ◌∷◌, Option, Some, slice_get, take, subst}
+use Rattle.std.proofs.Common.{arith, ◌≡◌, ◌≤◌, ℕ, zero, suc, List, [], ◌∷◌, ◌++◌, Option, Some, slice_get, take, ◌∙◌, ap, subst}
 use Rattle.std.specs.Prelude.{IsSomeAnd}
 use Rattle.std.proofs.lemmas.Option.{slice_get_within, same_Some}
 use Rattle.verdict_claims.specs.Members.{participants}
@@ -33,6 +33,10 @@ module _ (m : Matter) (layout : Layout) (first : Level) (is : IsLevel m layout [
   one_front : (levels : List Level) (cs : List ℕ) → levels ≡ first ∷ [] → cs ≡ [] → AreLevels m layout cs levels
   one_front levels cs same none = rw (same, none) front
 
+-- behind nothing it stands alone
+only_one : (first : Level) (none levels : List Level) → none ≡ [] → levels ≡ none ++ first ∷ [] → levels ≡ first ∷ []
+only_one first none levels empty added = added ∙ ap (λ xs. xs ++ first ∷ []) empty
+
 -- nothing is kept where there is no slot
 none_kept : {X : Type 0} (parts : List (Option Part)) (slot : ℕ) (part : Part) → parts ≡ [] → slice_get parts slot ≡ Some (Some part) → X
 none_kept [] slot part none here = absurd (cc)
@@ -47,8 +51,9 @@ invariant_of-result c = (
     given = c.recall.ensures;
     laid = record { lays = c.layout-layout.ensures.lays; nodes = c.layout-layout.ensures.nodes };
     shares = λ place slot part own here. none_kept c.new-2.result.items slot part c.new-2.ensures.items here;
-    made = one_made _ c.layout-layout.result c.in_ok-first.first c.in_ok-first.ensures c.in_ok-levels.levels.items c.in_ok-levels.ensures.items;
-    fronts = one_front _ c.layout-layout.result c.in_ok-first.first c.in_ok-first.ensures c.in_ok-levels.levels.items _ c.in_ok-levels.ensures.items c.new.ensures;
+    made = one_made _ c.layout-layout.result c.in_ok-first.first c.in_ok-first.ensures c.push.new.self.items (only_one c.in_ok-first.first _ _ c.in_ok-levels.ensures.items c.in_ok-push.ensures.items);
+    fronts = one_front _ c.layout-layout.result c.in_ok-first.first c.in_ok-first.ensures c.push.new.self.items _
+        (only_one c.in_ok-first.first _ _ c.in_ok-levels.ensures.items c.in_ok-push.ensures.items) c.new.ensures;
   },
   c.new-3.ensures c.args.subject.now.nodes c.args.subject.now.platform.heaps,
 )
