@@ -1,6 +1,6 @@
 -- What a run on threads says of its input, from what it says of the bytes that it read.
-use Rattle.std.proofs.Common.{◌≡◌, ◌≢◌, ℕ, List, Option, Result, Ok, Err}
-use Rattle.std.specs.Prelude.{IfSome}
+use Rattle.std.proofs.Common.{◌≡◌, ◌≢◌, ℕ, Bool, false, true, List, Option, Result, Ok, Err, refl, subst}
+use Rattle.std.specs.Prelude.{IfSome, IsTrue}
 use Rattle.std.specs.Io.KnownBytes.{Appends}
 use Rattle.byte_transfer.specs.declared.fault.ReadFault.{ReadFault}
 use Rattle.byte_transfer.specs.declared.fault.ReadFault.TheVariants as reading
@@ -14,15 +14,15 @@ use Rattle.script_run.specs.declared.fault.RunFault.{RunFault}
 use Rattle.script_run.specs.declared.fault.RunFault.TheVariants.{Read, Write, NoMemory, Script, Proof}
 use Rattle.script_run.specs.declared.fault.RunFault.TheVariants as faults
 use Rattle.script_run.specs.declared.running.Ended.{Ended}
-use Rattle.script_run.specs.declared.running.Ended.TheVariants.{CheckedNo}
+use Rattle.script_run.specs.declared.running.Ended.TheVariants.{Done, MemoryRefused, CheckedNo}
 use Rattle.script_run.specs.Faults.{fault_of_read}
 use Rattle.script_run.proofs.CallerLemmas.{Appends-nothing}
 use Rattle.sysmem_participants.specs.declared.faults.AuditFault.TheVariants as audits
 use Rattle.script_threads.specs.declared.fault.PlayFault.{PlayFault}
 use Rattle.script_threads.specs.declared.fault.PlayFault.TheVariants as plays
 use Rattle.script_threads.specs.declared.playing.Told.{Told}
-use Rattle.script_threads.specs.Run.{IsPlayable, Played, SpellsApart, TellsOf, fault_of_play}
-use Rattle.script_threads.specs.Text.{IsText}
+use Rattle.script_threads.specs.Run.{IsPlayable, Played, SpellsApart, TellsOf, Writes, fault_of_play}
+use Rattle.script_threads.specs.Text.{IsText, IsTold}
 use Rattle.script_threads.proofs.Spelling.{playable-input, spells-input}
 
 module _ (had hold : Option (List ℕ)) where
@@ -32,6 +32,7 @@ module _ (had hold : Option (List ℕ)) where
   early fault other read refused audited = record {
     played = λ ended is. absurd (cc);
     written = λ ended is. absurd (cc);
+    done = λ is. absurd (cc);
     unchecked = λ is. absurd (cc);
     no_proof = λ is. absurd (read (cc));
     refused = λ found is. refused found (cc);
@@ -64,27 +65,34 @@ module _ (had hold : Option (List ℕ)) where
     played-refused result (plays.Audit audits.Verdicts) e said = rw e (disagrees Verdicts said)
     played-refused result (plays.Audit audits.NoMemory) e said = rw e (outside NoMemory (λ is. absurd (cc)) (λ is. absurd (cc)) (λ found is. absurd (cc)) (λ found is. absurd (cc)))
 
+-- what isn't told, no line says
+unsaid : (says starved : Bool) → (IsTrue says → IsTrue starved) → starved ≡ false → says ≡ false
+unsaid false starved was none = refl
+unsaid true starved was none = let is = was refl in absurd (cc)
+
 module _ (had left : Option (List ℕ)) (before after : Option (List ℕ)) (bytes : List ℕ) (read : ReadsToLimit longest had left bytes) (is_script : IsPlayable bytes)
-    (text : List ℕ) (is_text : IsText text) where
+    (starved : Bool) (text : List ℕ) (told : IsTold starved text) where
   -- a run whose writer failed
   pub played-part : (result : Result Ended RunFault) → result ≡ Err Write → WritesFront before after text → Played result had before after
   played-part result e front = rw e (record {
     played = λ ended is. absurd (cc);
     written = λ ended is. absurd (cc);
+    done = λ is. absurd (cc);
     unchecked = λ is. absurd (cc);
     no_proof = λ is. absurd (cc);
     refused = λ found is. absurd (cc);
     audited = λ found is. absurd (cc);
     failed = λ is. playable-input had left bytes read is_script;
-    front = λ is. record { text = text; is_text = is_text; front = front };
+    front = λ is. record { starved = told.says; text = text; is_text = told.is_text; front = front };
     unwritten = λ found is not. absurd (not (cc));
   })
 
   -- a run that wrote all
-  pub played-whole : (ended : Ended) → ended ≢ CheckedNo → Appends before after text → Played (Ok ended) had before after
-  played-whole ended not_no written = record {
+  whole : (ended : Ended) → ended ≢ CheckedNo → (ended ≡ Done → Writes false before after) → Appends before after text → Played (Ok ended) had before after
+  whole ended not_no done written = record {
     played = λ other is. playable-input had left bytes read is_script;
-    written = λ other is. record { text = text; is_text = is_text; written = written };
+    written = λ other is. (told.says, record { text = text; is_text = told.is_text; written = written });
+    done = λ is. done (cc);
     unchecked = λ is. absurd (not_no (cc));
     no_proof = λ is. absurd (cc);
     refused = λ found is. absurd (cc);
@@ -93,3 +101,12 @@ module _ (had left : Option (List ℕ)) (before after : Option (List ℕ)) (byte
     front = λ is. absurd (cc);
     unwritten = λ found is not. absurd (cc);
   }
+
+  pub played-starved : Appends before after text → Played (Ok MemoryRefused) had before after
+  played-starved written = whole MemoryRefused (λ is. absurd (cc)) (λ is. absurd (cc)) written
+
+  -- one that isn't told that memory was refused: no line says so
+  pub played-done : starved ≡ false → Appends before after text → Played (Ok Done) had before after
+  played-done none written =
+      let quiet = subst (λ says. IsText says text) (unsaid told.says starved told.was none) told.is_text in
+      whole Done (λ is. absurd (cc)) (λ is. record { text = text; is_text = quiet; written = written }) written

@@ -1,5 +1,6 @@
 -- What a run on threads has done, by how it ended.
-use Rattle.std.specs.Prelude.{◌≡◌, ◌≢◌, ℕ, List, [], Option, Result, Ok, Err, IfSome, ⊤}
+use Rattle.std.specs.Prelude.{◌≡◌, ◌≢◌, ℕ, Bool, false, List, [], Option, Result, Ok, Err, IfSome}
+use Rattle.std.specs.Prelude.{⊤}
 use Rattle.std.specs.Io.KnownBytes.{Appends}
 use Rattle.byte_transfer.specs.Transfer.{WritesFront}
 use Rattle.serde_json.specs.Data.{Data}
@@ -13,7 +14,7 @@ use Rattle.script_run.specs.declared.fault.Disagreement.TheVariants.{Handles, Ca
 use Rattle.script_run.specs.declared.fault.RunFault.{RunFault}
 use Rattle.script_run.specs.declared.fault.RunFault.TheVariants.{Write, NoMemory, Script, Proof, Audit}
 use Rattle.script_run.specs.declared.running.Ended.{Ended}
-use Rattle.script_run.specs.declared.running.Ended.TheVariants.{CheckedNo}
+use Rattle.script_run.specs.declared.running.Ended.TheVariants.{Done, CheckedNo}
 use Rattle.script_run.specs.Faults.{fault_of_parse}
 use Rattle.sysmem_participants.specs.declared.faults.AuditFault.{AuditFault}
 use Rattle.sysmem_participants.specs.declared.faults.AuditFault.TheVariants as audits
@@ -61,24 +62,26 @@ TellsOfValue value (Err (plays.Parse (parsing.Refused fault))) = script_apart va
 TellsOfValue value (Err (plays.Parse parsing.NoMemory)) = ⊤
 TellsOfValue value (Err (plays.Audit fault)) = IsScript value
 
--- a text was written, and nothing else
-pub record Writes (before after : Option (List ℕ)) : Type 0 where
+-- a text was written, and nothing else; whether a line of it says that memory was refused
+pub record Writes (starved : Bool) (before after : Option (List ℕ)) : Type 0 where
   pub text : List ℕ
-  pub is_text : IsText text
+  pub is_text : IsText starved text
   pub written : Appends before after text
 
 -- a prefix of a text was written, and nothing else
 pub record WritesPart (before after : Option (List ℕ)) : Type 0 where
+  pub starved : Bool
   pub text : List ℕ
-  pub is_text : IsText text
+  pub is_text : IsText starved text
   pub front : WritesFront before after text
 
--- what the reader had, where it tells it, and what the writer held before and after, where it tells
--- that
+-- what the reader had, where it tells it, and what the writer held before and after, where it
+-- tells that
 pub record Played (result : Result Ended RunFault)
     (had before after : Option (List ℕ)) : Type 0 where
   pub played : (ended : Ended) → result ≡ Ok ended → IfSome had IsPlayable
-  pub written : (ended : Ended) → result ≡ Ok ended → Writes before after
+  pub written : (ended : Ended) → result ≡ Ok ended → (starved : Bool) × Writes starved before after
+  pub done : result ≡ Ok Done → Writes false before after
   pub unchecked : result ≢ Ok CheckedNo
   pub no_proof : result ≢ Err Proof
   pub refused : (fault : ScriptFault) → result ≡ Err (Script fault)

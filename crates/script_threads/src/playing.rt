@@ -3,7 +3,7 @@
 ghost use Rattle.std.specs.Prelude.{◌≡◌, IfOk};
 ghost use Rattle.std.specs.String.{string_bytes};
 ghost use Rattle.script_replay.specs.Lines.{Puts};
-ghost use Rattle.script_threads.specs.Text.{AreLines, IsText, audit_line};
+ghost use Rattle.script_threads.specs.Text.{AreLines, IsText, IsTold, audit_line};
 ghost use Rattle.sysmem_room.specs.Counting.{all_parts};
 
 use crate::actor::act;
@@ -43,7 +43,7 @@ pub(crate) fn play<L: Ledger + Send + Sync, R: Threads + Wait + Sync>(
     requires name { blank.name ≡ L.name }
     requires ledger { blank.parts ≡ L.parts }
     requires parts { blank.parts ≡ all_parts }
-    ensures { IfOk result (λ told. IsText (string_bytes told.text)) }
+    ensures { IfOk result (λ told. IsTold told.is_starved (string_bytes told.text)) }
 {
     let names = names_made(calls);
     let Ok(stubs) = Vec::with_capacity(alloc, names.saturating_add(1)) else {
@@ -68,7 +68,7 @@ fn play_on<L: Ledger + Send + Sync, R: Threads + Wait + Sync>(
     stubs: Vec<Stub<L>>,
     calls: &[Call<'_>],
 ) -> Result<Told, AuditFault>
-    ensures { IfOk result (λ told. IsText (string_bytes told.text)) }
+    ensures { IfOk result (λ told. IsTold told.is_starved (string_bytes told.text)) }
 {
     let Ok(reader) = root.reader() else {
         let _stub = Handle::Token(root).close(rt);
@@ -124,7 +124,7 @@ fn lines_read<L: Ledger, R: Wait>(
     alloc: Global,
     reader: &Reader<L>,
 ) -> Result<Lines, AllocError>
-    ensures { IfOk result (λ lines. AreLines (string_bytes lines.text)) }
+    ensures { IfOk result (λ lines. AreLines lines.is_starved (string_bytes lines.text)) }
 {
     let reading = reader.read(rt);
     lines_of(alloc, reading.book())
@@ -136,8 +136,8 @@ fn tell<L: Ledger, R: Wait>(
     lines: Result<Lines, AllocError>,
     remains: Remains<L>,
 ) -> Result<Told, AuditFault>
-    requires { IfOk lines (λ lines. AreLines (string_bytes lines.text)) }
-    ensures { IfOk result (λ told. IsText (string_bytes told.text)) }
+    requires { IfOk lines (λ lines. AreLines lines.is_starved (string_bytes lines.text)) }
+    ensures { IfOk result (λ told. IsTold told.is_starved (string_bytes told.text)) }
 {
     let Ok(lines) = lines else {
         return Err(AuditFault::NoMemory);
@@ -155,8 +155,8 @@ fn tell<L: Ledger, R: Wait>(
 
 /// The lines of domains, with that of an audit after them.
 fn with_audit(lines: Lines, audit: Audit) -> Result<String, AllocError>
-    requires { AreLines (string_bytes lines.text) }
-    ensures { IfOk result (λ text. IsText (string_bytes text)) }
+    requires { AreLines lines.is_starved (string_bytes lines.text) }
+    ensures { IfOk result (λ text. IsText lines.is_starved (string_bytes text)) }
 {
     let mut text = lines.text;
     put_audit(&mut text, audit)?;

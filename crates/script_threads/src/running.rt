@@ -5,7 +5,7 @@ ghost use Rattle.std.specs.String.{string_bytes};
 ghost use Rattle.serde_json.specs.View.{view};
 ghost use Rattle.script_run.specs.Run.{IsCausedBy};
 ghost use Rattle.script_threads.specs.Run.{Played, TellsOf, TellsOfValue};
-ghost use Rattle.script_threads.specs.Text.{IsText};
+ghost use Rattle.script_threads.specs.Text.{IsTold};
 
 use crate::fault::PlayFault;
 use crate::planning::settle_waits;
@@ -32,6 +32,7 @@ const PARTS: u64 = 129;
 /// Any failure of the reader is the fault `Read`, and any of the writer the fault `Write`; what was
 /// written then is a prefix of such a text. No other fault is called so, and with another nothing
 /// is written. A thread that can't be started is want of memory, and then no actor makes a call.
+/// Where it is `Done`, no line says that memory was refused to a decision.
 pub fn run_threads<T: Threads + Wait + Sync, R: Source, W: Sink>(
     rt: &T,
     alloc: Global,
@@ -61,7 +62,7 @@ fn play_bytes<T: Threads + Wait + Sync>(
     bytes: &[u8],
 ) -> Result<Told, PlayFault>
     ensures tells { TellsOf bytes.now result }
-    ensures text { IfOk result (λ told. IsText (string_bytes told.text)) }
+    ensures text { IfOk result (λ told. IsTold told.is_starved (string_bytes told.text)) }
 {
     match parse_script(alloc, bytes) {
         Ok(value) => play_value(rt, alloc, &value),
@@ -76,7 +77,7 @@ fn play_value<T: Threads + Wait + Sync>(
     value: &Value,
 ) -> Result<Told, PlayFault>
     ensures tells { TellsOfValue (view value.now) result }
-    ensures text { IfOk result (λ told. IsText (string_bytes told.text)) }
+    ensures text { IfOk result (λ told. IsTold told.is_starved (string_bytes told.text)) }
 {
     let script = match read_script_apart(alloc, value) {
         Ok(script) => script,
@@ -94,7 +95,7 @@ fn play_script<T: Threads + Wait + Sync>(
     alloc: Global,
     script: Script<'_>,
 ) -> Result<Told, AuditFault>
-    ensures { IfOk result (λ told. IsText (string_bytes told.text)) }
+    ensures { IfOk result (λ told. IsTold told.is_starved (string_bytes told.text)) }
 {
     let Script {
         platform,

@@ -4,4 +4,4 @@ use Rattle.script_threads.specs.Text.{AreLines}
 use Rattle.script_threads.proofs.domains.lines_of.Given as goal
 
 abbrev pub invariant-loop-root : goal.invariant-loop-root
-invariant-loop-root l = AreLines (string_bytes l.text)
+invariant-loop-root l = AreLines l.is_starved (string_bytes l.text)

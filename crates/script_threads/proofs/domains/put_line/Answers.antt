@@ -1,18 +1,17 @@
 use Rattle.script_threads.specs.Text.{has_failed, none_meet, too_many, waits, wants_memory}
-use Rattle.script_threads.proofs.Lines.{line_more}
 use Rattle.script_threads.proofs.domains.put_line.Goals as goal
 
-pub returns-in-None : goal.returns-in-None
-returns-in-None c = line_more c.put_word.result c.args.text.now c.put_word.new.text c.args.path.now _ waits c.put_word.ensures
+pub returns-in_ok-put_word-in-None : goal.returns-in_ok-put_word-in-None
+returns-in_ok-put_word-in-None c = record { what = _; says = waits; put = c.in_ok-put_word-in-None.ensures }
 
-pub returns-in-Some-IntersectionEmpty : goal.returns-in-Some-IntersectionEmpty
-returns-in-Some-IntersectionEmpty c = line_more c.put_word-in-Some-IntersectionEmpty.result c.args.text.now c.put_word-in-Some-IntersectionEmpty.new.text c.args.path.now _ none_meet c.put_word-in-Some-IntersectionEmpty.ensures
+pub returns-in_ok-put_word-in-Some-IntersectionEmpty : goal.returns-in_ok-put_word-in-Some-IntersectionEmpty
+returns-in_ok-put_word-in-Some-IntersectionEmpty c = record { what = _; says = none_meet; put = c.in_ok-put_word-in-Some-IntersectionEmpty.ensures }
 
-pub returns-in-Some-TooMany : goal.returns-in-Some-TooMany
-returns-in-Some-TooMany c = line_more c.put_word-in-Some-TooMany.result c.args.text.now c.put_word-in-Some-TooMany.new.text c.args.path.now _ too_many c.put_word-in-Some-TooMany.ensures
+pub returns-in_ok-put_word-in-Some-TooMany : goal.returns-in_ok-put_word-in-Some-TooMany
+returns-in_ok-put_word-in-Some-TooMany c = record { what = _; says = too_many; put = c.in_ok-put_word-in-Some-TooMany.ensures }
 
-pub returns-in-Some-Failed : goal.returns-in-Some-Failed
-returns-in-Some-Failed c = line_more c.put_word-in-Some-Failed.result c.args.text.now c.put_word-in-Some-Failed.new.text c.args.path.now _ has_failed c.put_word-in-Some-Failed.ensures
+pub returns-in_ok-put_word-in-Some-Failed : goal.returns-in_ok-put_word-in-Some-Failed
+returns-in_ok-put_word-in-Some-Failed c = record { what = _; says = has_failed; put = c.in_ok-put_word-in-Some-Failed.ensures }
 
-pub returns-in-Some-NoMemory : goal.returns-in-Some-NoMemory
-returns-in-Some-NoMemory c = line_more c.put_word-in-Some-NoMemory.result c.args.text.now c.put_word-in-Some-NoMemory.new.text c.args.path.now _ wants_memory c.put_word-in-Some-NoMemory.ensures
+pub returns-in_ok-put_word-in-Some-NoMemory : goal.returns-in_ok-put_word-in-Some-NoMemory
+returns-in_ok-put_word-in-Some-NoMemory c = record { what = _; says = wants_memory; put = c.in_ok-put_word-in-Some-NoMemory.ensures }

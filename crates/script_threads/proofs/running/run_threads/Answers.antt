@@ -2,7 +2,7 @@ use Rattle.std.proofs.Common.{Err, subst}
 use Rattle.std.proofs.lemmas.Result.{err_from_is_err_and}
 use Rattle.script_threads.specs.declared.playing.Told.{Told}
 use Rattle.script_threads.specs.Run.{IsPlayable, TellsOf}
-use Rattle.script_threads.proofs.Ending.{played-part, played-refused, played-unread, played-whole}
+use Rattle.script_threads.proofs.Ending.{played-part, played-refused, played-unread, played-done, played-starved}
 use Rattle.script_threads.proofs.running.run_threads.Goals as goal
 
 pub returns-in_err-told-clause-played : goal.returns-in_err-told-clause-played
@@ -16,4 +16,4 @@ returns-in_err-write_fully-clause-played g c =
     let failed = err_from_is_err_and c.from_residual-in_err-write_fully.result c.from_residual-in_err-write_fully.ensures.1 in
     let said = subst IsPlayable c.deref.ensures.value c.in_ok-told.ensures.tells in
     let front = rw c.as_bytes.ensures.value at c.in_err-write_fully.ensures.front in
-    played-part _ _ _ _ c.in_ok-bytes.bytes.items c.in_ok-bytes.ensures.bytes said _ c.in_ok-told.ensures.text _ (cc (failed.1, failed.2)) front
+    played-part _ _ _ _ c.in_ok-bytes.bytes.items c.in_ok-bytes.ensures.bytes said _ _ c.in_ok-told.ensures.text _ (cc (failed.1, failed.2)) front
