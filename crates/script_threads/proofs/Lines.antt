@@ -22,7 +22,7 @@ pub line_more : (starved more both : Bool) (old new path : List ℕ) → AreLine
 line_more starved more both old new path are has is =
     subst (λ s. AreLines s new) (sym is) (subst (AreLines (starved || more)) (sym has.put) (one_more starved more old path has.what are has.says))
 
-pub both_by_one : (starved more both : Bool) → starved ≡ true → both ≡ true → both ≡ (starved || more)
+pub both_by_one : (starved more both : Bool) → starved ≡ true → both ≡ starved → both ≡ (starved || more)
 both_by_one true more both one is = is
 both_by_one false more both one is = absurd (cc)
 
