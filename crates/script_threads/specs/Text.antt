@@ -20,7 +20,8 @@ pub data Says : Bool → List ℕ → Type 0 where
   has_failed : Says false (codes "failed")
   wants_memory : Says true (codes "no_memory")
 
--- the line of the domain at this path was put after a text; whether it says so
+-- the line of the domain at this path was put after a text; whether it says that memory was
+-- refused
 pub record HasLine (starved : Bool) (path before after : List ℕ) : Type 0 where
   pub what : List ℕ
   pub says : Says starved what
