@@ -1,6 +1,6 @@
 //! What the participants ask for, and of which platform.
 
-use anyhow::{Result, bail};
+use crate::failure::Failure;
 use serde_json::Value;
 use std::alloc::Global;
 use std::sync::Arc;
@@ -22,23 +22,18 @@ pub(crate) const RECORDER: &str =
     r#"{"usage":["video"],"min_buffer_count_for_camping":2,"buffer_memory_constraints":{"ram_domain_supported":true},"image_format_constraints":[{"pixel_format":"NV12","color_spaces":["REC709"]}]}"#;
 
 /// The platform of a record.
-pub(crate) fn platform(alloc: Global, text: &str) -> Result<Platform> {
-    let Ok(record) = serde_json::from_str::<Value>(alloc, text) else {
-        bail!("the platform is no JSON");
+pub(crate) fn platform(alloc: Global, text: &str) -> Result<Platform, Failure> {
+    let Ok(record) = Value::from_str(alloc, text) else {
+        return Err(Failure::NotJson);
     };
-    match read_platform(alloc, &record) {
-        Ok(platform) => Ok(platform),
-        Err(fault) => bail!("the platform is refused: {fault:?}"),
-    }
+    Ok(read_platform(alloc, &record)?)
 }
 
 /// The constraints of a record.
-pub(crate) fn asked(alloc: Global, text: &str) -> Result<Arc<Constraints>> {
-    let Ok(record) = serde_json::from_str::<Value>(alloc, text) else {
-        bail!("the constraints are no JSON");
+pub(crate) fn asked(alloc: Global, text: &str) -> Result<Arc<Constraints>, Failure> {
+    let Ok(record) = Value::from_str(alloc, text) else {
+        return Err(Failure::NotJson);
     };
-    match read_constraints(alloc, &record) {
-        Ok(constraints) => Ok(Arc::new(alloc, constraints)?),
-        Err(fault) => bail!("the constraints are refused: {fault:?}"),
-    }
+    let constraints = read_constraints(alloc, &record)?;
+    Ok(Arc::new(alloc, constraints)?)
 }

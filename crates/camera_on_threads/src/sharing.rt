@@ -3,9 +3,9 @@
 ghost use Rattle.std.specs.Prelude.{◌≡◌};
 ghost use Rattle.sysmem_room.specs.Counting.{all_parts};
 
+use crate::failure::Failure;
 use crate::slot::Slot;
-use anyhow::{Result, bail};
-use std::alloc::Global;
+use std::alloc::{AllocError, Global};
 use std::sync::ledger::{Blank, Ledger};
 use std::sync::{Arc, Wait};
 use std::thread;
@@ -48,14 +48,14 @@ pub(crate) fn share<L: Ledger + Send + Sync, R: Threads + Wait + Sync>(
     alloc: Global,
     allocator: &Allocator<NoGate>,
     blank: Blank,
-    asks: Asks,
-) -> Result<Told>
+    asks: &Asks,
+) -> Result<Told, Failure>
     requires name { blank.name ≡ L.name }
     requires ledger { blank.parts ≡ L.parts }
     requires parts { blank.parts ≡ all_parts }
 {
     let Ok(mut root) = allocator.allocate_shared::<L>(blank) else {
-        bail!("no memory for a collection");
+        return Err(Failure::NoMemory);
     };
     let camera = Slot::new(root.duplicate(rt).ok());
     let encoder = Slot::new(root.duplicate(rt).ok());
@@ -75,8 +75,20 @@ pub(crate) fn share<L: Ledger + Send + Sync, R: Threads + Wait + Sync>(
     camera.end(rt);
     encoder.end(rt);
     recorder.end(rt);
+    audited(rt, alloc, root, filmed, encoded, recorded)
+}
+
+/// What each was told, and what an audit finds of what is left of all handles.
+fn audited<L: Ledger, R: Threads + Wait + Sync>(
+    rt: &R,
+    alloc: Global,
+    root: Stub<L>,
+    filmed: Option<Part<L>>,
+    encoded: Option<Part<L>>,
+    recorded: Option<Part<L>>,
+) -> Result<Told, Failure> {
     let (Some(filmed), Some(encoded)) = (filmed, encoded) else {
-        bail!("no memory for a token");
+        return Err(Failure::NoMemory);
     };
     let mut stubs = Vec::from_array(alloc, [root, filmed.stub, encoded.stub])?;
     let recorder = told_to(&mut stubs, recorded)?;
@@ -87,7 +99,7 @@ pub(crate) fn share<L: Ledger + Send + Sync, R: Threads + Wait + Sync>(
             recorder,
             audit,
         }),
-        Err((fault, _seen)) => bail!("the audit says {}", fault.name()),
+        Err((fault, _seen)) => Err(Failure::Audit(fault)),
     }
 }
 
@@ -96,7 +108,7 @@ pub(crate) fn share<L: Ledger + Send + Sync, R: Threads + Wait + Sync>(
 fn told_to<L: Ledger>(
     stubs: &mut Vec<Stub<L>>,
     late: Option<Part<L>>,
-) -> Result<Option<Result<Settings, Refusal>>> {
+) -> Result<Option<Result<Settings, Refusal>>, AllocError> {
     let Some(part) = late else {
         return Ok(None);
     };

@@ -1,18 +1,18 @@
 //! Does a job for the initial domain of a script as often as it is told, or several, one after the
 //! other.
 //!
-//! | Job | What is repeated |
-//! |---|---|
-//! | `read` | reading the bytes of the file as a JSON value. As the only job it reads nothing else, so the file needn't be a script |
-//! | `search` | the search for the verdict |
-//! | `together` | the same search by two workers |
-//! | `add` | adding the participants of the selection that is found to a fresh aggregate; where none is, those of the first selection |
-//! | `settle` | asking such an aggregate for its best settings |
-//! | `prove` | making what proves the verdict |
-//! | `check` | checking the verdict with its proof |
-//! | `write` | writing the certificate of both |
-//! | `serialise` | making the text of a `serde_json::Value` of the same, which is read once |
-//! | `rows` | nothing: plays the lines of standard input once (`rows.rt`) |
+//! - `read`: reading the bytes of the file as a JSON value. As the only job it reads nothing else,
+//!   so the file needn't be a script.
+//! - `search`: the search for the verdict.
+//! - `together`: the same search by two workers.
+//! - `add`: adding the participants of the selection that is found to a fresh aggregate; where none
+//!   is, those of the first selection.
+//! - `settle`: asking such an aggregate for its best settings.
+//! - `prove`: making what proves the verdict.
+//! - `check`: checking the verdict with its proof.
+//! - `write`: writing the certificate of both.
+//! - `serialise`: making the text of a `serde_json::Value` of the same, which is read once.
+//! - `rows`: nothing; plays the lines of standard input once (`rows.rt`).
 //!
 //! Calls that are refused, checks and waits are passed over.
 
@@ -20,12 +20,11 @@ mod adding;
 mod deciding;
 mod writing;
 
-use crate::failure;
+use crate::failure::Failure;
 use crate::handles::{all_stated, book_after};
 use crate::rows::play_rows;
 pub(crate) use adding::choose;
 use adding::{add_again, settle_again};
-use anyhow::Result;
 use deciding::{check_again, prove_again, search_again, search_together_again};
 use script_reading::Script;
 use serde_json::Value;
@@ -44,7 +43,7 @@ pub(crate) fn repeat_jobs<T: Threads + Sync>(
     script: Script<'_>,
     jobs: &str,
     times: u32,
-) -> Result<()> {
+) -> Result<(), Failure> {
     let Script { platform, calls } = script;
     let asked = all_stated(rt.alloc(), &calls)?;
     let book = book_after(rt.alloc(), platform, &calls, &asked)?;
@@ -58,7 +57,7 @@ fn repeat_each<T: Threads + Sync>(
     jobs: &str,
     book: &Book,
     times: u32,
-) -> Result<()> {
+) -> Result<(), Failure> {
     for job in jobs.split(',') {
         match job {
             "read" => read_again(rt.alloc(), bytes, times)?,
@@ -77,11 +76,10 @@ fn repeat_each<T: Threads + Sync>(
 }
 
 /// Reads the bytes as a JSON value so many times.
-pub(crate) fn read_again(alloc: Global, bytes: &[u8], times: u32) -> Result<()> {
+pub(crate) fn read_again(alloc: Global, bytes: &[u8], times: u32) -> Result<(), Failure> {
     for _ in 0..times {
-        match Value::from_slice(alloc, bytes) {
-            Ok(_) => {}
-            Err(_) => return Err(failure("the file is no JSON value")),
+        if Value::from_slice(alloc, bytes).is_err() {
+            return Err(Failure::NotJson);
         }
     }
     Ok(())
@@ -95,7 +93,7 @@ fn repeat<R: Threads + Sync>(
     platform: &Platform,
     tree: &Tree,
     times: u32,
-) -> Result<()> {
+) -> Result<(), Failure> {
     match job {
         "search" => search_again(alloc, platform, tree, times),
         "together" => search_together_again(rt, alloc, platform, tree, times),
@@ -105,6 +103,6 @@ fn repeat<R: Threads + Sync>(
         "check" => check_again(alloc, platform, tree, times),
         "write" => write_again(alloc, platform, tree, times),
         "serialise" => serialise_again(alloc, platform, tree, times),
-        _ => Err(failure("no such job")),
+        _ => Err(Failure::NoSuchJob),
     }
 }

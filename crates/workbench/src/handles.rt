@@ -7,17 +7,18 @@
 //! it is shown, in the words of a domain's line, and what the checker says of that. Then all
 //! handles are closed, and the last line is the audit's. A job prints nothing but where it says so.
 //!
-//! | Job | What is repeated |
-//! |---|---|
-//! | `handles` | playing the calls through the handles of a new collection, and closing these |
-//! | `audited` | the same, and an audit of what is left |
-//! | `book` | applying the calls to a new book, without a decision |
-//! | `calls` | the calls of participants of a new collection, one for each `set_constraints` of the script (`taking.rt`) |
-//! | `applied` | the same calls on a new book |
-//! | `alone` | the calls of 126 participants of a new collection, on one thread (`crowding.rt`); how many nanoseconds they take is printed |
-//! | `crowd` | the same, shared out among 16 threads that begin together |
-//! | `refused_alone` | the same as `alone`, once, with so many calls more of each participant that are refused |
-//! | `refused_crowd` | the same on 16 threads |
+//! - `handles`: playing the calls through the handles of a new collection, and closing these.
+//! - `audited`: the same, and an audit of what is left.
+//! - `book`: applying the calls to a new book, without a decision.
+//! - `calls`: the calls of participants of a new collection, one for each `set_constraints` of the
+//!   script (`taking.rt`).
+//! - `applied`: the same calls on a new book.
+//! - `alone`: the calls of 126 participants of a new collection, on one thread (`crowding.rt`); how
+//!   many nanoseconds they take is printed.
+//! - `crowd`: the same, shared out among 16 threads that begin together.
+//! - `refused_alone`: the same as `alone`, once, with so many calls more of each participant that
+//!   are refused.
+//! - `refused_crowd`: the same on 16 threads.
 
 mod crowding;
 mod ending;
@@ -30,13 +31,12 @@ mod showing;
 mod taking;
 mod tokens;
 
-use crate::failure;
-use anyhow::Result;
+use crate::failure::Failure;
 use crowding::{Crowd, crowd_on};
 pub(crate) use repeating::book_after;
 use repeating::{repeat_book, repeat_handles};
-use script::Played;
 pub(crate) use script::all_stated;
+use script::report_of;
 use script_reading::Script;
 use std::alloc::Global;
 use std::sync::{Arc, Wait};
@@ -50,10 +50,8 @@ pub(crate) fn play_script<R: Threads + Wait + Sync>(
     host: &HostRuntime,
     rt: &R,
     script: Script<'_>,
-) -> Result<()> {
-    let mut played = Played::new(host.alloc(), script)?;
-    played.play(rt)?;
-    let report = played.report();
+) -> Result<(), Failure> {
+    let report = report_of(rt, host.alloc(), script)?;
     print!(host; "{report}")?;
     Ok(())
 }
@@ -65,7 +63,7 @@ pub(crate) fn repeat_job<R: Threads + Wait + Clock + Sync>(
     script: Script<'_>,
     job: &str,
     times: u32,
-) -> Result<()> {
+) -> Result<(), Failure> {
     let alloc = host.alloc();
     let Script { platform, calls } = script;
     let asked = all_stated(alloc, &calls)?;
@@ -94,16 +92,16 @@ fn crowd<R: Threads + Wait + Clock + Sync>(
     asked: &[Arc<Constraints>],
     job: &str,
     times: u32,
-) -> Result<u64> {
+) -> Result<u64, Failure> {
     let Some(asked) = asked.first() else {
-        return Err(failure("nobody asks for anything"));
+        return Err(Failure::NobodyAsks);
     };
     let (threads, collections, refused) = match job {
         "alone" => (1, times, 0),
         "crowd" => (16, times, 0),
         "refused_alone" => (1, 1, times),
         "refused_crowd" => (16, 1, times),
-        _ => return Err(failure("no such job")),
+        _ => return Err(Failure::NoSuchJob),
     };
     let crowd = Crowd {
         asked,

@@ -1,23 +1,23 @@
 //! What the tests and the bench run beside the program itself: plays scripts through handles, plays
 //! actions on trees line by line, and does one thing again and again. No user calls it.
 //!
-//! | Words | What it does |
-//! |---|---|
-//! | `decisions FILE JOBS TIMES` | jobs for the initial domain of a script, so many times (`decisions.rt`); once where no number is given |
-//! | `handles FILE` | plays a script through handles, and prints what they answer (`handles.rt`) |
-//! | `handles FILE JOB TIMES` | a job of handles, so many times, or once |
-//! | `rows` | plays the lines of standard input on trees (`rows.rt`) |
+//! - `decisions FILE JOBS TIMES` does jobs for the initial domain of a script, so many times, or
+//!   once where no number is given (`decisions.rt`).
+//! - `handles FILE` plays a script through handles, and prints what they answer (`handles.rt`).
+//! - `handles FILE JOB TIMES` does a job of handles, so many times, or once.
+//! - `rows` plays the lines of standard input on trees (`rows.rt`).
 //!
 //! One program has all, since each is read with all that it stands on for minutes before its own
 //! functions are proved.
 #![tactic(auto)]
 
 mod decisions;
+mod failure;
 mod handles;
 mod rows;
 
-use anyhow::{Error, Result, anyhow};
 use decisions::{read_again, repeat_jobs};
+use failure::Failure;
 use handles::{play_script, repeat_job};
 use rows::play_rows;
 use script_reading::{parse_script, read_script};
@@ -26,30 +26,47 @@ use std::thread::Threads;
 use std::time::Clock;
 use std::{env, fs};
 
-const USAGE: &str =
-    "usage: workbench decisions FILE JOB[,..] [TIMES] | workbench handles FILE [JOB [TIMES]] | workbench rows";
-
-fn main(rt: HostRuntime) -> Result<()> {
-    let mut words = env::args(&rt)?;
-    let _program = words.next();
-    let Some(part) = words.next() else {
-        return Err(failure(USAGE));
-    };
-    if part.as_str() == "rows" {
-        return play_rows(&rt);
+fn main(rt: HostRuntime) -> Result<(), Failure> {
+    let mut words = Vec::new(rt.alloc());
+    for word in env::args(&rt)? {
+        words.push(word)?;
     }
-    let Some(file) = words.next() else {
-        return Err(failure(USAGE));
+    obey(&rt, &rt, &words)
+}
+
+/// Does what these words ask for, of which the first is the program's name.
+fn obey<T: Threads + Wait + Clock + Sync>(
+    rt: &HostRuntime,
+    threads: &T,
+    words: &[String],
+) -> Result<(), Failure> {
+    let (part, file, job) = (word(words, 1), word(words, 2), word(words, 3));
+    if part == "rows" {
+        return play_rows(rt);
+    }
+    let times = match word(words, 4) {
+        "" => 1,
+        number => times_of(number)?,
     };
-    let job = words.next();
-    let times = match words.next() {
-        Some(times) => times.parse::<u32>()?,
-        None => 1,
-    };
-    let bytes = fs::read(&rt, &file)?;
-    match (part.as_str(), job.as_deref()) {
-        ("decisions", Some("read")) => read_again(rt.alloc(), &bytes, times),
-        (part, job) => use_script(&rt, &rt, &bytes, part, job, times),
+    let bytes = fs::read(rt, file)?;
+    if part == "decisions" && job == "read" {
+        return read_again(rt.alloc(), &bytes, times);
+    }
+    use_script(rt, threads, &bytes, part, job, times)
+}
+
+/// The word at an index; an empty one where there is none.
+fn word(words: &[String], index: usize) -> &str {
+    match words.get(index) {
+        Some(word) => word.as_str(),
+        None => "",
+    }
+}
+
+fn times_of(word: &str) -> Result<u32, Failure> {
+    match word.parse::<u32>() {
+        Ok(times) => Ok(times),
+        Err(_) => Err(Failure::Usage),
     }
 }
 
@@ -59,25 +76,19 @@ fn use_script<T: Threads + Wait + Clock + Sync>(
     threads: &T,
     bytes: &[u8],
     part: &str,
-    job: Option<&str>,
+    job: &str,
     times: u32,
-) -> Result<()> {
+) -> Result<(), Failure> {
     let Ok(value) = parse_script(rt.alloc(), bytes) else {
-        return Err(failure("the script is refused"));
+        return Err(Failure::Script);
     };
     let Ok(script) = read_script(rt.alloc(), &value) else {
-        return Err(failure("the script is refused"));
+        return Err(Failure::Script);
     };
-    match (part, job) {
-        ("decisions", Some(jobs)) => repeat_jobs(rt, threads, bytes, script, jobs, times),
-        ("handles", Some(job)) => repeat_job(rt, threads, script, job, times),
-        ("handles", None) => play_script(rt, threads, script),
-        _ => Err(failure(USAGE)),
+    match part {
+        "decisions" => repeat_jobs(rt, threads, bytes, script, job, times),
+        "handles" if job.is_empty() => play_script(rt, threads, script),
+        "handles" => repeat_job(rt, threads, script, job, times),
+        _ => Err(Failure::Usage),
     }
-}
-
-/// What is told where a part can't be done. It is made in one place, since each `bail!` costs the
-/// proof of its format.
-fn failure(why: &str) -> Error {
-    anyhow!("{why}")
 }

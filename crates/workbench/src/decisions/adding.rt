@@ -8,8 +8,7 @@ ghost use Rattle.sysmem_tree.specs.Selection.{IsPrefix};
 ghost use Rattle.sysmem_tree.specs.Shape.{by_number, forest_of};
 
 use super::deciding::found_in;
-use crate::failure;
-use anyhow::Result;
+use crate::failure::Failure;
 use std::alloc::Global;
 use sysmem_merge::Aggregate;
 use sysmem_proof::Verdict;
@@ -17,7 +16,12 @@ use sysmem_sanitise::Platform;
 use sysmem_tree::{DomainId, MOST_NODES, NodeId, Prefix, Tree};
 
 /// Adds the participants of the initial domain's selection to a fresh aggregate, so many times.
-pub(crate) fn add_again(alloc: Global, platform: &Platform, tree: &Tree, times: u32) -> Result<()> {
+pub(crate) fn add_again(
+    alloc: Global,
+    platform: &Platform,
+    tree: &Tree,
+    times: u32,
+) -> Result<(), Failure> {
     let nodes = participants(alloc, platform, tree)?;
     for _ in 0..times {
         together(alloc, platform, tree, &nodes)?;
@@ -32,13 +36,13 @@ pub(crate) fn settle_again(
     platform: &Platform,
     tree: &Tree,
     times: u32,
-) -> Result<()> {
+) -> Result<(), Failure> {
     let nodes = participants(alloc, platform, tree)?;
     let aggregate = together(alloc, platform, tree, &nodes)?;
     let settings = aggregate.best_settings(true);
     for _ in 0..times {
         if aggregate.best_settings(true) != settings {
-            return Err(failure("the best settings change"));
+            return Err(Failure::OtherSettings);
         }
     }
     Ok(())
@@ -50,7 +54,7 @@ fn together<'p>(
     platform: &'p Platform,
     tree: &Tree,
     nodes: &[NodeId],
-) -> Result<Aggregate<'p>>
+) -> Result<Aggregate<'p>, Failure>
     requires { All (HasNode tree.now.nodes) nodes.now }
 {
     let mut aggregate = Aggregate::new(alloc, platform)?;
@@ -67,7 +71,7 @@ fn together<'p>(
 
 /// The participants of the initial domain's selection: of the one that is found, and where none can
 /// be met, of that of the first child of each group.
-fn participants(alloc: Global, platform: &Platform, tree: &Tree) -> Result<Vec<NodeId>>
+fn participants(alloc: Global, platform: &Platform, tree: &Tree) -> Result<Vec<NodeId>, Failure>
     ensures { IfOk result (λ nodes. All (HasNode tree.now.nodes) nodes.items) }
 {
     let domain = tree.domain_of(tree.root());
@@ -86,7 +90,10 @@ fn selection_by(tree: &Tree, domain: DomainId, choices: &[u8]) -> Prefix
 {
     let mut prefix = Prefix::new();
     for number in 0..MOST_NODES {
-        let choice = choices.get(number).copied().unwrap_or(0);
+        let choice = match choices.get(number) {
+            Some(choice) => *choice,
+            None => 0,
+        };
         if !choose(tree, domain, &mut prefix, choice) {
             break;
         }

@@ -6,8 +6,7 @@ ghost use Rattle.sysmem_proof.specs.Base.{IsGivenBase};
 ghost use Rattle.sysmem_proof.specs.Verdict.{IsOptimalIn};
 ghost use Rattle.sysmem_tree.specs.Domain.{HasDomain};
 
-use crate::failure;
-use anyhow::Result;
+use crate::failure::Failure;
 use std::alloc::Global;
 use std::thread::Threads;
 use sysmem_proof::{Claim, check};
@@ -16,7 +15,7 @@ use sysmem_search::{Found, NoGate, prove, search, search_wide};
 use sysmem_tree::{DomainId, Tree};
 
 /// The verdict of the initial domain with what proves it.
-pub(crate) fn claim_of(alloc: Global, platform: &Platform, tree: &Tree) -> Result<Claim> {
+pub(crate) fn claim_of(alloc: Global, platform: &Platform, tree: &Tree) -> Result<Claim, Failure> {
     let domain = tree.domain_of(tree.root());
     let found = found_in(alloc, platform, tree, domain)?;
     let proof = prove(alloc, platform, tree, domain, None, &found.verdict)?;
@@ -32,7 +31,7 @@ pub(crate) fn search_again(
     platform: &Platform,
     tree: &Tree,
     times: u32,
-) -> Result<()> {
+) -> Result<(), Failure> {
     let domain = tree.domain_of(tree.root());
     for _ in 0..times {
         found_in(alloc, platform, tree, domain)?;
@@ -47,10 +46,10 @@ pub(crate) fn search_together_again<R: Threads + Sync>(
     platform: &Platform,
     tree: &Tree,
     times: u32,
-) -> Result<()> {
+) -> Result<(), Failure> {
     let domain = tree.domain_of(tree.root());
     if !tree.is_ready(domain) || tree.host_of(domain).is_some() {
-        return Err(failure("the initial domain isn't ready"));
+        return Err(Failure::NotReady);
     }
     for _ in 0..times {
         search_wide(rt, alloc, platform, tree, domain, None, &NoGate, 2)?;
@@ -64,7 +63,7 @@ pub(crate) fn prove_again(
     platform: &Platform,
     tree: &Tree,
     times: u32,
-) -> Result<()> {
+) -> Result<(), Failure> {
     let domain = tree.domain_of(tree.root());
     let found = found_in(alloc, platform, tree, domain)?;
     for _ in 0..times {
@@ -79,15 +78,15 @@ pub(crate) fn check_again(
     platform: &Platform,
     tree: &Tree,
     times: u32,
-) -> Result<()> {
+) -> Result<(), Failure> {
     let claim = claim_of(alloc, platform, tree)?;
     let domain = tree.domain_of(tree.root());
     if tree.host_of(domain).is_some() {
-        return Err(failure("the initial domain has a host"));
+        return Err(Failure::NotReady);
     }
     for _ in 0..times {
         if check(platform, tree, domain, None, &claim).is_err() {
-            return Err(failure("the claim isn't true"));
+            return Err(Failure::FalseClaim);
         }
     }
     Ok(())
@@ -99,14 +98,14 @@ pub(crate) fn found_in(
     platform: &Platform,
     tree: &Tree,
     domain: DomainId,
-) -> Result<Found>
+) -> Result<Found, Failure>
     requires { HasDomain tree.now.nodes domain }
     ensures initial { OnOk result (IsGivenBase platform.now tree.now.nodes domain None) }
     ensures optimal { IfOk result
         (λ found. IsOptimalIn platform.now tree.now.nodes domain None found.verdict) }
 {
     if !tree.is_ready(domain) || tree.host_of(domain).is_some() {
-        return Err(failure("the initial domain isn't ready"));
+        return Err(Failure::NotReady);
     }
     Ok(search(alloc, platform, tree, domain, None, &NoGate)?)
 }

@@ -2,8 +2,7 @@
 //! value that this text spells.
 
 use super::deciding::claim_of;
-use crate::failure;
-use anyhow::Result;
+use crate::failure::Failure;
 use certificate_text::CertificateWriter;
 use serde_json::Value;
 use std::alloc::Global;
@@ -17,7 +16,7 @@ pub(crate) fn write_again(
     platform: &Platform,
     tree: &Tree,
     times: u32,
-) -> Result<()> {
+) -> Result<(), Failure> {
     let claim = claim_of(alloc, platform, tree)?;
     let path = tree.path_of(tree.root())?;
     for _ in 0..times {
@@ -32,7 +31,7 @@ fn certificate_of(
     platform: &Platform,
     path: &Path,
     claim: &Claim,
-) -> Result<Vec<u8>> {
+) -> Result<Vec<u8>, Failure> {
     let mut writer = CertificateWriter::new(alloc)?;
     writer.put(platform, path, Some(claim))?;
     let text = writer.finish()?;
@@ -45,12 +44,12 @@ pub(crate) fn serialise_again(
     platform: &Platform,
     tree: &Tree,
     times: u32,
-) -> Result<()> {
+) -> Result<(), Failure> {
     let claim = claim_of(alloc, platform, tree)?;
     let path = tree.path_of(tree.root())?;
     let text = certificate_of(alloc, platform, &path, &claim)?;
     let Ok(value) = Value::from_slice(alloc, &text) else {
-        return Err(failure("the certificate is no JSON value"));
+        return Err(Failure::NotJson);
     };
     for _ in 0..times {
         value.to_vec(alloc)?;

@@ -4,8 +4,7 @@ ghost use Rattle.std.specs.Prelude.{◌≡◌};
 ghost use Rattle.sysmem_room.specs.Counting.{all_parts};
 
 use super::tokens::{close_all, share_out, take_part};
-use crate::failure;
-use anyhow::Result;
+use crate::failure::Failure;
 use std::alloc::Global;
 use std::marker::Brand;
 use std::sync::atomic::{AtomicUsize, Ordering};
@@ -41,7 +40,7 @@ pub(crate) fn crowd_on<R: Threads + Wait + Clock + Sync>(
     platform: Platform,
     crowd: &Crowd<'_>,
     collections: u32,
-) -> Result<u64> {
+) -> Result<u64, Failure> {
     let allocator = Allocator::new(alloc, platform, NoGate)?;
     let mut all: u64 = 0;
     for _ in 0..collections {
@@ -57,13 +56,13 @@ fn gather<L: Ledger + Send + Sync, R: Threads + Wait + Clock + Sync>(
     allocator: &Allocator<NoGate>,
     blank: Blank,
     crowd: &Crowd<'_>,
-) -> Result<u64>
+) -> Result<u64, Failure>
     requires name { blank.name ≡ L.name }
     requires ledger { blank.parts ≡ L.parts }
     requires parts { blank.parts ≡ all_parts }
 {
     let Ok(mut root) = allocator.allocate_shared::<L>(blank) else {
-        return Err(failure("memory is refused to a collection"));
+        return Err(Failure::NoMemory);
     };
     let tokens = Mutex::new(share_out(rt, alloc, &mut root, PAIRS));
     let there = AtomicUsize::new(0);
@@ -79,11 +78,11 @@ fn gather<L: Ledger + Send + Sync, R: Threads + Wait + Clock + Sync>(
 }
 
 /// The longest of these times.
-fn longest(spent: &[Option<u64>]) -> Result<u64> {
+fn longest(spent: &[Option<u64>]) -> Result<u64, Failure> {
     let mut most = 0;
     for one in spent {
         let Some(nanos) = *one else {
-            return Err(failure("the clock can't be read"));
+            return Err(Failure::NoClock);
         };
         most = most.max(nanos);
     }

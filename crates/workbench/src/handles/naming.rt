@@ -65,11 +65,10 @@ pub(crate) fn put_call(
     call: &Call<'_>,
     reply: Reply,
 ) -> Result<(), AllocError> {
-    let act = name_of(&call.act);
-    let on = call.on;
-    write!(text, "{number} {act} {on}")?;
-    if let Some(name) = call.act.name_made() {
-        write!(text, " {name}")?;
+    let (act, on) = (name_of(&call.act), call.on);
+    match call.act.name_made() {
+        Some(name) => write!(text, "{number} {act} {on} {name}")?,
+        None => write!(text, "{number} {act} {on}")?,
     }
     reply.put(text)
 }

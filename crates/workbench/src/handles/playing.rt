@@ -11,7 +11,7 @@ use std::thread::Threads;
 use sysmem_tree::Refusal;
 
 /// Plays each call, with what it asks for, and puts its line after the text.
-pub(crate) fn play<L: Ledger, R: Threads + Wait + Sync>(
+pub(crate) fn play_calls<L: Ledger, R: Threads + Wait + Sync>(
     rt: &R,
     hands: &mut Vec<Hand<L>>,
     calls: &[Call<'_>],

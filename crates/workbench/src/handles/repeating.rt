@@ -7,8 +7,7 @@ use super::ending::end;
 use super::hand::Hand;
 use super::playing::{keep, make};
 use super::script::Asked;
-use crate::failure;
-use anyhow::Result;
+use crate::failure::Failure;
 use script_reading::{Act, Call};
 use std::alloc::{AllocError, Global};
 use std::marker::Brand;
@@ -31,7 +30,7 @@ pub(crate) fn repeat_handles<R: Threads + Wait + Sync>(
     asked: &[Asked],
     is_audited: bool,
     times: u32,
-) -> Result<()> {
+) -> Result<(), Failure> {
     let allocator = Allocator::new(alloc, platform, NoGate)?;
     for _ in 0..times {
         play_once::<Brand, R>(
@@ -57,14 +56,14 @@ fn play_once<L: Ledger, R: Threads + Wait + Sync>(
     calls: &[Call<'_>],
     asked: &[Asked],
     is_audited: bool,
-) -> Result<()>
+) -> Result<(), Failure>
     requires name { blank.name ≡ L.name }
     requires ledger { blank.parts ≡ L.parts }
     requires parts { blank.parts ≡ all_parts }
 {
     let stubs = Vec::with_capacity(alloc, 129)?;
     let Ok(root) = allocator.allocate_shared::<L>(blank) else {
-        return Err(failure("memory is refused to a collection"));
+        return Err(Failure::NoMemory);
     };
     let mut hands = Vec::new(alloc);
     let _room = hands.reserve(129);
@@ -78,7 +77,7 @@ fn play_once<L: Ledger, R: Threads + Wait + Sync>(
     }
     match audit(rt, left) {
         Ok(_found) => Ok(()),
-        Err((fault, _seen)) => Err(failure(fault.name())),
+        Err((fault, _seen)) => Err(Failure::Audit(fault)),
     }
 }
 

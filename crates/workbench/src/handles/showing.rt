@@ -58,9 +58,9 @@ fn put_shown<L: Ledger>(
 
 /// Puts ` chosen 1 count 2 size 4096 place ram#0 cpu image none checked` after the text.
 fn put_view(text: &mut String, view: &View<'_>) -> Result<(), AllocError> {
-    text.push_str(" chosen ")?;
     put_selection(text, view.selection().choices())?;
     put_settings(text, view.platform(), view.settings())?;
+    put_image(text, view.settings())?;
     let checked = check(
         view.platform(),
         view.tree(),
@@ -77,13 +77,12 @@ fn put_view(text: &mut String, view: &View<'_>) -> Result<(), AllocError> {
 
 fn put_selection(text: &mut String, choices: &[u8]) -> Result<(), AllocError> {
     if choices.is_empty() {
-        text.push_str("-")?;
+        return text.push_str(" chosen -");
     }
-    for (index, choice) in choices.iter().enumerate() {
-        if index > 0 {
-            text.push_str(".")?;
-        }
-        write!(text, "{choice}")?;
+    let mut before = " chosen ";
+    for choice in choices {
+        write!(text, "{before}{choice}")?;
+        before = ".";
     }
     Ok(())
 }
@@ -93,26 +92,29 @@ fn put_settings(
     platform: &Platform,
     settings: Settings,
 ) -> Result<(), AllocError> {
+    let Some(info) = platform.heaps().get(settings.place.heap) else {
+        return text.push_str(" of no heap");
+    };
     let (count, size) = (settings.count, settings.size_bytes);
-    write!(text, " count {count} size {size} place ")?;
-    if let Some(info) = platform.heaps().get(settings.place.heap) {
-        let (name, id) = (info.heap.heap_type.as_str(), info.heap.id);
-        write!(text, "{name}#{id}")?;
-    }
+    let (name, id) = (info.heap.heap_type.as_str(), info.heap.id);
     let coherency = settings.place.coherency.name();
-    write!(text, " {coherency} image ")?;
-    put_image(text, settings)
+    write!(
+        text,
+        " count {count} size {size} place {name}#{id} {coherency}"
+    )
 }
 
 fn put_image(text: &mut String, settings: Settings) -> Result<(), AllocError> {
     let Offer::Image(pair, colour) = settings.offer else {
-        return text.push_str("none");
+        return text.push_str(" image none");
     };
     let (format, modifier, colour) = (pair.format.name(), pair.modifier.name(), colour.name());
-    write!(text, "{format} {modifier} {colour}")?;
-    if let Ok(least) = corner(&settings.bounds, &settings.offer) {
-        let (width, height, row) = (least.width, least.height, least.bytes_per_row);
-        write!(text, " {width}x{height} row {row}")?;
-    }
-    Ok(())
+    let Ok(least) = corner(&settings.bounds, &settings.offer) else {
+        return write!(text, " image {format} {modifier} {colour}");
+    };
+    let (width, height, row) = (least.width, least.height, least.bytes_per_row);
+    write!(
+        text,
+        " image {format} {modifier} {colour} {width}x{height} row {row}"
+    )
 }

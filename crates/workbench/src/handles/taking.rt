@@ -7,8 +7,7 @@ ghost use Rattle.sysmem_room.specs.Counting.{all_parts};
 
 use super::script::Asked;
 use super::tokens::{close_all, share_out, take_part};
-use crate::failure;
-use anyhow::Result;
+use crate::failure::Failure;
 use std::alloc::{AllocError, Global};
 use std::marker::Brand;
 use std::sync::ledger::{Blank, Ledger};
@@ -42,7 +41,7 @@ pub(crate) fn take_again<R: Threads + Wait + Sync>(
     platform: Platform,
     asked: &[Arc<Constraints>],
     times: u32,
-) -> Result<()> {
+) -> Result<(), Failure> {
     let allocator = Allocator::new(alloc, platform, NoGate)?;
     for _ in 0..times {
         take_once::<Brand, R>(rt, alloc, &allocator, Blank::new(129), asked)?;
@@ -56,13 +55,13 @@ fn take_once<L: Ledger, R: Threads + Wait + Sync>(
     allocator: &Allocator<NoGate>,
     blank: Blank,
     asked: &[Arc<Constraints>],
-) -> Result<()>
+) -> Result<(), Failure>
     requires name { blank.name ≡ L.name }
     requires ledger { blank.parts ≡ L.parts }
     requires parts { blank.parts ≡ all_parts }
 {
     let Ok(mut root) = allocator.allocate_shared::<L>(blank) else {
-        return Err(failure("memory is refused to a collection"));
+        return Err(Failure::NoMemory);
     };
     let mut tokens = share_out(rt, alloc, &mut root, asked.len());
     tokens.reverse();

@@ -1,37 +1,38 @@
 //! Actions as words, and how the domains stand.
 
-use crate::failure;
-use anyhow::Result;
+use crate::failure::Failure;
 use serde_json::Value;
 use std::alloc::{AllocError, Global};
 use std::sync::Arc;
 use sysmem_sanitise::{Constraints, read_constraints};
 use sysmem_tree::{Action, Fate, Tree};
 
-/// The action of this word, if it is one. Constraints are those of a participant with the usage
-/// cpu; `set_none` sets none.
-pub(super) fn action_of(alloc: Global, word: &str) -> Result<Option<Action>> {
-    Ok(Some(match word {
+/// The action of this word. Constraints are those of a participant with the usage cpu; `set_none`
+/// sets none.
+pub(super) fn action_of(alloc: Global, word: &str) -> Result<Action, Failure> {
+    Ok(match word {
         "duplicate" => Action::Duplicate,
         "create_group" => Action::CreateGroup,
         "bind" => Action::Bind,
         "create_child" => Action::CreateChild,
         "all_children_present" => Action::AllChildrenPresent,
         "attach_token" => Action::AttachToken,
-        "set_constraints" => Action::SetConstraints(Some(Arc::new(alloc, cpu(alloc)?)?)),
+        "set_constraints" => Action::SetConstraints(Some(cpu(alloc)?)),
         "set_none" => Action::SetConstraints(None),
         "release" => Action::Release,
         "close" => Action::Close,
-        _ => return Ok(None),
-    }))
+        _ => return Err(Failure::NoSuchWord),
+    })
 }
 
-fn cpu(alloc: Global) -> Result<Constraints> {
-    let record: Value = serde_json::from_str(alloc, r#"{"usage":["cpu"]}"#)?;
-    match read_constraints(alloc, &record) {
-        Ok(constraints) => Ok(constraints),
-        Err(_) => Err(failure("the constraints are refused")),
-    }
+fn cpu(alloc: Global) -> Result<Arc<Constraints>, Failure> {
+    let Ok(record) = Value::from_str(alloc, r#"{"usage":["cpu"]}"#) else {
+        return Err(Failure::NotJson);
+    };
+    let Ok(constraints) = read_constraints(alloc, &record) else {
+        return Err(Failure::Constraints);
+    };
+    Ok(Arc::new(alloc, constraints)?)
 }
 
 /// Writes after a text how each domain stands.
@@ -39,7 +40,7 @@ pub(super) fn push_domains(text: &mut String, tree: &Tree) -> Result<(), AllocEr
     text.push(' ')?;
     for index in 0..tree.domain_count() {
         let Some(domain) = tree.domain_at(index) else {
-            continue;
+            break;
         };
         text.push(match tree.fate(domain) {
             Fate::Undecided if tree.is_ready(domain) => 'r',

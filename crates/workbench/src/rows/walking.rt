@@ -6,9 +6,8 @@ ghost use Rattle.sysmem_tree.specs.Forest.{Forest};
 ghost use Rattle.sysmem_tree.specs.Node.{NodeFacts};
 ghost use Rattle.sysmem_tree.specs.OpenGroups.{HasChild, HasLeft, HoldsNodes, IsChildPlace, IsFirstOpen};
 
-use super::paths::push_path;
-use crate::failure;
-use anyhow::Result;
+use super::nodes::push_node;
+use crate::failure::Failure;
 use std::alloc::AllocError;
 use sysmem_tree::{
     ChildPlace, DomainId, GroupPlace, Layout, MOST_NODES, Prefix, SettledNodes, Tree,
@@ -16,7 +15,12 @@ use sysmem_tree::{
 
 /// What no choice settles, and then what each choice of the prefix does, in pre-order; after each
 /// the group that is open then.
-pub(super) fn walk(text: &mut String, tree: &Tree, domain: DomainId, prefix: &Prefix) -> Result<()>
+pub(super) fn walk(
+    text: &mut String,
+    tree: &Tree,
+    domain: DomainId,
+    prefix: &Prefix,
+) -> Result<(), Failure>
     requires { HasDomain tree.now.nodes domain }
 {
     let layout = tree.layout(domain);
@@ -25,7 +29,7 @@ pub(super) fn walk(text: &mut String, tree: &Tree, domain: DomainId, prefix: &Pr
     let mut open = layout.first_open();
     for choice in prefix.choices() {
         let Some(group) = open else {
-            return Err(failure("no group is left"));
+            return Err(Failure::NoGroup);
         };
         push_group(text, tree, &layout, group)?;
         let child = child(&layout, group, *choice)?;
@@ -54,8 +58,7 @@ fn push_nodes(
         let Some(node) = layout.next_settled(&mut walk) else {
             break;
         };
-        text.push(' ')?;
-        push_path(text, &tree.path_of(node)?)?;
+        push_node(text, tree, node)?;
     }
     Ok(())
 }
@@ -71,13 +74,13 @@ fn push_group(
     requires nodes { HoldsNodes layout.now tree.now.nodes }
 {
     let (node, children) = layout.group_at(group);
-    text.push_str(", group ")?;
-    push_path(text, &tree.path_of(node)?)?;
+    text.push_str(", group")?;
+    push_node(text, tree, node)?;
     write!(text, " of {children}:")
 }
 
 /// A child of an open group; an error where it has no such child.
-fn child(layout: &Layout, group: GroupPlace, choice: u8) -> Result<ChildPlace>
+fn child(layout: &Layout, group: GroupPlace, choice: u8) -> Result<ChildPlace, Failure>
     requires { (d : Forest ℕ) × (cs : List ℕ) × IsFirstOpen layout.now d cs (Some group) }
     ensures there { IfOk result (λ child. HasChild layout.now child) }
     ensures child { IfOk result (λ child. (d : Forest ℕ) (cs : List ℕ)
@@ -85,7 +88,7 @@ fn child(layout: &Layout, group: GroupPlace, choice: u8) -> Result<ChildPlace>
 {
     let (_, children) = layout.group_at(group);
     if u32::from(choice) >= children {
-        return Err(failure("no such child"));
+        return Err(Failure::NoChild);
     }
     Ok(layout.child_at(group, choice))
 }

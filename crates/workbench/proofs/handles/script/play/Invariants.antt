@@ -1,4 +1,4 @@
-use Rattle.workbench.proofs.handles.script.Played.play.Given as goal
+use Rattle.workbench.proofs.handles.script.play.Given as goal
 
 abbrev pub ghosts-play_on : goal.ghosts-play_on
 ghosts-play_on g a = record { name = a.blank.name; parts = a.blank.parts }

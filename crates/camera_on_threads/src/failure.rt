@@ -1,0 +1,44 @@
+//! Why there is nothing to tell.
+
+use std::alloc::{AllocError, AllocFailed};
+use std::io;
+use sysmem_participants::AuditFault;
+use sysmem_sanitise::Fault;
+
+/// Why there is nothing to tell. It owns nothing, so that nothing has to be freed where it is
+/// passed on.
+#[derive(Clone, Copy, Debug)]
+pub(crate) enum Failure {
+    NoMemory,
+    /// A record is no JSON.
+    NotJson,
+    /// A record isn't a platform's, or no constraints.
+    Record(Fault),
+    Audit(AuditFault),
+    /// Nothing can be printed.
+    Output,
+}
+
+impl From<AllocError> for Failure {
+    fn from(_error: AllocError) -> Failure {
+        Failure::NoMemory
+    }
+}
+
+impl<T: Drop> From<AllocFailed<T>> for Failure {
+    fn from(_refused: AllocFailed<T>) -> Failure {
+        Failure::NoMemory
+    }
+}
+
+impl From<Fault> for Failure {
+    fn from(fault: Fault) -> Failure {
+        Failure::Record(fault)
+    }
+}
+
+impl From<io::Error> for Failure {
+    fn from(_error: io::Error) -> Failure {
+        Failure::Output
+    }
+}
