@@ -5,8 +5,8 @@ use std::io;
 use sysmem_participants::AuditFault;
 use sysmem_sanitise::Fault;
 
-/// Why there is nothing to tell. It owns nothing, so that nothing has to be freed where it is
-/// passed on.
+/// Why there is nothing to tell. It owns nothing: else each `?` that passes it on is proved to free
+/// it.
 #[derive(Clone, Copy, Debug)]
 pub(crate) enum Failure {
     NoMemory,

@@ -4,8 +4,7 @@ use std::alloc::{AllocError, AllocFailed};
 use std::{fmt, io};
 use sysmem_participants::AuditFault;
 
-/// Why a part can't be done. It owns nothing, so that nothing has to be freed where it is passed on,
-/// which each `?` would have to prove.
+/// Why a part can't be done. It owns nothing: else each `?` that passes it on is proved to free it.
 #[derive(Clone, Copy)]
 pub(crate) enum Failure {
     Usage,

@@ -1,4 +1,5 @@
--- A ready domain of which nothing became may be decided for none, and for a prefix behind which no group is next.
+-- A ready domain of which nothing became may be decided for none, and for a prefix behind which no
+-- group is next.
 use Rattle.std.proofs.Common.{◌≡◌, ◌∙◌, ℕ, false, [], Option, Some, None, refl, sym, subst}
 use Rattle.std.specs.Prelude.{IfSome, is_some}
 use Rattle.sysmem_tree.specs.Forest.{Forest, first_group}
