@@ -40,6 +40,14 @@ const RELEASED: &str =
 const ACCEPTED_ASKS_LESS: &str =
     "/ duplicate duplicate release /0 bind camps_on_2 /1 bind camps_on_3 decide /0 attach_token /0/0 bind camps_on_1 decide /1 attach_token /1/0 duplicate duplicate release /1/0/1 bind cpu /1/0/0 bind camps_on_1 /0 release";
 
+// Two participants who need 8 buffers, as in the worked row `slack`, before their decision and after
+// it.
+const SLACK: &str =
+    "/ duplicate duplicate release /0 bind camps_on_2_and_slack /1 bind camps_on_3_and_slack";
+
+const SLACK_DECIDED: &str =
+    "/ duplicate duplicate release /0 bind camps_on_2_and_slack /1 bind camps_on_3_and_slack decide";
+
 fn is_fitting(
     rt: &impl Abort,
     alloc: Global,
@@ -88,4 +96,10 @@ fn which_books_of_an_attached_domain_fit(rt: HostRuntime) -> Result<(), Fail> {
     let frozen = frozen_after(rt.alloc(), RELEASED)?;
     let other = [ACCEPTED_ASKS_LESS, FROZEN];
     fits_these_alone(&rt, rt.alloc(), &frozen, &[RELEASED], &other)
+}
+
+#[test]
+fn the_book_of_slack_fits_until_it_is_decided(rt: HostRuntime) -> Result<(), Fail> {
+    let frozen = frozen_after(rt.alloc(), SLACK)?;
+    fits_these_alone(&rt, rt.alloc(), &frozen, &[SLACK], &[SLACK_DECIDED])
 }

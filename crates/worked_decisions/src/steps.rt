@@ -10,6 +10,11 @@ use sysmem_tree::Action;
 const PLATFORM: &str =
     r#"{"heaps":[{"heap_type":"ram","domains":["cpu","ram"]},{"heap_type":"cma","contiguous":true,"domains":["cpu","ram"]},{"heap_type":"vault","contiguous":true,"secure":true,"domains":["inaccessible"]}],"pairs":[{"pixel_format":"B8G8R8A8"},{"pixel_format":"B8G8R8A8","pixel_format_modifier":"INTEL_I915_X_TILED"},{"pixel_format":"NV12"},{"pixel_format":"R8"},{"pixel_format":"R8G8B8A8"}],"color_spaces":["SRGB","REC709"]}"#;
 
+// Eight pairs and eight colour spaces: with them a search through 4,096 selections takes so long
+// that it is shared.
+const MANY_OFFERS: &str =
+    r#"{"heaps":[{"heap_type":"ram","domains":["cpu"]}],"pairs":[{"pixel_format":"R8G8B8A8"},{"pixel_format":"B8G8R8A8"},{"pixel_format":"R8G8B8"},{"pixel_format":"B8G8R8"},{"pixel_format":"R5G6B5"},{"pixel_format":"R8G8"},{"pixel_format":"R8"},{"pixel_format":"NV12"}],"color_spaces":["SRGB","REC601_NTSC","REC601_NTSC_FULL_RANGE","REC601_PAL","REC601_PAL_FULL_RANGE","REC709","REC2020","REC2100"]}"#;
+
 // What participants ask for, by the words for it.
 const ASKED: &[(&str, &str)] = &[
     (
@@ -63,15 +68,28 @@ const ASKED: &[(&str, &str)] = &[
         r#"{"usage":["cpu"],"min_buffer_count_for_camping":3,"min_buffer_count_for_dedicated_slack":1,"min_buffer_count_for_shared_slack":2,"min_buffer_count":9}"#,
     ),
     (
+        "camps_on_3_and_slack",
+        r#"{"usage":["cpu"],"min_buffer_count_for_camping":3,"min_buffer_count_for_dedicated_slack":1,"min_buffer_count_for_shared_slack":2}"#,
+    ),
+    (
         "camps_on_40",
         r#"{"usage":["cpu"],"min_buffer_count_for_camping":40}"#,
     ),
 ];
 
+fn platform_of(alloc: Global, text: &str) -> Result<Platform, Fail> {
+    let record = Value::from_str(alloc, text)?;
+    Ok(read_platform(alloc, &record)?)
+}
+
 /// The platform of all scripts: three heaps, five pairs, two colour spaces.
 pub(crate) fn platform(alloc: Global) -> Result<Platform, Fail> {
-    let record = Value::from_str(alloc, PLATFORM)?;
-    Ok(read_platform(alloc, &record)?)
+    platform_of(alloc, PLATFORM)
+}
+
+/// A platform of many offers, for which a search is long.
+pub(crate) fn large_platform(alloc: Global) -> Result<Platform, Fail> {
+    platform_of(alloc, MANY_OFFERS)
 }
 
 fn record_for(word: &str) -> Option<&'static str> {

@@ -3,11 +3,13 @@
 ghost use Rattle.std.specs.Prelude.{◌≡◌};
 ghost use Rattle.sysmem_room.specs.Counting.{all_parts};
 
-use super::handling::{accepted, bound, child, closed, counted, released, root, waits_for};
+use super::handling::{
+    accepted, bound, child, closed, counted, released, released_group, root, waits_for,
+};
 use super::slots::{emptied, take_part};
 use crate::equal::is_equal;
 use crate::gate::{Held, Meeting, comes, fresh};
-use crate::steps::{asked, platform};
+use crate::steps::{asked, large_platform, platform};
 use std::alloc::Global;
 use std::marker::Brand;
 use std::process::Abort;
@@ -18,7 +20,7 @@ use std::test::Fail;
 use std::thread;
 use std::thread::Threads;
 use std::time::Clock;
-use sysmem_participants::{Allocator, Audit, AuditFault, Collection, Stub};
+use sysmem_participants::{Allocator, Audit, AuditFault, Collection, Stub, Token};
 use sysmem_sanitise::Constraints;
 use sysmem_search::Gate;
 use sysmem_tree::Refusal;
@@ -200,10 +202,7 @@ fn choose<L: Ledger, G: Gate + Drop + Sync, R: Threads + Wait + Abort + Sync>(
     let b = accepted(rt, "create_child", group.create_child(rt));
     is_equal(rt, "complete", &group.all_children_present(rt), &Ok(()));
     let root = released(rt, root);
-    let group = match group.release(rt) {
-        Ok(stub) => stub,
-        Err(_refused) => panic!(rt; "release is refused"),
-    };
+    let group = released_group(rt, group);
     let mut a = bound(rt, a, Arc::try_clone(first).ok());
     let mut b = bound(rt, b, Arc::try_clone(second).ok());
     waits_for(rt, &mut a, 3);
@@ -231,4 +230,61 @@ fn is_decided_by_two<R: Threads + Wait + Abort + Clock + Sync>(
 #[test]
 fn two_workers_take_a_decision(rt: HostRuntime) -> Result<(), Fail> {
     is_decided_by_two(&rt, rt.alloc())
+}
+
+// A group of two tokens, who ask for nothing.
+fn add_group<L: Ledger, G: Gate + Drop + Sync, R: Threads + Wait + Abort + Sync>(
+    rt: &R,
+    root: &mut Token<L, G>,
+) {
+    let mut group = accepted(rt, "create_group", root.create_group(rt));
+    let a = accepted(rt, "create_child", group.create_child(rt));
+    let b = accepted(rt, "create_child", group.create_child(rt));
+    is_equal(rt, "complete", &group.all_children_present(rt), &Ok(()));
+    let _a = released(rt, a);
+    let _b = released(rt, b);
+    let _group = released_group(rt, group);
+}
+
+// Twelve groups of two, which have 4,096 selections, and a root that camps on two buffers.
+fn choose_of_many<L: Ledger, G: Gate + Drop + Sync, R: Threads + Wait + Abort + Sync>(
+    rt: &R,
+    allocator: &Allocator<G>,
+    blank: Blank,
+    asked: &Arc<Constraints>,
+)
+    requires name { blank.name ≡ L.name }
+    requires ledger { blank.parts ≡ L.parts }
+    requires parts { blank.parts ≡ all_parts }
+{
+    let mut root = root::<L, G>(rt, allocator, blank);
+    for _group in 0..12 {
+        add_group(rt, &mut root);
+    }
+    let mut root = bound(rt, root, Arc::try_clone(asked).ok());
+    waits_for(rt, &mut root, 2);
+    let _root = closed(rt, root);
+}
+
+fn is_long_for_one<R: Threads + Wait + Abort + Clock + Sync>(
+    rt: &R,
+    alloc: Global,
+) -> Result<(), Fail> {
+    let held = fresh();
+    let gate = Meeting {
+        clock: rt,
+        held: &held,
+        wanted: 2,
+    };
+    let asked = asked(alloc, "camps_on_2")?;
+    let allocator = Allocator::new(alloc, large_platform(alloc)?, gate)?;
+    choose_of_many::<Brand, Meeting<'_, R>, R>(rt, &allocator, Blank::new(129), &asked);
+    is_equal(rt, "held in vain", &held.in_vain.load(Ordering::SeqCst), &0);
+    Ok(())
+}
+
+// Who doesn't say how many workers there are has two where a search is long.
+#[test]
+fn two_workers_take_a_long_decision(rt: HostRuntime) -> Result<(), Fail> {
+    is_long_for_one(&rt, rt.alloc())
 }

@@ -9,7 +9,9 @@ use std::process::Abort;
 use std::sync::ledger::{Blank, Ledger};
 use std::sync::{Arc, Wait};
 use std::thread::Threads;
-use sysmem_participants::{Allocator, Audit, AuditFault, Collection, Stub, Token, View, audit};
+use sysmem_participants::{
+    Allocator, Audit, AuditFault, Collection, Group, Stub, Token, View, audit,
+};
 use sysmem_proof::check;
 use sysmem_sanitise::Constraints;
 use sysmem_search::Gate;
@@ -77,6 +79,17 @@ pub(crate) fn released<L: Ledger, G: Gate + Drop + Sync, R: Threads + Wait + Abo
     token: Token<L, G>,
 ) -> Stub<L> {
     match token.release(rt) {
+        Ok(stub) => stub,
+        Err(_refused) => panic!(rt; "release is refused"),
+    }
+}
+
+/// What is left of a group that is released.
+pub(crate) fn released_group<L: Ledger, G: Gate + Drop + Sync, R: Threads + Wait + Abort + Sync>(
+    rt: &R,
+    group: Group<L, G>,
+) -> Stub<L> {
+    match group.release(rt) {
         Ok(stub) => stub,
         Err(_refused) => panic!(rt; "release is refused"),
     }
