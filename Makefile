@@ -5,7 +5,8 @@ FILE ?= examples/one_participant.json
 # is made by one process, which takes about a third less processor time than several.
 JOBS ?= $(shell awk -v n=$$(nproc) '/^MemAvailable/ { m = int($$2 / 4000000); print m < 1 ? 1 : m < n ? m : n }' /proc/meminfo)
 
-.PHONY: run proved test program-test wrong-bodies bench lib install lib-test
+.PHONY: run proved test program-test wrong-bodies shown-by-test threads-often bench lib install \
+	lib-test
 
 # Runs a script: with the proved program where `make proved` has built it, else without proving.
 run:
@@ -63,6 +64,16 @@ lib-test:
 # functions that they change are checked, and the crates below it are built.
 wrong-bodies:
 	tests/wrong_bodies
+
+# Wrong bodies that no clause refuses, each of which the test that its file names must show. Each is
+# built without proof, for a minute or more.
+shown-by-test:
+	tests/shown_by_test
+
+# Scripts on threads, each row a thousand times, and two thousand random ones. With `--oracle FILE`
+# these are compared with another implementation, and `--valgrind` plays rows under its tools.
+threads-often: proved
+	tests/threads_often
 
 # Times the proved program beside the reading of the same bytes as a JSON value, and calls on
 # small and large trees; counts instructions of runs, certificates and checks.
