@@ -3,6 +3,7 @@ use Rattle.std.proofs.Common.{◌≡◌, ◌≢◌, ◌∙◌, ℕ, Bool, true, 
 use Rattle.std.specs.Prelude.{OnErr, OnOk, is_some, if◌then◌else◌}
 use Rattle.std.proofs.lemmas.List.{length-append}
 use Rattle.std.proofs.lemmas.Option.{same_Some}
+use Rattle.sysmem_alloc.specs.Book.{BookFacts}
 use Rattle.sysmem_tree.specs.declared.action.ActionKind.{ActionKind}
 use Rattle.sysmem_tree.specs.declared.action.ActionKind.TheVariants as kinds
 use Rattle.sysmem_tree.specs.declared.refusal.Refusal.{Refusal}
@@ -14,7 +15,7 @@ use Rattle.sysmem_tree.specs.Step.{shown_after, shown_after_all}
 use Rattle.sysmem_tree.specs.Table.{allows, makes, state_after, wants_child}
 use Rattle.sysmem_room.specs.declared.outcome.Outcome.{Outcome}
 use Rattle.sysmem_room.specs.Log.{LogFacts, log_refusal, shown_by}
-use Rattle.sysmem_room.specs.Refusals.{IsAnswer, IsUnforeseen, due, first_of, outcome_refusal}
+use Rattle.sysmem_room.specs.Refusals.{IsAnswer, IsDisputed, IsUnforeseen, due, first_of, outcome_refusal}
 
 -- such an action makes no node
 makes_none : (kind : ActionKind) → ends_node kind ≡ true → is_some (makes kind) ≡ true → ⊥
@@ -90,6 +91,11 @@ was_strange refusals.ConstraintsIntersectionEmpty answer one two is = let wrong 
 was_strange refusals.TooManyGroupChildCombinations answer one two is = let wrong : refusals.TooManyGroupChildCombinations ≡ refusals.WrongState = one (λ same. absurd (cc)) in absurd (cc)
 was_strange refusals.Pending answer one two is = let wrong : refusals.Pending ≡ refusals.WrongState = one (λ same. absurd (cc)) in absurd (cc)
 was_strange refusals.Strange answer one two is = refl
+
+-- and of what ends a node they never disagree for what the book's decision left out
+pub undisputed : (b : BookFacts) (path : List ℕ) (s : NodeState) (known : Option Outcome) (kind : ActionKind) (i : ℕ) → ends_node kind ≡ true → IsDisputed b path s known kind i → ⊥
+undisputed b path s None kind i ends disputed = disputed
+undisputed b path s (Some o) kind i ends (stays, _, _) = absurd (cc)
 
 -- one that doesn't end its node leaves it open
 stays_open : (kind : ActionKind) (s : NodeState) → ends_node kind ≡ false → s.is_open ≡ true → (state_after kind s).is_open ≡ true

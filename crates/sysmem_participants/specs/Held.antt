@@ -12,7 +12,7 @@ use Rattle.sysmem_tree.specs.Path.{Shown}
 use Rattle.sysmem_tree.specs.Step.{shown_after_all}
 use Rattle.sysmem_room.specs.Agreeing.{IsOwn}
 use Rattle.sysmem_room.specs.Log.{LogFacts, begun_as}
-use Rattle.sysmem_room.specs.Refusals.{IsDisputed, MayAnswer, due}
+use Rattle.sysmem_room.specs.Refusals.{MayAnswer, due}
 use Rattle.sysmem_room.specs.declared.outcome.Outcome.{Outcome}
 
 -- its node's path, how the node began, the accepted actions on it, its domain's cell and what it
@@ -92,10 +92,9 @@ abbrev pub log_of : Held → LogFacts
 log_of h = record { begun = h.begun; deeds = h.deeds; places = 0 }
 
 -- a handle that saw this in its cell and a book disagree: the book has no node that is the handle's
--- own, or left it out though by what was seen it is a member
+-- own
 abbrev pub IsStrangeTo : BookFacts → Held → Option Outcome → Type 0
-IsStrangeTo b h seen = (node : ℕ) → IsOwn b h.path (log_of h) seen node
-    → IsDisputed b h.path seen node
+IsStrangeTo b h seen = (node : ℕ) → IsOwn b h.path (log_of h) seen node → ⊥
 
 -- the same but for what it knows of the cell
 abbrev pub IsSameBut : Held → Held → Type 0

@@ -59,7 +59,8 @@ fn enter<L: Ledger, G: Gate + Drop + Sync, R: Threads + Wait + Sync>(
         (option_map (λ o. o.now) known.entry) (deed_of action)) }
     ensures strange { IfErr result.0 (λ refusal. refusal ≡ Refusal.Strange → (node : ℕ)
         → IsOwn result.1.found path.now log.old (option_map (λ o. o.now) known.entry) node
-        → IsDisputed result.1.found path.now (option_map (λ o. o.now) known.entry) node) }
+        → IsDisputed result.1.found path.now (shown_by log.old).state
+        (option_map (λ o. o.now) known.entry) (kind_of (deed_of action)) node) }
     ensures foreseen { OnOk result.0 (due (option_map (λ o. o.now) known.entry) path.now
         (shown_by log.old).state (kind_of (deed_of action)) ≡ None) }
     ensures answers { IfErr result.0 (λ refusal. refusal ≢ Refusal.Strange

@@ -5,7 +5,7 @@ ghost use Rattle.sysmem_participants.specs.Held.{AnswersAtEnd, IsStrangeTo, MayE
 ghost use Rattle.sysmem_room.specs.Agreeing.{IsOwn};
 ghost use Rattle.sysmem_room.specs.Entering.{HasEntered};
 ghost use Rattle.sysmem_room.specs.Log.{shown_by};
-ghost use Rattle.sysmem_room.specs.Refusals.{IsDisputed, due};
+ghost use Rattle.sysmem_room.specs.Refusals.{due};
 ghost use Rattle.sysmem_tree.specs.ActionKind.{closes, deed_of, ends_node, kind_of, releases};
 ghost use Rattle.sysmem_tree.specs.Table.{makes_root};
 
@@ -59,8 +59,7 @@ fn end<L: Ledger, G: Gate + Drop + Sync, R: Threads + Wait + Sync>(
         map deed_of actions.items ≡ log.deeds ++ deed_of action ∷ []) }
     ensures back { IfErr result.0 (λ refused. refused.0 ≡ log) }
     ensures strange { IfErr result.0 (λ refused. refused.1 ≡ Refusal.Strange → (node : ℕ)
-        → IsOwn result.1.found path.now log (option_map (λ o. o.now) known.entry) node
-        → IsDisputed result.1.found path.now (option_map (λ o. o.now) known.entry) node) }
+        → IsOwn result.1.found path.now log (option_map (λ o. o.now) known.entry) node → ⊥) }
     ensures foreseen { OnOk result.0 (due (option_map (λ o. o.now) known.entry) path.now
         (shown_by log).state (kind_of (deed_of action)) ≡ None) }
     ensures answers { IfErr result.0 (λ refused. refused.1 ≢ Refusal.Strange

@@ -48,7 +48,8 @@ pub(crate) fn in_hold<L: Ledger, R: Wait>(
         × IsOwn result.1.found path.now log.now (option_map (λ o. o.now) known.entry) node) }
     ensures strange { IfErr result.0 (λ refusal. refusal ≡ Refusal.Strange → (node : ℕ)
         → IsOwn result.1.found path.now log.now (option_map (λ o. o.now) known.entry) node
-        → IsDisputed result.1.found path.now (option_map (λ o. o.now) known.entry) node) }
+        → IsDisputed result.1.found path.now (shown_by log.now).state
+        (option_map (λ o. o.now) known.entry) (kind_of (deed_of action)) node) }
     ensures told { IfErr result.0 (λ refusal. refusal ≢ Refusal.Strange
         → due (option_map (λ o. o.now) known.entry) path.now (shown_by log.now).state
         (kind_of (deed_of action)) ≡ None → IsRefusedByBook result.1.found path.now log.now

@@ -89,14 +89,10 @@ open_to true true refusal none by = refl
 open_to false ends refusal none by = refl
 open_to true false refusal none by = by none
 
-unless_ends : (ends : Bool) (refusal : Option Refusal) → ◌≡◌ {A = Option Refusal} (if ends then None else refusal) None → ends ≡ false → refusal ≡ None
-unless_ends true refusal none is = absurd (cc)
-unless_ends false refusal none is = none
-
 refused_at : (b : BookFacts) (i : ℕ) (deed : Deed) (r : Refusal) (s : NodeState) (o : Outcome) (path : List ℕ) (found : Option NodeFacts) → AgreesWithTree b.platform b.state
     → slice_get b.state.tree.nodes i ≡ found → HasNode b.state.tree.nodes i → IfSome found (λ n. n.state ≡ s)
     → option_and_then (λ n. verdict_of b.state n.domain) found ≡ Some (verdict_by o) → due (Some o) path s (kind_of deed) ≡ None → applied_at b.state.tree i deed found ≡ Err r
-    → ((outcome_refusal o path ≡ None) × IfSome found (λ n. n.is_left_out ≡ true)) ⊎ IsUnforeseen (Some o) (kind_of deed) r
+    → ((ends_node (kind_of deed) ≡ false) × IfSome found (λ n. n.is_left_out ≡ true)) ⊎ IsUnforeseen (Some o) (kind_of deed) r
 refused_at b i deed r s o path None agrees here there same known none is = absurd (not_past b.state.tree.nodes i there here)
 refused_at b i deed r s o path (Some n) agrees here there same known none is =
     let (unknown, unlogged) = both_none (if ends_node (kind_of deed) then None else outcome_refusal o path) (log_refusal s (kind_of deed)) none in
@@ -108,7 +104,7 @@ refused_at b i deed r s o path (Some n) agrees here there same known none is =
     (makes_one (is_some (makes (kind_of deed))) (nat_le (length b.state.tree.nodes + 1) 128)) is) [
       | inl out ↦
           let (is_out, stays) = left_out n.is_left_out (ends_node (kind_of deed)) out in
-          inl (unless_ends (ends_node (kind_of deed)) (outcome_refusal o path) unknown stays, is_out)
+          inl (stays, is_out)
       | inr late ↦ inr late
     ]
 
@@ -117,16 +113,16 @@ pub agrees_of : LegalAgrees → (b : BookFacts) → IsBook b → AgreesWithTree 
 agrees_of law b is = subst (λ (s : State). AgreesWithTree b.platform s) (sym is.replayed) (law b.platform b.history is.legal)
 
 -- where the two are told to disagree by the book's refusal of what neither the log nor what is known refuses, a verdict is known by which the node is a
--- member, and the book left it out
+-- member, the book left it out, and the action doesn't end it
 pub strange_disputes : (b : BookFacts) (path : List ℕ) (s : NodeState) (deed : Deed) (r answer : Refusal) (known : Option Outcome) (i j : ℕ) → AgreesWithTree b.platform b.state
     → HasNode b.state.tree.nodes i → IfSome (slice_get b.state.tree.nodes i) (λ n. n.state ≡ s) → IsKnown b i known → node_at b.state.tree.nodes path ≡ Some i → node_at b.state.tree.nodes path ≡ Some j
-    → due known path s (kind_of deed) ≡ None → applied b.state.tree i deed ≡ Err r → (IsUnforeseen known (kind_of deed) r → answer ≡ r) → answer ≡ Strange → IsDisputed b path known j
+    → due known path s (kind_of deed) ≡ None → applied b.state.tree i deed ≡ Err r → (IsUnforeseen known (kind_of deed) r → answer ≡ r) → answer ≡ Strange → IsDisputed b path s known (kind_of deed) j
 strange_disputes b path s deed r answer None i j agrees there same known at also none is answers strange =
     let late = refused_unforeseen b.state.tree i deed r s there same none is in
     absurd (subst (IsUnforeseen None (kind_of deed)) (sym (answers late) ∙ strange) late)
 strange_disputes b path s deed r answer (Some o) i j agrees there same known at also none is answers strange =
     elim (refused_at b i deed r s o path (slice_get b.state.tree.nodes i) agrees refl there same known none is) [
-      | inl disputed ↦ subst (IsDisputed b path (Some o)) (same_Some i j (sym at ∙ also)) disputed
+      | inl (stays, is_out) ↦ subst (IsDisputed b path s (Some o) (kind_of deed)) (same_Some i j (sym at ∙ also)) (stays, none, is_out)
       | inr late ↦ absurd (subst (IsUnforeseen (Some o) (kind_of deed)) (sym (answers late) ∙ strange) late)
     ]
 

@@ -73,9 +73,10 @@ MayAnswer (Some q) None act DomainFailed = Unit {0}
 MayAnswer (Some q) None act NotSelected = Unit {0}
 MayAnswer (Some q) known act r = r ≡ q
 
--- node i is a member by the verdict that its handle knows, and the book's decision left it out
-abbrev pub IsDisputed : BookFacts → List ℕ → Option Outcome → ℕ → Type 0
-IsDisputed b path None i = ⊥
-IsDisputed b path (Some o) i =
-    (outcome_refusal o path ≡ None)
+-- nothing that the handle of node i knows refuses an action that doesn't end the node: by the verdict
+-- that it knows the node is a member; but the book's decision left it out
+abbrev pub IsDisputed : BookFacts → List ℕ → NodeState → Option Outcome → ActionKind → ℕ → Type 0
+IsDisputed b path state None act i = ⊥
+IsDisputed b path state (Some o) act i =
+    (ends_node act ≡ false) × (due (Some o) path state act ≡ None)
     × IfSome (slice_get b.state.tree.nodes i) (λ n. n.is_left_out ≡ true)

@@ -257,8 +257,8 @@ impl<L: Ledger> Room<L> {
     /// verdict, as `enter` does. It is refused with `Strange` where the book has no node at the
     /// path that was made as the log says, other actions there than the log, or another verdict
     /// than the one that is known; else with what is due by what the handle knows; else with what
-    /// the book refuses it for, which the handle can't foresee, or with `Strange` where the
-    /// handle's verdict has its node as a member, and the book left it out.
+    /// the book refuses it for, which the handle can't foresee, or, unless it ends the node, with
+    /// `Strange` where the handle's verdict has its node as a member, and the book left it out.
     pub fn act(
         &mut self,
         path: &[u32],
@@ -273,11 +273,16 @@ impl<L: Ledger> Room<L> {
         ensures entered { OnOk result ((node : ℕ)
             × IsOwn self.old path.now log.now (option_map (λ o. o.now) known.entry) node
             × (self.new ≡ entered self.old (Acted node (deed_of action)))) }
+        ensures accepted { IfOk result (λ done. (node : ℕ)
+            × IsOwn self.old path.now log.now (option_map (λ o. o.now) known.entry) node
+            × (applied self.old.state.tree node (deed_of action)
+            ≡ Ok (record { tree = self.new.state.tree; node = done.node }))) }
         ensures own { IfErr result (λ refusal. refusal ≢ Refusal.Strange → (node : ℕ)
             × IsOwn self.old path.now log.now (option_map (λ o. o.now) known.entry) node) }
         ensures strange { IfErr result (λ refusal. refusal ≡ Refusal.Strange → (node : ℕ)
             → IsOwn self.old path.now log.now (option_map (λ o. o.now) known.entry) node
-            → IsDisputed self.old path.now (option_map (λ o. o.now) known.entry) node) }
+            → IsDisputed self.old path.now (shown_by log.now).state
+            (option_map (λ o. o.now) known.entry) (kind_of (deed_of action)) node) }
         ensures unchanged { OnErr result (self.new ≡ self.old) }
         ensures few { OnOk result ((shown_by log.now).state.children < MOST_NODES) }
         ensures foreseen { OnOk result (due (option_map (λ o. o.now) known.entry) path.now

@@ -6,16 +6,17 @@ use Rattle.sysmem_tree.specs.ActionKind.{deed_of, kind_of}
 use Rattle.sysmem_room.specs.Agreeing.{IsOwn}
 use Rattle.sysmem_room.specs.Log.{shown_by}
 use Rattle.sysmem_room.specs.Refusals.{IsAnswer, IsDisputed, due}
-use Rattle.sysmem_participants.proofs.Ended.{for_its_state, was_strange}
+use Rattle.sysmem_participants.proofs.Ended.{for_its_state, undisputed, was_strange}
 use Rattle.sysmem_participants.proofs.ending.end.Goals as goal
 
 pub returns-in-Err-clause-strange : goal.returns-in-Err-clause-strange
-returns-in-Err-clause-strange g c = λ strange.
+returns-in-Err-clause-strange g c = λ strange node own.
     let known = option_map (λ o. o.now) c.args.known in
     let kind = kind_of (deed_of c.args.action) in
     let state = (shown_by c.args.log).state in
     let told : c.in-Err.refusal ≢ Strange → IsAnswer (due known c.args.path.now state kind) known kind c.in-Err.refusal = search rules in
     let held : c.in-Err.refusal ≡ Strange → (node : ℕ) → IsOwn c.in_hold-entered.result.1.found c.args.path.now c.args.log known node
-    → IsDisputed c.in_hold-entered.result.1.found c.args.path.now known node = search rules in
-    held (was_strange c.in-Err.refusal c.at_end.result (λ not_strange. for_its_state known c.args.path.now state kind c.in-Err.refusal c.requires.ends (told not_strange))
-    c.at_end.ensures.same strange)
+    → IsDisputed c.in_hold-entered.result.1.found c.args.path.now state known kind node = search rules in
+    let same = was_strange c.in-Err.refusal c.at_end.result (λ not_strange. for_its_state known c.args.path.now state kind c.in-Err.refusal c.requires.ends (told not_strange))
+    c.at_end.ensures.same strange in
+    undisputed c.in_hold-entered.result.1.found c.args.path.now state known kind node c.requires.ends (held same node own)
