@@ -59,7 +59,7 @@ pub record GotOneVerdict (b c : BookFacts) (ss ts : List Left) : Type 0 where
 
 -- two collections for one platform, whose stubs agree with their books and have the same calls at
 -- each path, and in which no node was closed before the initial domain's decision, got one verdict
--- for that domain
+-- for that domain, where both decided it
 abbrev pub AuditsAgree : Type 0
 AuditsAgree = (b c : BookFacts) (ss ts : List Left) (a x : Audit) → IsBook b → IsBook c
     → b.platform ≡ c.platform → IsAudited b ss a → IsAudited c ts x → HaveSameCalls ss ts
@@ -81,7 +81,7 @@ NoneClosed = (b : BookFacts) (ss read : List Left) (a : Audit) → IsBook b → 
 
 -- two audits that said yes, of collections for one platform with the same calls at each path: the
 -- books that they saw, in which no node was closed before the initial domain's decision, got one
--- verdict for that domain
+-- verdict for that domain, where both decided it
 abbrev pub TwoAuditsAgree : Type 0
 TwoAuditsAgree = (platform : PlatformFacts) (b c : BookFacts) (ss ts : List Left) (a x : Audit)
     → IsBook b → IsBook c → AgreesWith b ss a → AgreesWith c ts x

@@ -6,8 +6,8 @@ use sysmem_alloc::laws::{confluence, legal_is_sound, numbers_stay};
 use sysmem_tree::laws::one_path;
 
 /// Two collections with the same calls at each path, by audits that said yes, got one verdict for
-/// the initial domain, where no node was closed before its decision and memory was not refused to
-/// it.
+/// the initial domain, where both decided it, no node was closed before its decision and memory was
+/// not refused to it.
 pub fn audits_agree()
     ensures { AuditsAgree }
 {
@@ -24,8 +24,8 @@ pub fn none_closed()
 }
 
 /// Two calls of `audit` that said yes, of collections of one platform with the same calls at each
-/// path: the books that they saw got one verdict for the initial domain, where no node was closed
-/// before its decision and memory was not refused to it.
+/// path: the books that they saw got one verdict for the initial domain, where both decided it, no
+/// node was closed before its decision and memory was not refused to it.
 pub fn two_audits_agree()
     ensures { TwoAuditsAgree }
 {
