@@ -77,8 +77,9 @@ abbrev pub MayEnter : Held → Deed → Type 0
 MayEnter h deed = due h.known h.path (state_of h) (kind_of deed) ≡ None
 
 -- how a handle refuses an action: for want of memory, because it and the collection disagree, for
--- what is due, or for what it can't foresee: where nothing is due `TooManyNodes`, and where it knows
--- no verdict `DomainFailed` and `NotSelected`, by one that it doesn't know, before what is due too
+-- what is due, or for what it can't foresee: where nothing is due `TooManyNodes`, and where it
+-- knows no verdict `DomainFailed` and `NotSelected`, by one that it doesn't know, before what is
+-- due too
 abbrev pub Answers : Held → Deed → Refusal → Type 0
 Answers h deed r = r ≢ Strange → r ≢ NoMemory
     → MayAnswer (due h.known h.path (state_of h) (kind_of deed)) h.known (kind_of deed) r

@@ -73,8 +73,8 @@ MayAnswer (Some q) None act DomainFailed = Unit {0}
 MayAnswer (Some q) None act NotSelected = Unit {0}
 MayAnswer (Some q) known act r = r ≡ q
 
--- nothing that the handle of node i knows refuses an action that doesn't end the node: by the verdict
--- that it knows the node is a member; but the book's decision left it out
+-- nothing that the handle of node i knows refuses an action that doesn't end the node: by the
+-- verdict that it knows the node is a member; but the book's decision left it out
 abbrev pub IsDisputed : BookFacts → List ℕ → NodeState → Option Outcome → ActionKind → ℕ → Type 0
 IsDisputed b path state None act i = ⊥
 IsDisputed b path state (Some o) act i =

@@ -40,8 +40,8 @@ const RELEASED: &str =
 const ACCEPTED_ASKS_LESS: &str =
     "/ duplicate duplicate release /0 bind camps_on_2 /1 bind camps_on_3 decide /0 attach_token /0/0 bind camps_on_1 decide /1 attach_token /1/0 duplicate duplicate release /1/0/1 bind cpu /1/0/0 bind camps_on_1 /0 release";
 
-// Two participants who need 8 buffers, as in the worked row `slack`, before their decision and after
-// it.
+// Two participants who need 8 buffers, as in the worked row `slack`, before their decision and
+// after it.
 const SLACK: &str =
     "/ duplicate duplicate release /0 bind camps_on_2_and_slack /1 bind camps_on_3_and_slack";
 
