@@ -29,10 +29,9 @@ pub(crate) enum Failure {
     NoChild,
 }
 
-/// In words, as `main` prints it.
-impl fmt::Debug for Failure {
-    fn fmt<W: fmt::Write>(&self, f: &mut fmt::Formatter<W>) -> fmt::Result {
-        f.write_str(match self {
+impl Failure {
+    fn words(self) -> &'static str {
+        match self {
             Failure::Usage => {
                 "usage: workbench decisions FILE JOB[,..] [TIMES] | workbench handles FILE [JOB [TIMES]] | workbench rows"
             }
@@ -49,13 +48,20 @@ impl fmt::Debug for Failure {
             Failure::NoClock => "the clock can't be read",
             Failure::Audit(fault) => fault.name(),
             Failure::NoPath => "a line begins with no path",
-            Failure::NoWord => "a line has no word behind a path",
+            Failure::NoWord => "a line has no word after a path",
             Failure::NoSuchWord => "no such word or action",
             Failure::NoNumber => "a step of a path or a choice is no number",
             Failure::TooManyChoices => "a line has too many choices",
             Failure::NoGroup => "no group is left",
             Failure::NoChild => "no such child",
-        })
+        }
+    }
+}
+
+/// In words, as `main` prints it.
+impl fmt::Debug for Failure {
+    fn fmt<W: fmt::Write>(&self, f: &mut fmt::Formatter<W>) -> fmt::Result {
+        write!(f, "{}", self.words())
     }
 }
 
