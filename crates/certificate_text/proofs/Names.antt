@@ -6,7 +6,7 @@ use Rattle.serde_json.specs.Find.{as_str}
 use Rattle.sysmem_counts.specs.declared.field.Field.{Field}
 use Rattle.sysmem_counts.specs.declared.field.Field.TheVariants as field
 use Rattle.sysmem_counts.specs.Field.{field_name}
-use Rattle.sysmem_sanitise.specs.Reading.Names.{find_named}
+use Rattle.record_reading.specs.Reading.Names.{find_named}
 use Rattle.sysmem_sanitise.proofs.CallerLemmas.{named_by}
 use Rattle.certificate_text.specs.Fields.{all_fields, field_named}
 use Rattle.certificate_text.specs.Reading.{◌>>=◌, at_key, named_at}

@@ -19,8 +19,8 @@ use Rattle.sysmem_memory.specs.declared.domain.CoherencyDomain.{CoherencyDomain}
 use Rattle.sysmem_memory.specs.Domain.{domain_name}
 use Rattle.sysmem_memory.specs.Heap.{HeapFacts}
 use Rattle.sysmem_sanitise.specs.Platform.{IsHeap}
-use Rattle.sysmem_sanitise.specs.Reading.Heaps.{is_heap_byte}
-use Rattle.sysmem_sanitise.specs.Reading.Names.{find_named, formats, modifiers, colours, domains, format_named, modifier_named, colour_named, domain_named}
+use Rattle.record_reading.specs.Reading.Heaps.{is_heap_byte}
+use Rattle.record_reading.specs.Reading.Names.{find_named, formats, modifiers, colours, domains, format_named, modifier_named, colour_named, domain_named}
 use Rattle.certificate_text.specs.CanBeRead.{HasSteps}
 use Rattle.certificate_text.specs.Fields.{all_fields, field_named}
 use Rattle.certificate_text.specs.Paths.{steps_text, path_text}

@@ -4,7 +4,7 @@ use Rattle.sysmem_counts.specs.declared.field.Field.{Field}
 use Rattle.sysmem_counts.specs.declared.field.Field.TheVariants as field
 use Rattle.sysmem_counts.specs.Field.{field_name}
 use Rattle.sysmem_image.specs.Fields.{all_bounds, field_of}
-use Rattle.sysmem_sanitise.specs.Reading.Names.{find_named}
+use Rattle.record_reading.specs.Reading.Names.{find_named}
 
 -- each field once, those of image bounds last
 abbrev pub all_fields : List Field

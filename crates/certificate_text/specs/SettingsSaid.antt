@@ -21,9 +21,9 @@ use Rattle.sysmem_memory.specs.Domain.{has_domain}
 use Rattle.sysmem_memory.specs.Heap.{HeapFacts}
 use Rattle.sysmem_merge.specs.declared.settings.Settings.{Settings}
 use Rattle.sysmem_sanitise.specs.Platform.{PlatformFacts}
-use Rattle.sysmem_sanitise.specs.Reading.Names.{format_named, modifier_named}
-use Rattle.sysmem_sanitise.specs.Reading.Names.{colour_named, domain_named}
-use Rattle.sysmem_sanitise.specs.Reading.Pairs.{has_pair, lists_colour}
+use Rattle.record_reading.specs.Reading.Names.{format_named, modifier_named}
+use Rattle.record_reading.specs.Reading.Names.{colour_named, domain_named}
+use Rattle.record_reading.specs.Reading.Pairs.{has_pair, lists_colour}
 use Rattle.certificate_text.specs.Reading.{◌>>=◌, is_object_of, number_to, at_key, named_at}
 
 -- ---- bounds

@@ -5,8 +5,8 @@ ghost use Rattle.certificate_text.specs.Puts.{PutsData};
 ghost use Rattle.certificate_text.specs.Reading.{named_at};
 ghost use Rattle.certificate_text.specs.SettingsSaid.{heap_len, heap_said, id_said, image_said, is_heap, offer_said, offered, place_at, place_said, settings_said};
 ghost use Rattle.serde_json.specs.View.{view};
-ghost use Rattle.sysmem_sanitise.specs.Reading.Names.{colour_named, domain_named, format_named, modifier_named};
-ghost use Rattle.sysmem_sanitise.specs.Reading.Pairs.{lists_colour, has_pair, same_pair};
+ghost use Rattle.record_reading.specs.Reading.Names.{colour_named, domain_named, format_named, modifier_named};
+ghost use Rattle.record_reading.specs.Reading.Pairs.{lists_colour, has_pair, same_pair};
 ghost use Rattle.certificate_text.specs.Told.{heap_data, image_bounds_data, image_data, settings_data};
 
 use crate::bounds::{bounds_beside, put_bounds};

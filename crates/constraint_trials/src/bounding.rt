@@ -2,7 +2,7 @@
 
 ghost use Rattle.std.specs.Prelude.{◌≡◌, ◌≤◌};
 ghost use Rattle.sysmem_image.specs.Size.{most_multiple};
-ghost use Rattle.sysmem_sanitise.specs.Reading.Bounds.{is_multiple};
+ghost use Rattle.record_reading.specs.Reading.Bounds.{is_multiple};
 
 use constraint_edits::Amount;
 use sysmem_counts::Field;

@@ -5,7 +5,7 @@ use Rattle.script_reading.specs.declared.fault.ScriptFault.{ScriptFault}
 use Rattle.script_reading.specs.declared.fault.ScriptFault.TheVariants.{TooLong, NotJson, Misshapen, CallMisshapen}
 use Rattle.script_reading.specs.declared.fault.ScriptFault.TheVariants.{BadName, Platform, TooManyCalls, TooManyActors}
 use Rattle.script_reading.specs.declared.fault.ScriptFault.TheVariants.{SharedName}
-use Rattle.sysmem_sanitise.specs.Faults.{fault_text}
+use Rattle.record_reading.specs.Faults.{fault_text}
 
 -- `Q4 at call 7`
 abbrev pub at_call : List ℕ → ℕ → List ℕ

@@ -5,12 +5,12 @@ use Rattle.std.specs.Prelude.{codes}
 use Rattle.sysmem_formats.specs.declared.colour_space.ColourSpace.TheVariants.{Srgb, Rec601Ntsc, Rec601NtscFullRange, Rec601Pal, Rec601PalFullRange, Rec709, Rec2020, Rec2100}
 use Rattle.sysmem_image.specs.declared.colours.ColourSet.{ColourSet}
 use Rattle.sysmem_image.specs.Colours.{no_colours}
-use Rattle.sysmem_sanitise.specs.declared.fault.Code.TheVariants as code
-use Rattle.sysmem_sanitise.specs.Faults.{wrong}
+use Rattle.record_reading.specs.declared.fault.Code.TheVariants as code
+use Rattle.record_reading.specs.Faults.{wrong}
 use Rattle.sysmem_counts.specs.declared.field.Field.TheVariants as field
-use Rattle.sysmem_sanitise.specs.Reading.Entries.{with_listed, colour_set_of}
-use Rattle.sysmem_sanitise.specs.Reading.Fields.{passing, read_each, has_items}
-use Rattle.sysmem_sanitise.specs.Reading.Names.{colour_named}
+use Rattle.record_reading.specs.Reading.Entries.{with_listed, colour_set_of}
+use Rattle.record_reading.specs.Reading.Fields.{passing, read_each, has_items}
+use Rattle.record_reading.specs.Reading.Names.{colour_named}
 use Rattle.record_laws.specs.Records.{item_if, colour_record, colour_items}
 use Rattle.record_laws.proofs.Each.{passes, next}
 

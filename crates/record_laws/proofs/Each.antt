@@ -7,8 +7,8 @@ use Rattle.std.proofs.Math.Seq.{get_or-append_seam}
 use Rattle.std.proofs.lemmas.List.Folds.{list_any_none}
 use Rattle.serde_json.specs.Data.{Data}
 use Rattle.serde_json.specs.View.{items_of}
-use Rattle.sysmem_sanitise.specs.declared.fault.Fault.{Fault}
-use Rattle.sysmem_sanitise.specs.Reading.Fields.{◌>>=◌, passing, read_each}
+use Rattle.record_reading.specs.declared.fault.Fault.{Fault}
+use Rattle.record_reading.specs.Reading.Fields.{◌>>=◌, passing, read_each}
 
 -- what passes is read
 pub passes : {A : Type 0} (fault : Fault) (test : A → Bool) (a : A) → test a ≡ true → passing fault test a ≡ Ok a

@@ -8,10 +8,10 @@ use Rattle.sysmem_formats.specs.declared.modifier.Modifier.TheVariants.{Linear, 
 use Rattle.sysmem_formats.specs.declared.pixel_format.PixelFormat.{PixelFormat}
 use Rattle.sysmem_formats.specs.declared.pixel_format.PixelFormat.TheVariants.{R8G8B8A8, B8G8R8A8, R8G8B8X8, B8G8R8X8, R8G8B8, B8G8R8, R5G6B5, R8G8, YUY2, R8, L8, I420, YV12, NV12, P010}
 use Rattle.sysmem_formats.specs.Names.{format_name, modifier_name}
-use Rattle.sysmem_sanitise.specs.declared.fault.Code.TheVariants.{UnknownName}
-use Rattle.sysmem_sanitise.specs.Faults.{wrong}
-use Rattle.sysmem_sanitise.specs.Reading.Fields.{named}
-use Rattle.sysmem_sanitise.specs.Reading.Names.{format_named, modifier_named, choice_named}
+use Rattle.record_reading.specs.declared.fault.Code.TheVariants.{UnknownName}
+use Rattle.record_reading.specs.Faults.{wrong}
+use Rattle.record_reading.specs.Reading.Fields.{named}
+use Rattle.record_reading.specs.Reading.Names.{format_named, modifier_named, choice_named}
 use Rattle.record_laws.specs.Records.{choice}
 
 pub named_stated : {X : Type 0} (find : List ℕ → Option X) (field : Field) (name : List ℕ) (x : X) → find name ≡ Some x → named find field (string name) ≡ Ok x

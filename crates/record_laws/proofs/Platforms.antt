@@ -7,13 +7,13 @@ use Rattle.sysmem_formats.specs.declared.offer.Pair.{Pair}
 use Rattle.sysmem_formats.specs.Layout.{IsTiledMisfit}
 use Rattle.sysmem_formats.specs.Names.{format_name, modifier_name, colour_name}
 use Rattle.serde_json.specs.Data.{string}
-use Rattle.sysmem_sanitise.specs.declared.fault.Code.TheVariants as code
-use Rattle.sysmem_sanitise.specs.Faults.{wrong}
-use Rattle.sysmem_sanitise.specs.Reading.Fields.{is_key_of, named, passing, read_each}
-use Rattle.sysmem_sanitise.specs.Reading.Heaps.{heaps_of}
-use Rattle.sysmem_sanitise.specs.Reading.Names.{format_named, modifier_named, colour_named}
-use Rattle.sysmem_sanitise.specs.Reading.Pairs.{same_pair, has_pair, same_colour, lists_colour, is_tiled_misfit}
-use Rattle.sysmem_sanitise.specs.Reading.Platform.{pair_of, with_pair, pairs_of, with_new_colour, colours_of}
+use Rattle.record_reading.specs.declared.fault.Code.TheVariants as code
+use Rattle.record_reading.specs.Faults.{wrong}
+use Rattle.record_reading.specs.Reading.Fields.{is_key_of, named, passing, read_each}
+use Rattle.record_reading.specs.Reading.Heaps.{heaps_of}
+use Rattle.record_reading.specs.Reading.Names.{format_named, modifier_named, colour_named}
+use Rattle.record_reading.specs.Reading.Pairs.{same_pair, has_pair, same_colour, lists_colour, is_tiled_misfit}
+use Rattle.record_reading.specs.Reading.Platform.{pair_of, with_pair, pairs_of, with_new_colour, colours_of}
 use Rattle.record_laws.specs.Laws.{EachPlatformIsStated}
 use Rattle.record_laws.specs.Records.{list, heap_record, pair_record, colour_record}
 use Rattle.record_laws.proofs.Each.{passes, next, each_stated, item_has, none_before, not_empty, refused_not}

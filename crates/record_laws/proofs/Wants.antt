@@ -9,19 +9,19 @@ use Rattle.sysmem_counts.specs.declared.field.Field.TheVariants as field
 use Rattle.sysmem_counts.specs.Field.{field_name}
 use Rattle.sysmem_image.specs.declared.entry.Entry.{Entry}
 use Rattle.sysmem_memory.specs.Wishes.{no_wishes}
-use Rattle.sysmem_sanitise.specs.declared.fault.Code.TheVariants as code
-use Rattle.sysmem_sanitise.specs.declared.fault.Code.TheVariants.{WantOfMemory}
-use Rattle.sysmem_sanitise.specs.declared.fault.Fault.{Fault}
-use Rattle.sysmem_sanitise.specs.declared.fault.FaultPlace.TheVariants.{Whole, At}
-use Rattle.sysmem_sanitise.specs.Faults.{wrong}
-use Rattle.sysmem_sanitise.specs.Reading.Bounds.{bounds_of}
-use Rattle.sysmem_sanitise.specs.Reading.Constraints.{memory_fields, memory_of, constraints_fields, usage_of, counts_of}
-use Rattle.sysmem_sanitise.specs.Reading.Entries.{entry_object, colour_set_of, entry_with, asks_misfit, is_asked_already, has_asked, with_asked, own_pair, no_pair, asked_of, with_further, further_of, asked_pairs, with_entry, entries_of}
-use Rattle.sysmem_sanitise.specs.Reading.Fields.{◌>>=◌, object_of, list_of, number_or, flag_or, kept, passing, text_of, named, same_field, optional, read_or, read_each, stated, required}
-use Rattle.sysmem_sanitise.specs.Reading.Heaps.{name_fields, heap_info_fields, is_heap_type, has_heap, has_permitted, heap_type_of, heap_name_of, heap_of, with_heap, heaps_of, permitted_heap, with_permitted, permitted_of}
-use Rattle.sysmem_sanitise.specs.Reading.Names.{colour_named}
-use Rattle.sysmem_sanitise.specs.Reading.Pairs.{pair_fields, is_tiled_misfit, has_pair, lists_colour}
-use Rattle.sysmem_sanitise.specs.Reading.Platform.{platform_fields, pair_of, with_pair, pairs_of, with_new_colour, colours_of}
+use Rattle.record_reading.specs.declared.fault.Code.TheVariants as code
+use Rattle.record_reading.specs.declared.fault.Code.TheVariants.{WantOfMemory}
+use Rattle.record_reading.specs.declared.fault.Fault.{Fault}
+use Rattle.record_reading.specs.declared.fault.FaultPlace.TheVariants.{Whole, At}
+use Rattle.record_reading.specs.Faults.{wrong}
+use Rattle.record_reading.specs.Reading.Bounds.{bounds_of}
+use Rattle.record_reading.specs.Reading.Constraints.{memory_fields, memory_of, constraints_fields, usage_of, counts_of}
+use Rattle.record_reading.specs.Reading.Entries.{entry_object, colour_set_of, entry_with, asks_misfit, is_asked_already, has_asked, with_asked, own_pair, no_pair, asked_of, with_further, further_of, asked_pairs, with_entry, entries_of}
+use Rattle.record_reading.specs.Reading.Fields.{◌>>=◌, object_of, list_of, number_or, flag_or, kept, passing, text_of, named, same_field, optional, read_or, read_each, stated, required}
+use Rattle.record_reading.specs.Reading.Heaps.{name_fields, heap_info_fields, is_heap_type, has_heap, has_permitted, heap_type_of, heap_name_of, heap_of, with_heap, heaps_of, permitted_heap, with_permitted, permitted_of}
+use Rattle.record_reading.specs.Reading.Names.{colour_named}
+use Rattle.record_reading.specs.Reading.Pairs.{pair_fields, is_tiled_misfit, has_pair, lists_colour}
+use Rattle.record_reading.specs.Reading.Platform.{platform_fields, pair_of, with_pair, pairs_of, with_new_colour, colours_of}
 use Rattle.record_laws.specs.Laws.{IsOrWants, ParticipantOrWants, PlatformOrWants}
 
 -- one answer, and then the next

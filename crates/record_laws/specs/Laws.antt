@@ -2,13 +2,13 @@
 use Rattle.std.specs.Prelude.{◌≡◌, ◌⊎◌, Some, Result, Ok, Err}
 use Rattle.serde_json.specs.Data.{Data}
 use Rattle.sysmem_counts.specs.declared.field.Field.{Field}
-use Rattle.sysmem_sanitise.specs.declared.fault.Code.TheVariants.{WantOfMemory}
-use Rattle.sysmem_sanitise.specs.declared.fault.Fault.{Fault}
-use Rattle.sysmem_sanitise.specs.Faults.{wrong}
+use Rattle.record_reading.specs.declared.fault.Code.TheVariants.{WantOfMemory}
+use Rattle.record_reading.specs.declared.fault.Fault.{Fault}
+use Rattle.record_reading.specs.Faults.{wrong}
 use Rattle.sysmem_sanitise.specs.Participant.{Participant, IsParticipant}
 use Rattle.sysmem_sanitise.specs.Platform.{PlatformFacts, IsPlatform}
-use Rattle.sysmem_sanitise.specs.Reading.{participant_of, participant_with}
-use Rattle.sysmem_sanitise.specs.Reading.{platform_of, platform_with}
+use Rattle.record_reading.specs.Reading.{participant_of, participant_with}
+use Rattle.record_reading.specs.Reading.{platform_of, platform_with}
 use Rattle.record_laws.specs.Ranges.{IsParticipantInRange, IsPlatformInRange}
 use Rattle.record_laws.specs.Records.{participant_record, platform_record}
 

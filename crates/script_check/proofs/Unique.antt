@@ -17,8 +17,8 @@ use Rattle.sysmem_proof.specs.Laws.{OneAnswer}
 use Rattle.sysmem_proof.specs.Verdict.{IsOptimalIn, IsSameAnswer}
 use Rattle.sysmem_sanitise.specs.Participant.{Participant}
 use Rattle.sysmem_sanitise.specs.Platform.{PlatformFacts}
-use Rattle.sysmem_sanitise.specs.Reading.{participant_of}
-use Rattle.sysmem_sanitise.specs.declared.fault.Fault.{Fault}
+use Rattle.record_reading.specs.Reading.{participant_of}
+use Rattle.record_reading.specs.declared.fault.Fault.{Fault}
 use Rattle.sysmem_tree.specs.declared.refusal.Refusal.{Refusal}
 use Rattle.sysmem_tree.specs.ActionKind.{Deed}
 use Rattle.sysmem_tree.specs.ActionKind as deeds

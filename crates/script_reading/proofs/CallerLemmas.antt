@@ -2,9 +2,9 @@
 use Rattle.std.proofs.Common.{◌≡◌, ◌≤◌, ◌-◌, ◌^◌, Result, Ok, Err, refl, subst}
 use Rattle.std.specs.Prelude.{All, ok_or}
 use Rattle.serde_json.specs.Data.{Data}
-use Rattle.sysmem_sanitise.specs.declared.fault.Fault.{Fault}
+use Rattle.record_reading.specs.declared.fault.Fault.{Fault}
 use Rattle.sysmem_sanitise.specs.Platform.{PlatformFacts, IsPlatform}
-use Rattle.sysmem_sanitise.specs.Reading.{platform_of}
+use Rattle.record_reading.specs.Reading.{platform_of}
 use Rattle.sysmem_sanitise.proofs.CallerLemmas.{stated_platform, stated_ids}
 use Rattle.script_reading.specs.declared.fault.ScriptFault.{ScriptFault}
 use Rattle.script_reading.specs.declared.fault.ScriptFault.TheVariants.{Misshapen, TooManyCalls}

@@ -4,7 +4,7 @@ use Rattle.std.specs.List.{list_all}
 use Rattle.std.specs.Map as map
 use Rattle.serde_json.specs.declared.value.Value.{Value}
 use Rattle.serde_json.specs.View.{members_view}
-use Rattle.sysmem_sanitise.specs.Reading.Fields.{keys_of}
+use Rattle.record_reading.specs.Reading.Fields.{keys_of}
 
 -- a test of all keys
 pub list_all-keys_of : (p : List ℕ → Bool) (es : List (String Global × Value))

@@ -5,7 +5,7 @@ use Rattle.std.specs.List.{list_all}
 use Rattle.std.specs.Option.{option_map_or}
 use Rattle.serde_json.specs.Data.{Data, null}
 use Rattle.serde_json.specs.Find.{get, as_str, as_object}
-use Rattle.sysmem_sanitise.specs.Reading.Fields.{keys_of}
+use Rattle.record_reading.specs.Reading.Fields.{keys_of}
 use Rattle.script_reading.specs.Names.{main_actor}
 
 -- What a call does to the node that it is made on.

@@ -1,9 +1,9 @@
 -- The platform that a script names.
 use Rattle.std.specs.Prelude.{Result, Ok, Err}
 use Rattle.serde_json.specs.Data.{Data}
-use Rattle.sysmem_sanitise.specs.declared.fault.Fault.{Fault}
+use Rattle.record_reading.specs.declared.fault.Fault.{Fault}
 use Rattle.sysmem_sanitise.specs.Platform.{PlatformFacts}
-use Rattle.sysmem_sanitise.specs.Reading.{platform_of}
+use Rattle.record_reading.specs.Reading.{platform_of}
 use Rattle.script_reading.specs.declared.fault.ScriptFault.{ScriptFault}
 use Rattle.script_reading.specs.declared.fault.ScriptFault.TheVariants.{Platform}
 

@@ -11,7 +11,7 @@ use Rattle.script_reading.specs.declared.fault.ScriptFault.TheVariants.{Misshape
 use Rattle.script_reading.specs.declared.fault.ScriptFault.TheVariants.{BadName, TooManyCalls}
 use Rattle.script_reading.specs.declared.fault.ScriptFault.TheVariants.{TooManyActors}
 use Rattle.script_reading.specs.Call.{ActFacts, name_made, FormFacts, form_of}
-use Rattle.sysmem_sanitise.specs.Reading.Fields.{keys_of}
+use Rattle.record_reading.specs.Reading.Fields.{keys_of}
 use Rattle.script_reading.specs.Names.{is_name, is_among, with_actor, root}
 use Rattle.script_reading.specs.Platform.{platform_said}
 use Rattle.sysmem_sanitise.specs.Platform.{PlatformFacts}

@@ -3,7 +3,7 @@ ghost use Rattle.std.specs.Prelude.{◌≡◌, option_map};
 ghost use Rattle.std.specs.List.{list_all};
 ghost use Rattle.serde_json.specs.View.{view, members_view};
 ghost use Rattle.script_reading.specs.Call.{actor_of, constraints_of, act_of, makes_name, may_have, form_of, name_in, text_at};
-ghost use Rattle.sysmem_sanitise.specs.Reading.Fields.{keys_of};
+ghost use Rattle.record_reading.specs.Reading.Fields.{keys_of};
 ghost use Rattle.script_reading.specs.Seen.{act_seen, form_seen};
 
 use crate::call::Act;

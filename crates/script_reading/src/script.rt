@@ -3,7 +3,7 @@ ghost use Rattle.std.specs.Prelude.{◌≡◌, codes, option_and_then, option_ma
 ghost use Rattle.std.specs.List.{list_all};
 ghost use Rattle.serde_json.specs.Find.{as_array, get};
 ghost use Rattle.serde_json.specs.View.{items_view, members_view, view};
-ghost use Rattle.sysmem_sanitise.specs.Reading.Fields.{keys_of};
+ghost use Rattle.record_reading.specs.Reading.Fields.{keys_of};
 ghost use Rattle.script_reading.specs.Apart.{script_apart};
 ghost use Rattle.script_reading.specs.Faults.{Gives};
 ghost use Rattle.script_reading.specs.Script.{is_part, parts_of, script_of};

@@ -4,12 +4,12 @@ use Rattle.serde_json.specs.Data.{Data}
 use Rattle.sysmem_alloc.specs.Book.{BookFacts, entered}
 use Rattle.sysmem_alloc.specs.Entry.{Acted}
 use Rattle.sysmem_alloc.specs.State.{next_ready}
-use Rattle.sysmem_sanitise.specs.declared.fault.Fault.{Fault}
-use Rattle.sysmem_sanitise.specs.declared.fault.Code.{Code}
-use Rattle.sysmem_sanitise.specs.declared.fault.Code.TheVariants.{WantOfMemory}
-use Rattle.sysmem_sanitise.specs.Faults.{lack_of}
+use Rattle.record_reading.specs.declared.fault.Fault.{Fault}
+use Rattle.record_reading.specs.declared.fault.Code.{Code}
+use Rattle.record_reading.specs.declared.fault.Code.TheVariants.{WantOfMemory}
+use Rattle.record_reading.specs.Faults.{lack_of}
 use Rattle.sysmem_sanitise.specs.Participant.{Participant}
-use Rattle.sysmem_sanitise.specs.Reading.{participant_of, participant_with}
+use Rattle.record_reading.specs.Reading.{participant_of, participant_with}
 use Rattle.sysmem_sanitise.specs.Platform.{PlatformFacts}
 use Rattle.sysmem_tree.specs.declared.refusal.Refusal.{Refusal}
 use Rattle.sysmem_tree.specs.declared.refusal.Refusal.TheVariants as refusals

@@ -8,12 +8,12 @@ use Rattle.verdict_claims.specs.declared.verdict.Verdict.{Verdict}
 use Rattle.verdict_claims.specs.declared.verdict.Verdict.TheVariants.{Chosen, IntersectionEmpty}
 use Rattle.verdict_claims.specs.declared.verdict.Verdict.TheVariants.{TooMany, Failed}
 use Rattle.verdict_claims.specs.declared.verdict.Verdict.TheVariants as verdicts
-use Rattle.sysmem_sanitise.specs.declared.fault.Code.{Code}
-use Rattle.sysmem_sanitise.specs.declared.fault.Code.TheVariants.{WantOfMemory}
-use Rattle.sysmem_sanitise.specs.declared.fault.Fault.{Fault}
-use Rattle.sysmem_sanitise.specs.Faults.{lack_of}
+use Rattle.record_reading.specs.declared.fault.Code.{Code}
+use Rattle.record_reading.specs.declared.fault.Code.TheVariants.{WantOfMemory}
+use Rattle.record_reading.specs.declared.fault.Fault.{Fault}
+use Rattle.record_reading.specs.Faults.{lack_of}
 use Rattle.sysmem_sanitise.specs.Participant.{Participant}
-use Rattle.sysmem_sanitise.specs.Reading.{participant_of, participant_with}
+use Rattle.record_reading.specs.Reading.{participant_of, participant_with}
 use Rattle.sysmem_tree.specs.declared.refusal.Refusal.{Refusal}
 use Rattle.sysmem_tree.specs.declared.refusal.Refusal.TheVariants as refusals
 use Rattle.sysmem_tree.specs.declared.state.NodeKind.{NodeKind}

@@ -14,7 +14,7 @@ use Rattle.sysmem_image.specs.declared.size.Corner.{Corner}
 use Rattle.sysmem_merge.specs.declared.settings.Settings.{Settings}
 use Rattle.verdict_claims.specs.Chosen.{ChosenFacts}
 use Rattle.sysmem_sanitise.specs.Platform.{PlatformFacts}
-use Rattle.sysmem_sanitise.specs.Faults.{fault_text}
+use Rattle.record_reading.specs.Faults.{fault_text}
 use Rattle.sysmem_tree.specs.Refusal.{refusal_text}
 use Rattle.certificate_text.specs.Paths.{path_text}
 use Rattle.script_replay.specs.declared.reply.Reply.{Reply}

@@ -2,7 +2,7 @@
 
 ghost use Rattle.std.specs.Prelude.{◌≡◌, ◌++◌, codes};
 ghost use Rattle.std.specs.Fmt.{decimal};
-ghost use Rattle.sysmem_sanitise.specs.Faults.{fault_text};
+ghost use Rattle.record_reading.specs.Faults.{fault_text};
 ghost use Rattle.script_replay.specs.Lines.{Puts, act_name, call_line, new_name, reply_text};
 ghost use Rattle.script_reading.specs.Seen.{act_seen, call_seen};
 

@@ -1,5 +1,3 @@
-pub mod Faults
-pub mod Reading
 pub use Rattle.negotiation_inputs.specs.Amiss
 pub use Rattle.negotiation_inputs.specs.Equal
 pub use Rattle.negotiation_inputs.specs.EqualLaws

@@ -7,9 +7,8 @@
 //! ```
 #![tactic(auto)]
 
-mod fault;
-mod reading;
+mod constraints;
 
-pub use fault::{Code, Fault, FaultPlace};
+pub use constraints::read_constraints;
 pub use negotiation_inputs::{Constraints, Platform, laws};
-pub use reading::{read_constraints, read_platform};
+pub use record_reading::{Code, Fault, FaultPlace, read_platform};

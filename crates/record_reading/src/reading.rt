@@ -1,0 +1,22 @@
+//! Reads the parts of a participant's record, and the record of a platform.
+
+mod asked;
+mod bounds;
+mod colour_set;
+mod entry;
+mod field;
+mod heap;
+mod heap_info;
+mod list;
+mod memory;
+mod name;
+mod pair;
+mod platform;
+mod size;
+mod usage;
+
+pub use entry::entries_in;
+pub use field::{count_or, expect_object, stated};
+pub use memory::memory_in;
+pub use platform::read_platform;
+pub use usage::usage_of;

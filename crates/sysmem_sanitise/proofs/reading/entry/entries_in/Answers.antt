@@ -1,5 +1,0 @@
-use Rattle.sysmem_sanitise.proofs.Refusals.{steady-entry}
-use Rattle.sysmem_sanitise.proofs.reading.entry.entries_in.Goals as goal
-
-pub list_in-requires : goal.list_in-requires
-list_in-requires c = steady-entry

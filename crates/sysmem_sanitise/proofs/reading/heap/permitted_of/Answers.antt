@@ -1,5 +1,0 @@
-use Rattle.sysmem_sanitise.proofs.Refusals.{steady-permitted}
-use Rattle.sysmem_sanitise.proofs.reading.heap.permitted_of.Goals as goal
-
-pub list_in-requires : goal.list_in-requires
-list_in-requires c = steady-permitted

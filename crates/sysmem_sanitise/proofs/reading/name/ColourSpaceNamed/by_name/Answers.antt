@@ -1,5 +1,0 @@
-use Rattle.sysmem_sanitise.proofs.Names.{colour_found}
-use Rattle.sysmem_sanitise.proofs.reading.name.ColourSpaceNamed.by_name.Goals as goal
-
-pub returns : goal.returns
-returns c = colour_found _ _ c.from_name.ensures

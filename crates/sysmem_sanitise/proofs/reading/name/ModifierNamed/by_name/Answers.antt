@@ -1,5 +1,0 @@
-use Rattle.sysmem_sanitise.proofs.Names.{modifier_found}
-use Rattle.sysmem_sanitise.proofs.reading.name.ModifierNamed.by_name.Goals as goal
-
-pub returns : goal.returns
-returns c = modifier_found _ _ c.from_name.ensures

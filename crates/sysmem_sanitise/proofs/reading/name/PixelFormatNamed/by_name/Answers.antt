@@ -1,5 +1,0 @@
-use Rattle.sysmem_sanitise.proofs.Names.{format_found}
-use Rattle.sysmem_sanitise.proofs.reading.name.PixelFormatNamed.by_name.Goals as goal
-
-pub returns : goal.returns
-returns c = format_found _ _ c.from_name.ensures

@@ -1,5 +1,0 @@
-use Rattle.sysmem_sanitise.proofs.Refusals.{steady-pair}
-use Rattle.sysmem_sanitise.proofs.reading.pair.pairs_of.Goals as goal
-
-pub list_in-requires : goal.list_in-requires
-list_in-requires c = steady-pair
