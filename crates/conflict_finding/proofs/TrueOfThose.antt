@@ -9,7 +9,7 @@ use Rattle.sysmem_formats.specs.declared.offer.Offer.{Offer}
 use Rattle.sysmem_image.specs.declared.entry.Entry.{Entry}
 use Rattle.sysmem_image.specs.Entries.{effective, first_match}
 use Rattle.sysmem_image.specs.Lines.{IsBoundsLine}
-use Rattle.sysmem_merge.specs.declared.fit.Fit.{Fit}
+use Rattle.offer_fits.specs.declared.fit.Fit.{Fit}
 use Rattle.sysmem_merge.specs.Demands.{OfferDemand, offer_demand, offer_demands}
 use Rattle.sysmem_merge.specs.Fit.{IsBestFit}
 use Rattle.sysmem_merge.specs.OfferRead.{IsRefusingLine}

@@ -6,7 +6,7 @@ use Rattle.sysmem_formats.specs.declared.offer.Offer.{Offer}
 use Rattle.sysmem_formats.specs.declared.offer.Offer.TheVariants.{NoImage}
 use Rattle.sysmem_memory.specs.Listed.{HeapPlace}
 use Rattle.sysmem_memory.specs.PlaceTable.{AllowsPlace}
-use Rattle.sysmem_merge.specs.declared.fit.Fit.{Fit}
+use Rattle.offer_fits.specs.declared.fit.Fit.{Fit}
 use Rattle.sysmem_merge.specs.Demands.{offer_demands}
 use Rattle.sysmem_merge.specs.Fit.{IsBestFit}
 use Rattle.sysmem_merge.specs.Offers.{is_named}

@@ -22,6 +22,7 @@ use Rattle.sysmem_image.specs.Merged.{IsMergeOf, MergedOf}
 use Rattle.sysmem_memory.specs.declared.domain.CoherencyDomains.{CoherencyDomains}
 use Rattle.sysmem_memory.specs.Domain.{has_domain}
 use Rattle.sysmem_memory.specs.Place as places
+use Rattle.offer_fits.proofs.CallerLemmas.{asked_all, asked_each}
 use Rattle.sysmem_merge.specs.declared.kept.KeptBounds.{KeptBounds}
 use Rattle.sysmem_merge.specs.declared.kept.KeptBounds.TheVariants.{Merged, Refused}
 use Rattle.sysmem_merge.specs.declared.kept.KeptOffer.{KeptOffer}
@@ -34,7 +35,6 @@ use Rattle.sysmem_merge.specs.Pairs.{in_colour, IsPairKept}
 use Rattle.sysmem_merge.specs.Sum.{SumsInAnyOrder}
 use Rattle.negotiation_inputs.specs.Participant.{Participant}
 use Rattle.negotiation_inputs.specs.Platform.{PlatformFacts}
-use Rattle.sysmem_merge.proofs.Asked.{asked_all, asked_each}
 
 -- two tests that pass together are one
 same_bool : (a b : Bool) → (a ≡ true → b ≡ true) → (b ≡ true → a ≡ true) → a ≡ b

@@ -8,7 +8,7 @@ use Rattle.sysmem_formats.specs.declared.offer.Offer.{Offer}
 use Rattle.sysmem_formats.specs.declared.offer.Offer.TheVariants.{NoImage, Image}
 use Rattle.sysmem_formats.specs.declared.offer.Pair.{Pair}
 use Rattle.sysmem_formats.specs.Offers.{offers}
-use Rattle.sysmem_merge.specs.declared.fit.Fit.{Fit}
+use Rattle.offer_fits.specs.declared.fit.Fit.{Fit}
 use Rattle.sysmem_merge.specs.declared.kept.KeptOffer.{KeptOffer}
 use Rattle.sysmem_merge.specs.Aggregate.{IsKept, AreKept, StandsFor}
 use Rattle.sysmem_merge.specs.Demands.{OfferDemand, offer_demands}

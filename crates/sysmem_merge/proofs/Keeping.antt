@@ -18,6 +18,7 @@ use Rattle.sysmem_image.specs.Entries.{effective, first_match, takes_colour}
 use Rattle.sysmem_image.specs.Lines.{IsBoundsLine, IsFirstLine, IsSteady}
 use Rattle.sysmem_image.specs.Merged.{MergedOf}
 use Rattle.sysmem_image.proofs.CallerLemmas.{steady_line}
+use Rattle.offer_fits.proofs.CallerLemmas.{bounds_asked_push}
 use Rattle.sysmem_merge.specs.declared.kept.KeptBounds.{KeptBounds}
 use Rattle.sysmem_merge.specs.declared.kept.KeptBounds.TheVariants.{Merged, Refused}
 use Rattle.sysmem_merge.specs.declared.kept.KeptOffer.{KeptOffer}
@@ -25,7 +26,6 @@ use Rattle.sysmem_merge.specs.Aggregate.{IsLasting, IsListed, AreKeptBounds, IsK
 use Rattle.sysmem_merge.specs.Demands.{OfferDemand}
 use Rattle.sysmem_merge.specs.Offers.{has_format, has_colour, entry_bounds, bounds_asked, names_format, names_modifier, names_colour}
 use Rattle.sysmem_merge.specs.Reasons.{IsOfferLine}
-use Rattle.sysmem_merge.proofs.Asked.{bounds_asked_push}
 
 -- what some element has, some element of the longer list has
 Any-longer : {X : Type 0} (P : X → Type 0) (xs : List X) (y : X) → Any P xs → Any P (xs ++ y ∷ [])

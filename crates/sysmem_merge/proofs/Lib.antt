@@ -2,11 +2,9 @@ pub mod Accepting
 pub mod Adding
 pub mod AnyColour
 pub mod AnyOrder
-pub mod Asked
 pub mod CallerLemmas
 pub mod ColourBits
 pub mod FirstFits
-pub mod Fits
 pub mod Joining
 pub mod Keeping
 pub mod Lines

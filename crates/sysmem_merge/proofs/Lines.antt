@@ -9,18 +9,13 @@ use Rattle.sysmem_image.proofs.CallerLemmas.{fits_image, keeps_each, line_holds}
 use Rattle.sysmem_image.specs.Bounds.{IsTighter}
 use Rattle.sysmem_image.specs.Laws.{FitsImage}
 use Rattle.sysmem_image.specs.Lines.{IsBoundsLine, KeepsCorner, KeepsLine, corner_reads, reads}
-use Rattle.sysmem_merge.specs.declared.fit.Fit.{Fit}
+use Rattle.offer_fits.proofs.CallerLemmas.{tighter_asked}
+use Rattle.offer_fits.specs.declared.fit.Fit.{Fit}
 use Rattle.sysmem_merge.specs.Demands.{OfferDemand}
 use Rattle.sysmem_merge.specs.Fit.{IsSoundFit, CoversFit, MeetsFit}
 use Rattle.sysmem_merge.specs.Laws.{SizeLineHolds}
-use Rattle.sysmem_merge.specs.Offers.{has_format, has_colour, Asks, bounds_asked}
+use Rattle.sysmem_merge.specs.Offers.{has_format, has_colour, bounds_asked}
 use Rattle.sysmem_merge.specs.Reasons.{IsOfferLine}
-use Rattle.sysmem_merge.proofs.Asked.{asked_all}
-
--- the bounds of a fit keep to all that the participants whom it covers ask
-pub tighter_asked : (t : Fit) (ds : List OfferDemand) → All (CoversFit t) ds → All (IsTighter t.bounds) (bounds_asked t.offer ds)
-tighter_asked t ds covers =
-    asked_all t.offer (IsTighter t.bounds) ds (All-weaker (CoversFit t) (Asks t.offer (IsTighter t.bounds)) (λ d c. c.offer.bounds) ds covers)
 
 -- a true line of bounds leaves no sound fit that covers the participants
 bounds_line_clash : (field : Field) (t : Fit) (ds : List OfferDemand) → IsBoundsLine field t.offer (bounds_asked t.offer ds) → IsSoundFit t → All (CoversFit t) ds → ⊥

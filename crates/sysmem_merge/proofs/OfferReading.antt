@@ -22,6 +22,7 @@ use Rattle.sysmem_image.specs.Entries.{effective, first_match, takes_colour}
 use Rattle.sysmem_image.specs.Lines.{IsBoundsLine, AlignmentsMeet, DivisorsMeet}
 use Rattle.sysmem_image.specs.Read.{AreRead, FitLeast, FitsLeastRow}
 use Rattle.sysmem_image.proofs.CallerLemmas.{image_bytes_mono}
+use Rattle.offer_fits.proofs.CallerLemmas.{bounds_asked_push}
 use Rattle.sysmem_merge.specs.declared.offer_read.OfferRead.{OfferRead}
 use Rattle.sysmem_merge.specs.Aggregate.{AreSizes, IsListed}
 use Rattle.sysmem_merge.specs.Demands.{OfferDemand}
@@ -29,7 +30,6 @@ use Rattle.sysmem_merge.specs.First.{IsFirstOf}
 use Rattle.sysmem_merge.specs.OfferRead.{IsOfferRead, IsRefusingLine, offer_lines}
 use Rattle.sysmem_merge.specs.Offers.{has_format, has_colour, bounds_asked, names_format, names_modifier, names_colour, is_format_named, is_modifier_named, is_colour_named, is_named}
 use Rattle.sysmem_merge.specs.Reasons.{IsOfferLine, IsUnnamedLine}
-use Rattle.sysmem_merge.proofs.Asked.{bounds_asked_push}
 use Rattle.sysmem_merge.proofs.FirstFits.{unnamed_line}
 use Rattle.sysmem_merge.proofs.Keeping.{asked_entry, named_push}
 use Rattle.sysmem_merge.proofs.Sizes.{sizes_push}

@@ -18,7 +18,7 @@ use Rattle.sysmem_image.specs.Bounds.{IsTighter}
 use Rattle.sysmem_image.specs.Fields.{MinSize, MaxSize, SizeAlignment, MinBytesPerRow, MaxBytesPerRow, BytesPerRowDivisor, StartOffsetDivisor, DisplayRectAlignment, RequiredMinSize, RequiredMaxSize, MaxWidthTimesHeight, Width, Height}
 use Rattle.sysmem_image.proofs.CallerLemmas.{tighter_both}
 use Rattle.sysmem_memory.proofs.CallerLemmas.{places_are_in_one_order}
-use Rattle.sysmem_merge.specs.contracts.fit.Fit.{the_type as fit_type}
+use Rattle.offer_fits.specs.contracts.fit.Fit.{the_type as fit_type}
 use Rattle.sysmem_merge.specs.contracts.settings.Settings.{the_type as settings_type}
 use Rattle.sysmem_merge.specs.Best.{IsEarlierOffer, IsNoBetter}
 use Rattle.sysmem_merge.specs.Laws.{OneBest, OneFit}

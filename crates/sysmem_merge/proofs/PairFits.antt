@@ -14,7 +14,7 @@ use Rattle.sysmem_formats.specs.declared.offer.Offer.TheVariants.{NoImage, Image
 use Rattle.sysmem_formats.specs.declared.offer.Pair.{Pair}
 use Rattle.sysmem_formats.specs.Offers.{images, offers}
 use Rattle.sysmem_counts.specs.declared.field.Field.{Field}
-use Rattle.sysmem_merge.specs.declared.fit.Fit.{Fit}
+use Rattle.offer_fits.specs.declared.fit.Fit.{Fit}
 use Rattle.sysmem_merge.specs.declared.kept.KeptBounds.TheVariants.{Refused}
 use Rattle.sysmem_merge.specs.declared.pair.KeptPair.{KeptPair}
 use Rattle.sysmem_merge.specs.Pairs.{IsPairKept}

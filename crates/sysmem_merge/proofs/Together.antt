@@ -9,7 +9,7 @@ use Rattle.sysmem_memory.specs.declared.place.Place.{Place}
 use Rattle.sysmem_memory.specs.Heap.{HeapFacts}
 use Rattle.sysmem_memory.specs.Place.{IsPlace, IsRefused, IsFirstPlace, HasNoPlace}
 use Rattle.sysmem_memory.specs.PlaceTable.{AllowsPlace, PlaceDemand}
-use Rattle.sysmem_merge.specs.declared.fit.Fit.{Fit}
+use Rattle.offer_fits.specs.declared.fit.Fit.{Fit}
 use Rattle.sysmem_merge.specs.declared.settings.Settings.{Settings}
 use Rattle.sysmem_merge.specs.Best.{IsBest, IsUnmet}
 use Rattle.sysmem_merge.specs.Demands.{OfferDemand, counts_asked, place_demand, place_demands, offer_demand, offer_demands}

@@ -1,5 +1,5 @@
 -- For which participants what is kept stands.
-use Rattle.std.specs.Prelude.{◌≡◌, ◌↔◌, ℕ, ◌^◌, ◌<◌, ◌≤◌, List, length, All, true, Some, slice_get}
+use Rattle.std.specs.Prelude.{◌≡◌, ℕ, List, length, All, Some, slice_get}
 use Rattle.sysmem_counts.specs.Bounds as counts
 use Rattle.sysmem_counts.specs.declared.field.Field.{Field}
 use Rattle.sysmem_counts.specs.declared.field.Field.TheVariants.{PixelFormat, ColorSpaces}
@@ -7,32 +7,24 @@ use Rattle.sysmem_formats.specs.declared.offer.Offer.{Offer}
 use Rattle.sysmem_image.specs.Lines.{IsSteady}
 use Rattle.sysmem_image.specs.Merged.{MergedOf}
 use Rattle.sysmem_memory.specs.Place as places
+pub use Rattle.offer_fits.specs.Offers.{IsListed}
+pub use Rattle.offer_fits.specs.Sizes.{AreSizes}
 use Rattle.sysmem_merge.specs.declared.kept.KeptBounds.{KeptBounds}
 use Rattle.sysmem_merge.specs.declared.kept.KeptBounds.TheVariants.{Merged, Refused}
 use Rattle.sysmem_merge.specs.declared.kept.KeptOffer.{KeptOffer}
 use Rattle.sysmem_merge.specs.Demands.{OfferDemand, counts_asked, place_demands, offer_demands}
 use Rattle.sysmem_merge.specs.Kept.{Kept}
-use Rattle.sysmem_merge.specs.Offers.{has_format, has_colour, bounds_asked}
+use Rattle.sysmem_merge.specs.Offers.{bounds_asked}
 use Rattle.sysmem_merge.specs.Offers.{is_format_named, is_modifier_named, is_colour_named}
 use Rattle.sysmem_merge.specs.Reasons.{IsOfferLine}
 use Rattle.negotiation_inputs.specs.Participant.{Participant}
 use Rattle.negotiation_inputs.specs.Platform.{PlatformFacts, offers_of}
-
--- the sizes of 64 bits that every participant takes are those from the least to the greatest
-pub record AreSizes (ds : List OfferDemand) (least greatest : ℕ) : Type 0 where
-  pub low : (size : ℕ) → (least ≤ size) ↔ All (λ d. d.min_size_bytes ≤ size) ds
-  pub high : (size : ℕ) → size < 2 ^ 64 → (size ≤ greatest) ↔ All (λ d. size ≤ d.max_size_bytes) ds
 
 -- a line that stays true of more participants
 abbrev pub IsLasting : Field → Type 0
 IsLasting PixelFormat = Unit {0}
 IsLasting ColorSpaces = Unit {0}
 IsLasting field = IsSteady field
-
--- a participant takes the offer and its colour space
-pub record IsListed (o : Offer) (d : OfferDemand) : Type 0 where
-  pub format : has_format o d ≡ true
-  pub colour : has_colour o d ≡ true
 
 -- the merged bounds of participants that all take the offer, or a lasting line that is true of them
 abbrev pub AreKeptBounds : Offer → List OfferDemand → KeptBounds → Type 0

@@ -1,7 +1,7 @@
 -- The first offer of a list that suits participants.
 use Rattle.std.specs.Prelude.{◌≡◌, List, Bool, true, Contains}
 use Rattle.sysmem_formats.specs.declared.offer.Offer.{Offer}
-use Rattle.sysmem_merge.specs.declared.fit.Fit.{Fit}
+use Rattle.offer_fits.specs.declared.fit.Fit.{Fit}
 use Rattle.sysmem_merge.specs.Best.{IsEarlierOffer}
 use Rattle.sysmem_merge.specs.Demands.{OfferDemand}
 use Rattle.sysmem_merge.specs.Fit.{IsBestFit}

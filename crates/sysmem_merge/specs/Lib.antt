@@ -1,6 +1,5 @@
 pub mod Aggregate
 pub mod Best
-pub mod Demands
 pub mod Failing
 pub mod First
 pub mod FirstFit
@@ -8,10 +7,11 @@ pub mod Fit
 pub mod Kept
 pub mod Laws
 pub mod OfferRead
-pub mod Offers
 pub mod Pairs
 pub mod Reasons
 pub mod Settings
 pub mod Share
 pub mod Sum
-pub mod Sound
+pub use Rattle.offer_fits.specs.Demands
+pub use Rattle.offer_fits.specs.Offers
+pub use Rattle.offer_fits.specs.Sound

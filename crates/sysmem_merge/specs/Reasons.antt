@@ -1,42 +1,21 @@
 -- Why no settings meet participants: a conflict that is true of them.
-use Rattle.std.specs.Prelude.{◌≡◌, ◌⊎◌, ◌≢◌, ℕ, ◌^◌, ◌<◌, ◌≤◌, List, All, Any, Bool}
-use Rattle.std.specs.Prelude.{true, false, Contains}
+use Rattle.std.specs.Prelude.{◌≡◌, ◌⊎◌, ◌≢◌, ℕ, ◌<◌, List, Bool, true, false, Contains}
 use Rattle.sysmem_counts.specs.Counts.{IsCountLine}
 use Rattle.sysmem_counts.specs.declared.field.Field.{Field}
-use Rattle.sysmem_counts.specs.declared.field.Field.TheVariants.{MaxBufferCount, PixelFormat}
-use Rattle.sysmem_counts.specs.declared.field.Field.TheVariants.{ColorSpaces, MaxSizeBytes}
+use Rattle.sysmem_counts.specs.declared.field.Field.TheVariants.{MaxBufferCount}
 use Rattle.sysmem_counts.specs.declared.field.Field.TheVariants.{UnnamedPixelFormat}
 use Rattle.sysmem_counts.specs.declared.field.Field.TheVariants.{UnnamedPixelFormatModifier}
 use Rattle.sysmem_counts.specs.declared.field.Field.TheVariants.{UnnamedColorSpace}
 use Rattle.sysmem_formats.specs.declared.offer.Offer.{Offer}
 use Rattle.sysmem_formats.specs.declared.offer.Offer.TheVariants.{NoImage}
-use Rattle.sysmem_formats.specs.Layout.{image_bytes_of}
-use Rattle.sysmem_image.specs.declared.bounds.ImageBounds.{ImageBounds}
-use Rattle.sysmem_image.specs.Lines.{FitsWidth, FitsHeight, FitsRow}
-use Rattle.sysmem_image.specs.Lines.{AlignmentsMeet, DivisorsMeet, IsBoundsLine}
 use Rattle.sysmem_memory.specs.Place.{HasNoPlace}
+pub use Rattle.offer_fits.specs.OfferLines.{SizeAbove, IsOfferLine}
 use Rattle.sysmem_merge.specs.declared.reason.Reason.{Reason}
 use Rattle.sysmem_merge.specs.declared.reason.Reason.TheVariants.{Count, NoPlace, NoOffer}
 use Rattle.sysmem_merge.specs.Demands.{OfferDemand, counts_asked, place_demands, offer_demands}
-use Rattle.sysmem_merge.specs.Offers.{has_format, has_colour, bounds_asked}
 use Rattle.sysmem_merge.specs.Offers.{is_format_named, is_modifier_named, is_colour_named}
 use Rattle.negotiation_inputs.specs.Participant.{Participant}
 use Rattle.negotiation_inputs.specs.Platform.{PlatformFacts, offers_of}
-
--- no size holds the corner of these bounds, is large enough for each
--- participant and small enough for each
-abbrev pub SizeAbove : Offer → List ImageBounds → List OfferDemand → Type 0
-SizeAbove o es ds = (w h r n : ℕ) → FitsWidth o es w → FitsHeight o es h → FitsRow o es w r
-    → image_bytes_of o r h ≤ n → 1 ≤ n → n < 2 ^ 64
-    → All (λ d. d.min_size_bytes ≤ n) ds → All (λ d. n ≤ d.max_size_bytes) ds → ⊥
-
--- the line of the conflict table that the field heads is true of the participants for the offer
-abbrev pub IsOfferLine : Field → Offer → List OfferDemand → Type 0
-IsOfferLine PixelFormat o ds = Any (λ d. has_format o d ≡ false) ds
-IsOfferLine ColorSpaces o ds = Any (λ d. has_colour o d ≡ false) ds
-IsOfferLine MaxSizeBytes o ds = AlignmentsMeet o (bounds_asked o ds)
-    × DivisorsMeet o (bounds_asked o ds) × SizeAbove o (bounds_asked o ds) ds
-IsOfferLine field o ds = IsBoundsLine field o (bounds_asked o ds)
 
 -- no participant names the format, the modifier or the colour space of an image
 abbrev pub IsUnnamedLine : Field → Offer → List OfferDemand → Type 0

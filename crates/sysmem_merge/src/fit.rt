@@ -1,4 +1,4 @@
-//! The least size and bounds of one offer that participants can share.
+//! The least size and bounds of one offer that participants can share, by what is kept of it.
 
 ghost use Rattle.std.specs.Prelude.{List, IfOk, IfErr};
 ghost use Rattle.sysmem_merge.specs.Aggregate.{AreSizes, AreKeptBounds};
@@ -7,18 +7,9 @@ ghost use Rattle.sysmem_merge.specs.Fit.{IsBestFit};
 ghost use Rattle.sysmem_merge.specs.Reasons.{IsOfferLine};
 
 use crate::kept::KeptBounds;
+use offer_fits::{Fit, fit_of_bounds};
 use sysmem_counts::Field;
 use sysmem_formats::Offer;
-use sysmem_image::{ImageBounds, corner};
-
-/// What settings say of images: an offer, the bounds on its images, and
-/// a buffer's size for it in bytes.
-#[derive(Clone, Copy, Debug, PartialEq, Eq)]
-pub struct Fit {
-    pub offer: Offer,
-    pub bounds: ImageBounds,
-    pub size_bytes: u64,
-}
 
 /// The offer with the participants' merged bounds and the least size in bytes, at least 1, that
 /// holds the bounds' corner and that the participants take, from `least_size` to `greatest_size`.
@@ -36,18 +27,8 @@ pub(crate) fn best_fit(
         → AreSizes ds least_size greatest_size
         → IfErr result (λ field. IsOfferLine field offer.now ds) }
 {
-    let bounds = match kept {
-        KeptBounds::Merged(bounds) => *bounds,
-        KeptBounds::Refused(field) => return Err(*field),
-    };
-    let corner = corner(&bounds, offer)?;
-    let bytes = corner.bytes.max(u128::from(least_size)).max(1);
-    if bytes > u128::from(greatest_size) {
-        return Err(Field::MaxSizeBytes);
+    match kept {
+        KeptBounds::Merged(bounds) => fit_of_bounds(bounds, offer, least_size, greatest_size),
+        KeptBounds::Refused(field) => Err(*field),
     }
-    Ok(Fit {
-        offer: *offer,
-        bounds,
-        size_bytes: bytes as u64,
-    })
 }

@@ -31,8 +31,8 @@ mod walk;
 
 pub use aggregate::Aggregate;
 pub use failing::{fails_in, first_uncovered};
-pub use fit::Fit;
 pub use meets::meets_one;
+pub use offer_fits::Fit;
 pub use offer_read::OfferRead;
 pub use reason::Reason;
 pub use settings::Settings;

@@ -12,11 +12,12 @@ ghost use Rattle.sysmem_merge.specs.Pairs.{ArePairsKept, IsPairKept};
 ghost use Rattle.sysmem_merge.specs.Reasons.{IsOfferRefused, AreOffersRefused};
 ghost use Rattle.negotiation_inputs.specs.Platform.{offers_of};
 
-use crate::fit::{Fit, best_fit};
+use crate::fit::best_fit;
 use crate::kept::{KeptBounds, KeptOffer};
 use crate::pair::KeptPair;
 use crate::walk::fit_of;
 use negotiation_inputs::Platform;
+use offer_fits::Fit;
 use sysmem_formats::{ColourSpace, Offer, Pair};
 
 /// The first of the platform's offers that suits the participants, with its least size and bounds.

@@ -10,9 +10,10 @@ ghost use Rattle.sysmem_merge.specs.Offers.{is_named};
 ghost use Rattle.sysmem_merge.specs.Reasons.{IsOfferRefused, AreOffersRefused};
 ghost use Rattle.negotiation_inputs.specs.Platform.{offers_of};
 
-use crate::fit::{Fit, best_fit};
+use crate::fit::best_fit;
 use crate::kept::KeptOffer;
 use negotiation_inputs::Platform;
+use offer_fits::Fit;
 use sysmem_formats::{Offer, offer_at};
 
 /// The first of the platform's offers that suits the participants, with its least size and bounds.

@@ -9,7 +9,7 @@ use Rattle.sysmem_memory.proofs.CallerLemmas.{no_place_before_itself}
 use Rattle.sysmem_memory.specs.Place.{IsPlace, IsEarlier}
 use Rattle.sysmem_memory.specs.PlaceTable.{AllowsPlace}
 use Rattle.sysmem_merge.specs.contracts.settings.Settings.{the_type as settings_type}
-use Rattle.sysmem_merge.specs.declared.fit.Fit.{Fit}
+use Rattle.offer_fits.specs.declared.fit.Fit.{Fit}
 use Rattle.sysmem_merge.specs.declared.settings.Settings.{Settings}
 use Rattle.sysmem_merge.specs.Best.{IsEarlierOffer}
 use Rattle.sysmem_merge.specs.Demands.{counts_asked, offer_demand, offer_demands}

@@ -4,8 +4,8 @@ use Rattle.std.proofs.lemmas.List.Elements.{All-nil, All-cons, All-head, All-tai
 use Rattle.std.specs.List.{cons_option}
 use Rattle.sysmem_formats.specs.declared.offer.Offer.{Offer}
 use Rattle.sysmem_image.specs.declared.bounds.ImageBounds.{ImageBounds}
-use Rattle.sysmem_merge.specs.Demands.{OfferDemand}
-use Rattle.sysmem_merge.specs.Offers.{entry_bounds, Asks, bounds_asked}
+use Rattle.offer_fits.specs.Demands.{OfferDemand}
+use Rattle.offer_fits.specs.Offers.{entry_bounds, Asks, bounds_asked}
 
 -- one more participant: the bounds of its entry come last
 pub bounds_asked_push : (o : Offer) (ds : List OfferDemand) (d : OfferDemand) → bounds_asked o (ds ++ d ∷ []) ≡ bounds_asked o ds ++ cons_option (entry_bounds o d) []

@@ -16,14 +16,14 @@ use Rattle.sysmem_image.specs.Laws.{ReadsAs}
 use Rattle.sysmem_image.specs.Lines.{IsBoundsLine}
 use Rattle.sysmem_image.specs.Merged.{MergedOf}
 use Rattle.sysmem_image.specs.Size.{IsSizeUpTo}
-use Rattle.sysmem_merge.specs.declared.fit.Fit.{Fit}
-use Rattle.sysmem_merge.specs.Aggregate.{AreSizes, IsListed}
-use Rattle.sysmem_merge.specs.Demands.{OfferDemand}
-use Rattle.sysmem_merge.specs.Fit.{OwnWithoutImage, IsSoundFit, CoversFit, MeetsFit, IsNoBetterFit, IsBestFit}
-use Rattle.sysmem_merge.specs.Offers.{bounds_asked}
-use Rattle.sysmem_merge.specs.Reasons.{IsOfferLine}
-use Rattle.sysmem_merge.proofs.Asked.{asked_each}
-use Rattle.sysmem_merge.proofs.Lines.{tighter_asked}
+use Rattle.offer_fits.specs.declared.fit.Fit.{Fit}
+use Rattle.offer_fits.specs.Sizes.{AreSizes}
+use Rattle.offer_fits.specs.Demands.{OfferDemand}
+use Rattle.offer_fits.specs.Fit.{OwnWithoutImage, IsSoundFit, CoversFit, MeetsFit, IsNoBetterFit, IsBestFit}
+use Rattle.offer_fits.specs.Offers.{IsListed, bounds_asked}
+use Rattle.offer_fits.specs.OfferLines.{IsOfferLine}
+use Rattle.offer_fits.proofs.Asked.{asked_each}
+use Rattle.offer_fits.proofs.Tighter.{tighter_asked}
 
 -- no entry is one for no image
 no_match : (es : List Entry) → first_match NoImage es ≡ None

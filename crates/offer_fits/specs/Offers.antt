@@ -10,7 +10,7 @@ use Rattle.sysmem_image.specs.declared.entry.Entry.{Entry}
 use Rattle.sysmem_image.specs.Bounds.{IsTighter}
 use Rattle.sysmem_image.specs.Colours.{lists}
 use Rattle.sysmem_image.specs.Entries.{effective, first_match, takes_colour}
-use Rattle.sysmem_merge.specs.Demands.{OfferDemand}
+use Rattle.offer_fits.specs.Demands.{OfferDemand}
 
 -- a participant with entries takes only the offers for which it has one;
 -- without entries it takes every offer
@@ -35,6 +35,11 @@ pub record AcceptsOffer (o : Offer) (b : ImageBounds) (d : OfferDemand) : Type 0
   pub format : has_format o d ≡ true
   pub colour : has_colour o d ≡ true
   pub bounds : Asks o (IsTighter b) d
+
+-- a participant takes the offer and its colour space
+pub record IsListed (o : Offer) (d : OfferDemand) : Type 0 where
+  pub format : has_format o d ≡ true
+  pub colour : has_colour o d ≡ true
 
 -- the bounds that the participants' entries put on the offer
 abbrev pub bounds_asked : Offer → List OfferDemand → List ImageBounds

@@ -1,0 +1,4 @@
+pub mod Asked
+pub mod CallerLemmas
+pub mod Fits
+pub mod Tighter
