@@ -31,7 +31,8 @@ use Rattle.sysmem_alloc.specs.Entry.{BookEntry, Acted, Decided}
 use Rattle.sysmem_alloc.specs.History.{after_answer, after_entry, replay_from, replay, Allows, AreAllowed, IsLegal}
 use Rattle.sysmem_alloc.specs.Laws.{LegalIsSound, LegalAgrees}
 use Rattle.sysmem_alloc.specs.Sound.{AgreesWithTree, AreDistinct, AreSettingsOn, IsDecisionOn, IsOfReady, IsSoundState, roots_of, standing_of}
-use Rattle.sysmem_alloc.specs.State.{State, first_state, after_action, base_of, chosen_in, is_open, kept_for, open_in}
+use Rattle.book_events.specs.Open.{is_open}
+use Rattle.sysmem_alloc.specs.State.{State, first_state, after_action, base_of, chosen_in, kept_for, open_in}
 use Rattle.sysmem_tree.proofs.CallerLemmas.{accepted, decision_acted, decision_by}
 use Rattle.sysmem_alloc.proofs.Choosing.{same_chosen}
 use Rattle.sysmem_alloc.proofs.Entering.{allowed_push, replay_push}

@@ -4,7 +4,7 @@ use Rattle.std.proofs.Common.{◌≡◌, ◌≢◌, ◌<◌, ◌==◌, ℕ, zero
 use Rattle.std.specs.Prelude.{map, if◌then◌else◌}
 use Rattle.std.specs.List.{AllByRecursion, filter_map, cons_option}
 use Rattle.std.proofs.lemmas.Bool.{ne_eqb}
-use Rattle.sysmem_alloc.specs.declared.entry.Entry.{Entry}
+use Rattle.book_events.specs.declared.entry.Entry.{Entry}
 use Rattle.sysmem_alloc.specs.Book.{BookFacts, IsBook}
 use Rattle.sysmem_alloc.specs.Decision.{DomainVerdict, decision_for}
 use Rattle.sysmem_alloc.specs.Entry.{decision_in}

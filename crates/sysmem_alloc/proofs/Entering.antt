@@ -4,8 +4,8 @@ use Rattle.std.specs.Prelude.{IsOk, filter, map, option_map, unwrap_or}
 use Rattle.std.specs.List.{AllByRecursion, filter_map}
 use Rattle.std.proofs.lemmas.List.{map-append}
 use Rattle.std.proofs.lemmas.List.Elements.{filter_map-append}
-use Rattle.sysmem_alloc.specs.declared.entry.Entry.{Entry}
-use Rattle.sysmem_alloc.specs.declared.entry.Entry.TheVariants as entries
+use Rattle.book_events.specs.declared.entry.Entry.{Entry}
+use Rattle.book_events.specs.declared.entry.Entry.TheVariants as entries
 use Rattle.sysmem_sanitise.specs.Participant.{Participant}
 use Rattle.sysmem_sanitise.specs.Platform.{PlatformFacts}
 use Rattle.sysmem_tree.specs.declared.action.ActionKind.{ActionKind}
@@ -23,7 +23,8 @@ use Rattle.sysmem_alloc.specs.History.{after_answer, after_entry, replay_from, A
 use Rattle.sysmem_alloc.specs.Laws.{LegalIsSound}
 use Rattle.sysmem_alloc.specs.Marks.{if_ready, ready_at, ready_unmarked}
 use Rattle.sysmem_alloc.specs.Sound.{IsOfReady, IsSoundState, roots_of}
-use Rattle.sysmem_alloc.specs.State.{State, first_state, newly_ready, is_open, chosen_in, open_in, kept_for}
+use Rattle.book_events.specs.Open.{is_open}
+use Rattle.sysmem_alloc.specs.State.{State, first_state, newly_ready, chosen_in, open_in, kept_for}
 use Rattle.sysmem_alloc.proofs.Choosing.{same_chosen, same_filter}
 use Rattle.sysmem_alloc.proofs.Counting.{few_waiting}
 use Rattle.sysmem_alloc.proofs.Lists.{all_each, all_weaken}

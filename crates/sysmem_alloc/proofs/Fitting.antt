@@ -16,7 +16,7 @@ use Rattle.sysmem_tree.specs.Path.{path_of}
 use Rattle.sysmem_tree.specs.Shape.{Member, by_path}
 use Rattle.sysmem_tree.proofs.CallerLemmas.{front}
 use Rattle.list_lemmas.proofs.CallerLemmas.{slice_get_some}
-use Rattle.sysmem_alloc.specs.declared.entry.Entry.{Entry}
+use Rattle.book_events.specs.declared.entry.Entry.{Entry}
 use Rattle.sysmem_alloc.specs.Accepted.{marked_of}
 use Rattle.sysmem_alloc.specs.Book.{BookFacts, kept_book}
 use Rattle.sysmem_alloc.specs.Entry.{decision_in}

@@ -2,7 +2,7 @@
 use Rattle.std.specs.Prelude.{◌≡◌, ◌++◌, ℕ, Bool, false, List, [], ◌∷◌, map, filter, get_or}
 use Rattle.std.specs.List.{filter_map}
 use Rattle.sysmem_sanitise.specs.Platform.{PlatformFacts}
-use Rattle.sysmem_alloc.specs.declared.entry.Entry.{Entry}
+use Rattle.book_events.specs.declared.entry.Entry.{Entry}
 use Rattle.sysmem_alloc.specs.Entry.{BookEntry, entry_in, decision_in}
 use Rattle.sysmem_alloc.specs.History.{IsLegal, after_entry, replay}
 use Rattle.sysmem_alloc.specs.State.{State, first_state, chosen_in, kept_for, open_in}

@@ -1,8 +1,8 @@
 -- What a book enters.
 use Rattle.std.specs.Prelude.{ℕ, Option, Some, None, option_map, List}
 use Rattle.std.specs.Arc.{arc_value}
-use Rattle.sysmem_alloc.specs.declared.entry.Entry.{Entry}
-use Rattle.sysmem_alloc.specs.declared.entry.Entry.TheVariants as entries
+use Rattle.book_events.specs.declared.entry.Entry.{Entry}
+use Rattle.book_events.specs.declared.entry.Entry.TheVariants as entries
 use Rattle.sysmem_alloc.specs.Decision.{Claimed, DomainVerdict, answer_of, choices_of}
 use Rattle.sysmem_sanitise.specs.Participant.{Participant}
 use Rattle.verdict_claims.specs.Asked.{asks_at}

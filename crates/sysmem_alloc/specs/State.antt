@@ -1,7 +1,8 @@
 -- How a collection stands with its domains, and what actions and decisions make of it.
-use Rattle.std.specs.Prelude.{ℕ, ◌++◌, Bool, false, ◌&&◌, not, List, [], ◌∷◌, Option, Some, map}
+use Rattle.std.specs.Prelude.{ℕ, ◌++◌, ◌&&◌, not, List, [], ◌∷◌, Option, Some, map}
 use Rattle.std.specs.Prelude.{filter, flat_map, option_map, option_and_then, unwrap_or}
 use Rattle.std.specs.Prelude.{slice_get, drop, if◌then◌else◌}
+use Rattle.book_events.specs.Open.{is_open}
 use Rattle.verdict_claims.specs.declared.verdict.Verdict.{Verdict}
 use Rattle.verdict_claims.specs.declared.verdict.Verdict.TheVariants as verdicts
 use Rattle.verdict_claims.specs.Base.{BaseFacts}
@@ -39,10 +40,6 @@ verdict_of s r =
 abbrev pub newly_ready : TreeFacts → TreeFacts → List ℕ
 newly_ready old new =
     filter (λ r. is_ready new r && not (is_ready old r)) (map (λ d. d.root) new.domains)
-
--- whether a node is open
-abbrev pub is_open : List NodeFacts → ℕ → Bool
-is_open nodes i = unwrap_or (option_map (λ n. n.state.is_open) (slice_get nodes i)) false
 
 -- the participants of what a decision chose, in pre-order
 abbrev pub chosen_by : List NodeFacts → DomainVerdict → List ℕ

@@ -11,8 +11,8 @@ ghost use Rattle.sysmem_alloc.specs.Sound.{AreDistinct};
 ghost use Rattle.sysmem_alloc.specs.State.{chosen_by};
 ghost use Rattle.sysmem_tree.specs.Nodes.{HasNode};
 
-use crate::entry::Entry;
 use crate::verdicts::{choices_of, entered_for};
+use book_events::Entry;
 use std::alloc::{AllocError, Global};
 use std::sync::Arc;
 use sysmem_merge::Settings;

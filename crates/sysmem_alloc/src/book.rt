@@ -18,12 +18,12 @@ ghost use Rattle.sysmem_tree.specs.Nodes.{HasNode};
 ghost use Rattle.sysmem_tree.specs.Tree.{applied};
 
 use crate::bases::{accepted_in, add_chosen, settings_for};
-use crate::entry::{Entry, enter_action};
 use crate::frozen::Frozen;
 use crate::laws::{base_is_given, few_entries, legal_agrees, legal_is_sound};
-use crate::ready::{add_if_ready, add_ready, mark_for_first, open_nodes, ready_domains};
+use crate::ready::{add_if_ready, add_ready, ready_domains};
 use crate::terms::{accept_same, are_same_settings};
 use crate::verdicts::{choices_of, entered_for, has_failed, is_undecided};
+use book_events::{Entry, enter_action, mark_for_first, open_nodes};
 use std::alloc::{AllocError, Global};
 use std::marker::Model;
 use std::sync::Arc;

@@ -16,7 +16,6 @@
 
 mod bases;
 mod book;
-mod entry;
 mod frozen;
 pub mod laws;
 mod ready;
@@ -24,5 +23,5 @@ mod terms;
 mod verdicts;
 
 pub use book::{Book, Done};
-pub use entry::Entry;
+pub use book_events::Entry;
 pub use frozen::Frozen;

@@ -1,10 +1,9 @@
-//! Which domains an event made ready, and which nodes are open.
+//! Which domains an event made ready.
 
-ghost use Rattle.std.specs.Prelude.{◌≡◌, ◌≢◌, ◌≤◌, ◌<◌, ◌+◌, ◌++◌, ℕ, [], false, true, length, get_or, IfSome};
+ghost use Rattle.std.specs.Prelude.{◌≡◌, ◌≤◌, ◌<◌, ◌+◌, ◌++◌, ℕ, false, length, get_or, IfSome};
 ghost use Rattle.std.specs.Vec.{vec_capacity};
 ghost use Rattle.sysmem_alloc.specs.Marks.{if_ready, ready_at, ready_unmarked, unmarked_at};
 ghost use Rattle.sysmem_alloc.specs.Sound.{roots_of};
-ghost use Rattle.sysmem_alloc.specs.State.{is_open};
 ghost use Rattle.sysmem_tree.specs.Domain.{HasDomain};
 
 use sysmem_tree::{DomainId, MOST_NODES, Tree};
@@ -77,44 +76,5 @@ pub(crate) fn add_if_ready(tree: &Tree, domain: Option<DomainId>, waiting: &mut 
         if tree.is_ready(one) {
             waiting.push_reserved(one);
         }
-    }
-}
-
-/// Whether the node of this number is open.
-fn is_open_at(tree: &Tree, number: u32) -> bool
-    ensures { result ≡ is_open tree.now.nodes number }
-{
-    match tree.node(number) {
-        Some(node) => tree.is_open(node),
-        None => false,
-    }
-}
-
-/// The nodes that are open, marked by their numbers.
-pub(crate) fn open_nodes(tree: &Tree) -> [bool; MOST_NODES]
-    ensures { (k : ℕ) → get_or result k false ≡ is_open tree.now.nodes k }
-{
-    let mut marks = [false; MOST_NODES];
-    for number in 0..tree.node_count() {
-        marks[number as usize] = is_open_at(tree, number);
-    }
-    marks
-}
-
-/// Marks the nodes that are open where a domain has come to wait and none did before; as
-/// long as one does, the marks stay.
-pub(crate) fn mark_for_first(
-    tree: &Tree,
-    none_waited: bool,
-    waiting: &[DomainId],
-    were_open: &mut [bool; MOST_NODES],
-)
-    ensures open { none_waited ≡ true → waiting.now ≢ []
-        → (k : ℕ) → get_or were_open.new k false ≡ is_open tree.now.nodes k }
-    ensures kept { none_waited ≡ false → were_open.new ≡ were_open.old }
-    ensures idle { waiting.now ≡ [] → were_open.new ≡ were_open.old }
-{
-    if none_waited && !waiting.is_empty() {
-        *were_open = open_nodes(tree);
     }
 }

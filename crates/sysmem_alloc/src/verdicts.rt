@@ -8,7 +8,7 @@ ghost use Rattle.sysmem_alloc.specs.Entry.{decision_in};
 ghost use Rattle.sysmem_alloc.specs.Sound.{AreDistinct};
 ghost use Rattle.sysmem_tree.specs.declared.fate.Fate.TheVariants as fates;
 
-use crate::entry::Entry;
+use book_events::Entry;
 use std::sync::Arc;
 use sysmem_tree::{DomainId, Fate};
 use verdict_claims::{Claim, Verdict};

@@ -4,7 +4,7 @@ use Rattle.std.specs.Prelude.{sum_by}
 use Rattle.std.proofs.Math.Seq.{take-append_seam}
 use Rattle.std.proofs.lemmas.List.Sums.{sum_by-cons}
 use Rattle.std.proofs.lemmas.Option.{same_Some}
-use Rattle.sysmem_alloc.specs.declared.entry.Entry.{Entry}
+use Rattle.book_events.specs.declared.entry.Entry.{Entry}
 use Rattle.sysmem_alloc.specs.Entry.{BookEntry, Acted, Decided, entry_in}
 use Rattle.sysmem_tree.specs.Node.{NodeFacts}
 use Rattle.sysmem_room.specs.Counting.{actions_in, weight}

@@ -4,8 +4,8 @@ use Rattle.std.specs.Prelude.{◌-◌, IfSome, if◌then◌else◌, filter_map, 
 use Rattle.std.proofs.lemmas.List.{append_assoc, get_or-set_other, get_or-set_same, length-map, length-set, length-take-le, map-append, replicate-append-replicate, take-append-le, take_all}
 use Rattle.std.proofs.lemmas.List.Elements.{filter_map-append}
 use Rattle.std.proofs.lemmas.Option.{same_Some, slice_get-map, slice_get_within}
-use Rattle.sysmem_alloc.specs.declared.entry.Entry.{Entry}
-use Rattle.sysmem_alloc.specs.declared.entry.Entry.TheVariants as entries
+use Rattle.book_events.specs.declared.entry.Entry.{Entry}
+use Rattle.book_events.specs.declared.entry.Entry.TheVariants as entries
 use Rattle.sysmem_alloc.specs.Decision.{Claimed}
 use Rattle.sysmem_alloc.specs.Entry.{BookEntry, Acted, Decided, deed_with, entry_in, tree_entry}
 use Rattle.sysmem_proof.specs.Asked.{asks_at}

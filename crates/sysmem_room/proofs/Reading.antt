@@ -3,8 +3,8 @@ use Rattle.std.proofs.Common.{◌≡◌, ◌≢◌, ◌≤◌, ◌<◌, ℕ, zer
 use Rattle.std.specs.Prelude.{◌↔◌, if◌then◌else◌}
 use Rattle.std.proofs.lemmas.List.{append_cancel_left, drop_all, length-drop, length-map}
 use Rattle.std.proofs.lemmas.Option.{same_Some}
-use Rattle.sysmem_alloc.specs.declared.entry.Entry.{Entry}
-use Rattle.sysmem_alloc.specs.declared.entry.Entry.TheVariants as entries
+use Rattle.book_events.specs.declared.entry.Entry.{Entry}
+use Rattle.book_events.specs.declared.entry.Entry.TheVariants as entries
 use Rattle.sysmem_alloc.specs.Entry.{BookEntry, Acted, Decided, entry_in, deed_with}
 use Rattle.sysmem_proof.specs.Asked.{asks_at}
 use Rattle.sysmem_tree.specs.declared.action.ActionKind.{ActionKind}

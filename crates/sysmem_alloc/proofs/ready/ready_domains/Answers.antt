@@ -1,7 +1,8 @@
 -- A single domain is the one with index 0.
 use Rattle.std.proofs.Common.{false, refl, replicate, slice_set, arith}
 use Rattle.sysmem_alloc.specs.Marks.{ready_at}
-use Rattle.sysmem_alloc.proofs.Marked.{set_none, none_of, set_more, set_all, ready_past}
+use Rattle.book_events.proofs.CallerLemmas.{set_none, none_of, set_more, set_all}
+use Rattle.sysmem_alloc.proofs.Marked.{ready_past}
 use Rattle.sysmem_alloc.proofs.ready.ready_domains.Goals as goal
 
 pub returns : goal.returns

@@ -3,7 +3,7 @@ use Rattle.std.proofs.Common.{◌≡◌, ◌≤◌, ◌+◌, ◌++◌, ℕ, List
 use Rattle.std.specs.Arc.{arc_value}
 use Rattle.std.specs.List.{remove}
 use Rattle.std.specs.Prelude.{IfSome, option_map}
-use Rattle.sysmem_alloc.specs.declared.entry.Entry.TheVariants as entries
+use Rattle.book_events.specs.declared.entry.Entry.TheVariants as entries
 use Rattle.sysmem_tree.specs.History.{IsDecidable}
 use Rattle.sysmem_tree.specs.Tree.{decided}
 use Rattle.sysmem_alloc.specs.Book.{BookFacts, IsBook, entered}

@@ -1,8 +1,8 @@
 -- One mark after the other.
 use Rattle.std.proofs.Common.{refl, arith}
-use Rattle.sysmem_alloc.specs.State.{is_open}
-use Rattle.sysmem_alloc.proofs.Marked.{set_none, none_of, set_all, open_past}
-use Rattle.sysmem_alloc.proofs.ready.open_nodes.Goals as goal
+use Rattle.book_events.specs.Open.{is_open}
+use Rattle.book_events.proofs.Marks.{set_none, none_of, set_all, open_past}
+use Rattle.book_events.proofs.opening.open_nodes.Goals as goal
 
 pub loop-number-init : goal.loop-number-init
 loop-number-init c = set_none (is_open c.args.tree.now.nodes) _ refl none_of

@@ -2,7 +2,7 @@
 
 ghost use Rattle.std.specs.Prelude.{◌≡◌, ◌<◌, [], ◌∷◌, ◌++◌};
 ghost use Rattle.std.specs.Vec.{vec_capacity, vec_len};
-ghost use Rattle.sysmem_alloc.specs.declared.entry.Entry.TheVariants as entries;
+ghost use Rattle.book_events.specs.declared.entry.Entry.TheVariants as entries;
 
 use std::sync::Arc;
 use sysmem_tree::{ActionKind, DomainId, NodeId};
@@ -19,7 +19,7 @@ pub enum Entry {
 }
 
 /// Enters an accepted action.
-pub(crate) fn enter_action(history: &mut Vec<Entry>, node: NodeId, kind: ActionKind)
+pub fn enter_action(history: &mut Vec<Entry>, node: NodeId, kind: ActionKind)
     requires { vec_len history.old < vec_capacity history.old }
     ensures items { history.new.items ≡ history.old.items ++ entries.Acted node kind ∷ [] }
     ensures capacity { vec_capacity history.new ≡ vec_capacity history.old }
