@@ -9,7 +9,7 @@ use Rattle.verdict_claims.specs.Verdict.{Meeting}
 use Rattle.verdict_claims.specs.declared.refutation.Item.{Item}
 use Rattle.verdict_claims.specs.declared.refutation.Item.TheVariants.{Split, Leaf}
 use Rattle.sysmem_search.specs.Cut.{AreCut, IsCut, AreFirstItems}
-use Rattle.sysmem_search.specs.Live.{SomeMeet}
+use Rattle.search_questions.specs.Live.{SomeMeet}
 use Rattle.sysmem_tree.specs.Forest.{Forest, choices}
 use Rattle.sysmem_tree.specs.Shape.{Member}
 

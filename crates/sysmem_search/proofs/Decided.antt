@@ -8,11 +8,11 @@ use Rattle.verdict_claims.specs.Matter.{Matter, forest}
 use Rattle.verdict_claims.specs.declared.verdict.Verdict.TheVariants as verdicts
 use Rattle.verdict_claims.specs.Verdict.{IsChosen, IsBestFor, IsOptimalIn, MeetsFor}
 use Rattle.sysmem_sanitise.specs.Platform.{PlatformFacts}
-use Rattle.sysmem_search.specs.Live.{IsLiveUpTo}
-use Rattle.sysmem_search.specs.Question.{MeetsOf, MeetsSoFar, IsBestOf}
-use Rattle.sysmem_search.specs.Searching.{FirstFound, IsFoundOf}
-use Rattle.sysmem_search.specs.Visits.{IsRaised, AreVisitsIn}
-use Rattle.sysmem_search.proofs.Shapes.{same_count}
+use Rattle.search_questions.specs.Live.{IsLiveUpTo}
+use Rattle.search_questions.specs.Question.{MeetsOf, MeetsSoFar, IsBestOf}
+use Rattle.search_questions.specs.Searching.{FirstFound, IsFoundOf}
+use Rattle.search_questions.specs.Visits.{IsRaised, AreVisitsIn}
+use Rattle.search_questions.proofs.CallerLemmas.{same_count}
 use Rattle.sysmem_tree.specs.Forest.{count, settled}
 use Rattle.sysmem_tree.specs.Node.{NodeFacts}
 use Rattle.sysmem_tree.specs.Selection.{after}

@@ -1,15 +1,4 @@
-pub mod Raising
-pub mod Shapes
-pub mod Sofar
-pub mod Finding
-pub mod AskedMembers
 pub mod Decided
-pub mod Walking
-pub mod Taking
-pub mod Accepting
-pub mod Keeping
-pub mod Entering
-pub mod Unmet
 pub mod Cut
 pub mod Refuted
 pub mod Proved

@@ -12,10 +12,10 @@ use Rattle.verdict_claims.specs.Matter.{Matter, forest, terms}
 use Rattle.verdict_claims.specs.Verdict.{IsChosen, IsForestUnmet, IsUnmetBefore}
 use Rattle.verdict_claims.specs.declared.refutation.Item.{Item}
 use Rattle.sysmem_search.specs.Cut.{AreCut, IsCut}
-use Rattle.sysmem_search.specs.Question.{MeetsOf, IsBestOf}
+use Rattle.search_questions.specs.Question.{MeetsOf, IsBestOf}
 use Rattle.sysmem_search.specs.Refuting.{AddsRefutation}
-use Rattle.sysmem_search.specs.Standing.{Standing}
-use Rattle.sysmem_search.proofs.Shapes.{prefix_of_numbers}
+use Rattle.search_questions.specs.Standing.{Standing}
+use Rattle.search_questions.proofs.CallerLemmas.{prefix_of_numbers}
 use Rattle.sysmem_tree.specs.Forest.{Forest, settled}
 use Rattle.sysmem_tree.specs.LayoutLaws.{FewChoices}
 use Rattle.sysmem_tree.specs.Node.{NodeFacts}

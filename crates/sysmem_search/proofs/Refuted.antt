@@ -12,15 +12,13 @@ use Rattle.verdict_claims.specs.declared.refutation.Item.TheVariants.{Split}
 use Rattle.verdict_claims.specs.Matter.{Matter, forest, terms}
 use Rattle.verdict_claims.specs.Verdict.{Meeting, IsForestUnmet, IsUnmetBefore}
 use Rattle.verdict_claims.proofs.CallerLemmas.{splits_refute, earlier_grows}
-use Rattle.sysmem_search.specs.Question.{MeetsOf, MeetsSoFar}
+use Rattle.search_questions.specs.Question.{MeetsOf, MeetsSoFar}
 use Rattle.sysmem_search.specs.Cut.{AreCut, IsCut}
-use Rattle.sysmem_search.specs.Live.{SomeMeet}
+use Rattle.search_questions.specs.Live.{SomeMeet}
 use Rattle.sysmem_search.specs.Refuting.{AddsRefutation, IsCutRefutation, RefutesFirst}
-use Rattle.sysmem_search.specs.Standing.{Standing}
-use Rattle.sysmem_search.proofs.AskedMembers.{if_some}
+use Rattle.search_questions.specs.Standing.{Standing}
+use Rattle.search_questions.proofs.CallerLemmas.{if_some, Child, after_push, child, some_and, and_some}
 use Rattle.sysmem_search.proofs.Cut.{earlier_cut, splits_cut, zip_to}
-use Rattle.sysmem_search.proofs.Finding.{Child, after_push, child}
-use Rattle.sysmem_search.proofs.Sofar.{some_and, and_some}
 use Rattle.sysmem_tree.specs.Forest.{Forest, choices}
 use Rattle.sysmem_tree.specs.Selection.{IsEarlierSelection, IsPrefix, IsSelection, after}
 use Rattle.sysmem_tree.specs.Shape.{Member}

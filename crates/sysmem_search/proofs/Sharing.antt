@@ -14,14 +14,14 @@ use Rattle.verdict_claims.specs.Laws.{CutsLoseNothing}
 use Rattle.verdict_claims.specs.Matter.{Matter, forest, terms}
 use Rattle.verdict_claims.specs.Verdict.{IsForestUnmet, IsChosen, IsOptimalIn}
 use Rattle.verdict_claims.proofs.CallerLemmas.{AreUnmet, split_unmet, chosen_below}
-use Rattle.sysmem_search.specs.Live.{SomeMeet, choose}
-use Rattle.sysmem_search.specs.Question.{MeetsOf, MeetsSoFar, IsBestOf}
-use Rattle.sysmem_search.specs.Searching.{IsFoundOf}
-use Rattle.sysmem_search.specs.Standing.{Standing}
+use Rattle.search_questions.specs.Live.{SomeMeet, choose}
+use Rattle.search_questions.specs.Question.{MeetsOf, MeetsSoFar, IsBestOf}
+use Rattle.search_questions.specs.Searching.{IsFoundOf}
+use Rattle.search_questions.specs.Standing.{Standing}
 use Rattle.sysmem_search.specs.declared.wide.Share.{Share}
 use Rattle.sysmem_search.specs.Wide.{IsUnmetAt, IsFirstAt, IsFirstIn, AreFirstIn, IsFirstOfAll, share_start, verdict_of}
 use Rattle.sysmem_search.proofs.Decided.{best_is_met, few_counted}
-use Rattle.sysmem_search.proofs.Finding.{after_push, found_cut, some_best}
+use Rattle.search_questions.proofs.CallerLemmas.{after_push, found_cut, some_best}
 use Rattle.sysmem_tree.specs.Forest.{Forest, choices, count, settled}
 use Rattle.sysmem_tree.specs.Selection.{IsPrefix, after}
 use Rattle.sysmem_tree.specs.Shape.{Member, by_number, forest_of}

@@ -13,8 +13,8 @@ use Rattle.verdict_claims.specs.declared.refutation.Item.{Item}
 use Rattle.verdict_claims.specs.declared.refutation.Item.TheVariants.{Split, Leaf}
 use Rattle.verdict_claims.specs.declared.verdict.Verdict.{Verdict}
 use Rattle.verdict_claims.specs.declared.verdict.Verdict.TheVariants as verdicts
-use Rattle.sysmem_search.specs.Live.{SomeMeet}
-use Rattle.sysmem_search.specs.Question.{MeetsSoFar}
+use Rattle.search_questions.specs.Live.{SomeMeet}
+use Rattle.search_questions.specs.Question.{MeetsSoFar}
 use Rattle.sysmem_tree.specs.Forest.{Forest, choices}
 use Rattle.sysmem_tree.specs.Shape.{Member}
 

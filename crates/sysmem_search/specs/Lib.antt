@@ -1,9 +1,3 @@
-pub mod Live
-pub mod Visits
-pub mod Question
-pub mod Kept
-pub mod Standing
-pub mod Searching
 pub mod Cut
 pub mod Refuting
 pub mod Wide

@@ -6,8 +6,8 @@ use Rattle.verdict_claims.specs.Matter.{Matter, forest}
 use Rattle.verdict_claims.specs.Verdict.{IsForestUnmet, IsChosen}
 use Rattle.verdict_claims.specs.declared.verdict.Verdict.{Verdict}
 use Rattle.verdict_claims.specs.declared.verdict.Verdict.TheVariants as verdicts
-use Rattle.sysmem_search.specs.Live.{choose}
-use Rattle.sysmem_search.specs.Question.{MeetsOf, IsBestOf}
+use Rattle.search_questions.specs.Live.{choose}
+use Rattle.search_questions.specs.Question.{MeetsOf, IsBestOf}
 use Rattle.sysmem_search.specs.declared.wide.Share.{Share}
 
 -- no settings meet a selection that begins with this choice

@@ -3,13 +3,13 @@
 ghost use Rattle.std.specs.Prelude.{◌≡◌, true, option_map, IfOk};
 ghost use Rattle.verdict_claims.specs.Base.{IsGivenBase};
 ghost use Rattle.verdict_claims.specs.Verdict.{IsOptimalIn};
-ghost use Rattle.sysmem_search.specs.Visits.{AreVisitsIn};
+ghost use Rattle.search_questions.specs.Visits.{AreVisitsIn};
 ghost use Rattle.sysmem_tree.specs.Domain.{HasDomain, is_ready};
 
 use crate::gate::Gate;
-use crate::question::Question;
 use crate::searching::search_from;
 use conflict_finding::Subject;
+use search_questions::Question;
 use std::alloc::{AllocError, Global};
 use sysmem_sanitise::Platform;
 use sysmem_tree::{DomainId, Tree};

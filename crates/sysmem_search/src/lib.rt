@@ -9,14 +9,9 @@
 
 mod deciding;
 mod gate;
-mod kept;
-mod levels;
-mod on_base;
 mod proving;
-mod question;
 mod refuting;
 mod searching;
-mod settling;
 mod wide;
 
 pub use deciding::{Found, search};

@@ -7,12 +7,12 @@ ghost use Rattle.verdict_claims.specs.Verdict.{IsOptimalIn};
 ghost use Rattle.verdict_claims.specs.declared.certificate.Proof.TheVariants as proves;
 ghost use Rattle.verdict_claims.specs.declared.verdict.Verdict.TheVariants as verdicts;
 ghost use Rattle.sysmem_search.specs.Cut.{IsCutProof};
-ghost use Rattle.sysmem_search.specs.Question.{IsOptimalOf, IsProofOf};
+ghost use Rattle.search_questions.specs.Question.{IsOptimalOf, IsProofOf};
 ghost use Rattle.sysmem_tree.specs.Domain.{HasDomain};
 
-use crate::question::Question;
 use crate::refuting::{refute_earlier, refute_from};
 use conflict_finding::{Subject, lines_before};
+use search_questions::Question;
 use std::alloc::{AllocError, Global};
 use sysmem_sanitise::Platform;
 use sysmem_tree::layout_laws::few_choices;

@@ -8,12 +8,12 @@ ghost use Rattle.verdict_claims.specs.Conflict.{IsConflictFor};
 ghost use Rattle.verdict_claims.specs.Matter.{forest, terms};
 ghost use Rattle.verdict_claims.specs.Verdict.{IsForestUnmet, IsUnmetBefore};
 ghost use Rattle.sysmem_search.specs.Cut.{AreCut};
-ghost use Rattle.sysmem_search.specs.Question.{MeetsOf, MeetsHere};
+ghost use Rattle.search_questions.specs.Question.{MeetsOf, MeetsHere};
 ghost use Rattle.sysmem_search.specs.Refuting.{AddsRefutation, RefutesFirst};
 ghost use Rattle.sysmem_tree.specs.Forest.{choices};
 ghost use Rattle.sysmem_tree.specs.Selection.{IsPrefix, after};
 
-use crate::question::Question;
+use search_questions::Question;
 use std::alloc::{AllocError, Global};
 use sysmem_tree::Prefix;
 use verdict_claims::{EarlierChoices, Item, Refutation};

@@ -4,11 +4,11 @@ ghost use Rattle.std.specs.Prelude.{◌≡◌, ◌<◌, ◌≤◌, length, is_so
 ghost use Rattle.sysmem_merge.specs.declared.settings.Settings.{Settings as Settled};
 ghost use Rattle.sysmem_tree.specs.declared.tree.TheConstants.{MOST_NODES};
 ghost use Rattle.verdict_claims.specs.Matter.{forest};
-ghost use Rattle.sysmem_search.specs.Searching.{IsFoundOf};
+ghost use Rattle.search_questions.specs.Searching.{IsFoundOf};
 ghost use Rattle.sysmem_tree.specs.Selection.{IsPrefix, after};
 
 use crate::gate::Gate;
-use crate::question::Question;
+use search_questions::Question;
 use std::alloc::AllocError;
 use verdict_claims::laws::cuts_lose_nothing;
 

@@ -11,9 +11,9 @@ ghost use Rattle.sysmem_tree.specs.Selection.{IsPrefix};
 
 use crate::deciding::{Found, search};
 use crate::gate::Gate;
-use crate::question::Question;
 use crate::searching::search_from;
 use conflict_finding::Subject;
+use search_questions::Question;
 use std::alloc::{AllocError, Global};
 use std::thread;
 use std::thread::Threads;

@@ -1,10 +1,10 @@
 -- The verdict is what was found from no choices on.
 use Rattle.std.proofs.Common.{[], Some, sym, ◌∙◌, ap, subst}
 use Rattle.std.specs.Prelude.{MatchOption, option_map}
-use Rattle.sysmem_search.specs.Standing.{Standing}
+use Rattle.search_questions.specs.Standing.{Standing}
 use Rattle.sysmem_search.proofs.Decided.{many_counted, few_counted, decided_empty, best_found, decided_chosen}
-use Rattle.sysmem_search.proofs.Finding.{none_best}
-use Rattle.sysmem_search.specs.Searching.{IsFoundOf}
+use Rattle.search_questions.proofs.CallerLemmas.{none_best}
+use Rattle.search_questions.specs.Searching.{IsFoundOf}
 use Rattle.sysmem_tree.specs.Shape.{shape_of}
 use Rattle.sysmem_search.proofs.deciding.search.Goals as goal
 

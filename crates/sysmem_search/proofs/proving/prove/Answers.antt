@@ -7,7 +7,7 @@ use Rattle.verdict_claims.specs.Verdict.{IsOptimalIn}
 use Rattle.verdict_claims.specs.declared.certificate.Proof.TheVariants as proves
 use Rattle.verdict_claims.specs.declared.verdict.Verdict.TheVariants as verdicts
 use Rattle.sysmem_search.specs.Cut.{IsCutProof}
-use Rattle.sysmem_search.specs.Question.{IsOptimalOf, IsProofOf}
+use Rattle.search_questions.specs.Question.{IsOptimalOf, IsProofOf}
 use Rattle.sysmem_search.proofs.proving.prove.Goals as goal
 
 pub certify-requires : goal.certify-requires

@@ -3,12 +3,11 @@ use Rattle.std.proofs.Common.{[], ◌∷◌, ◌++◌, refl, sym, ◌∙◌, ap,
 use Rattle.std.specs.Prelude.{IfSome}
 use Rattle.verdict_claims.specs.Matter.{forest}
 use Rattle.verdict_claims.specs.Verdict.{IsForestUnmet}
-use Rattle.sysmem_search.specs.Question.{MeetsOf}
+use Rattle.search_questions.specs.Question.{MeetsOf}
 use Rattle.sysmem_search.specs.Refuting.{AddsRefutation}
-use Rattle.sysmem_search.specs.Standing.{Standing}
-use Rattle.sysmem_search.proofs.Finding.{entered_at, long_push, pushed_prefix}
+use Rattle.search_questions.specs.Standing.{Standing}
+use Rattle.search_questions.proofs.CallerLemmas.{entered_at, long_push, pushed_prefix, met_prefix, unmet_prefix, unmet_selection}
 use Rattle.sysmem_search.proofs.Refuted.{no_choice_added, choice_unmet, choice_added, all_choices_added}
-use Rattle.sysmem_search.proofs.Unmet.{met_prefix, unmet_prefix, unmet_selection}
 use Rattle.sysmem_tree.specs.Selection.{IsPrefix, after}
 use Rattle.sysmem_search.proofs.refuting.+refute_from.Goals as goal
 use Rattle.sysmem_search.proofs.refuting.+refute_from.Goals.{then-is_last+in_ok-refute_last, else-is_last+in_ok-enter+in_ok-refute_from}

@@ -3,10 +3,10 @@ use Rattle.std.proofs.Common.{◌≡◌, [], ◌∷◌, ◌++◌, ◌+◌, refl,
 use Rattle.std.specs.Prelude.{IfSome}
 use Rattle.verdict_claims.specs.Matter.{forest}
 use Rattle.verdict_claims.specs.Verdict.{IsForestUnmet}
-use Rattle.sysmem_search.specs.Question.{MeetsOf}
+use Rattle.search_questions.specs.Question.{MeetsOf}
 use Rattle.sysmem_search.specs.Refuting.{AddsRefutation, RefutesFirst}
-use Rattle.sysmem_search.specs.Standing.{Standing}
-use Rattle.sysmem_search.proofs.Finding.{entered_at, long_push, pushed_prefix}
+use Rattle.search_questions.specs.Standing.{Standing}
+use Rattle.search_questions.proofs.CallerLemmas.{entered_at, long_push, pushed_prefix}
 use Rattle.sysmem_search.proofs.Refuted.{has_children, none_refuted, earlier_choice_unmet, choice_refuted}
 use Rattle.sysmem_tree.specs.Selection.{IsPrefix, after}
 use Rattle.sysmem_search.proofs.refuting.refute_before.Goals as goal

@@ -4,9 +4,9 @@ use Rattle.std.specs.Prelude.{IfSome}
 use Rattle.std.proofs.Math.ListN.{drop_of_length-le}
 use Rattle.verdict_claims.specs.Matter.{forest}
 use Rattle.verdict_claims.specs.Verdict.{IsUnmetBefore}
-use Rattle.sysmem_search.specs.Question.{MeetsOf}
+use Rattle.search_questions.specs.Question.{MeetsOf}
 use Rattle.sysmem_search.specs.Refuting.{RefutesFirst}
-use Rattle.sysmem_search.specs.Standing.{Standing}
+use Rattle.search_questions.specs.Standing.{Standing}
 use Rattle.sysmem_search.proofs.Refuted.{at_start, next_choice, room_on_way, went_on, way_begun, way_cut, way_ended, next_prefix, next_unmet, way_further}
 use Rattle.sysmem_tree.specs.Selection.{IsPrefix, after}
 use Rattle.sysmem_search.proofs.refuting.refute_earlier.Goals as goal

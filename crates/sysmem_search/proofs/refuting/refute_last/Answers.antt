@@ -1,7 +1,7 @@
 -- A selection that can't be met is met by none.
 use Rattle.std.proofs.Common.{[], ◌∷◌, ◌++◌}
 use Rattle.verdict_claims.specs.Matter.{forest}
-use Rattle.sysmem_search.proofs.Unmet.{unmet_selection}
+use Rattle.search_questions.proofs.CallerLemmas.{unmet_selection}
 use Rattle.sysmem_tree.specs.Selection.{after}
 use Rattle.sysmem_search.proofs.refuting.refute_last.Goals as goal
 

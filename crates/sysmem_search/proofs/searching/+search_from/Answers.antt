@@ -2,9 +2,9 @@
 use Rattle.std.proofs.Common.{[], ◌∷◌, ◌++◌, Some, None, refl, sym, ◌∙◌, ap, subst, arith}
 use Rattle.std.specs.Prelude.{IfSome}
 use Rattle.verdict_claims.specs.Matter.{forest}
-use Rattle.sysmem_search.specs.Searching.{IsFoundOf}
-use Rattle.sysmem_search.specs.Standing.{Standing}
-use Rattle.sysmem_search.proofs.Finding.{entered_at, found_here, found_cut, begun, long_push, pushed_prefix, found_below, some_best, none_best, unmet_below, same_below, all_below}
+use Rattle.search_questions.specs.Searching.{IsFoundOf}
+use Rattle.search_questions.specs.Standing.{Standing}
+use Rattle.search_questions.proofs.CallerLemmas.{entered_at, found_here, found_cut, begun, long_push, pushed_prefix, found_below, some_best, none_best, unmet_below, same_below, all_below}
 use Rattle.sysmem_tree.specs.Selection.{IsPrefix, after}
 use Rattle.sysmem_search.proofs.searching.+search_from.Goals as goal
 

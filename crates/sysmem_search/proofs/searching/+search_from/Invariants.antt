@@ -2,7 +2,7 @@
 use Rattle.std.proofs.Common.{◌≡◌, ◌-◌, length}
 use Rattle.std.specs.Prelude.{IfSome}
 use Rattle.verdict_claims.specs.Matter.{forest}
-use Rattle.sysmem_search.proofs.Finding.{GoneThrough}
+use Rattle.search_questions.proofs.CallerLemmas.{GoneThrough}
 use Rattle.sysmem_tree.specs.Selection.{after}
 use Rattle.sysmem_search.proofs.searching.+search_from.Given as goal
 

@@ -2,9 +2,9 @@
 use Rattle.std.proofs.Common.{◌≡◌, [], ◌∷◌, ◌++◌, ℕ, List, sym, ◌∙◌, ap, subst}
 use Rattle.std.specs.Prelude.{MatchOption}
 use Rattle.verdict_claims.specs.Matter.{Matter, forest}
-use Rattle.sysmem_search.specs.Standing.{Standing}
+use Rattle.search_questions.specs.Standing.{Standing}
 use Rattle.sysmem_search.specs.Wide.{IsFirstAt}
-use Rattle.sysmem_search.proofs.Finding.{none_best}
+use Rattle.search_questions.proofs.CallerLemmas.{none_best}
 use Rattle.sysmem_search.proofs.Sharing.{nothing_at, best_at}
 use Rattle.sysmem_tree.specs.Selection.{IsPrefix}
 use Rattle.sysmem_search.proofs.wide.search_choice.Goals as goal

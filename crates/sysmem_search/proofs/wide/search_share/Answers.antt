@@ -3,7 +3,7 @@ use Rattle.std.proofs.Common.{◌≡◌, ◌<◌, ◌≤◌, [], ◌∷◌, List
 use Rattle.std.specs.Prelude.{MatchOption}
 use Rattle.std.proofs.lemmas.Bool.{cases_lt}
 use Rattle.verdict_claims.specs.Matter.{forest}
-use Rattle.sysmem_search.specs.Standing.{Standing}
+use Rattle.search_questions.specs.Standing.{Standing}
 use Rattle.sysmem_search.specs.Wide.{IsFirstAt, IsUnmetAt}
 use Rattle.sysmem_tree.specs.Selection.{IsPrefix}
 use Rattle.sysmem_search.proofs.wide.search_share.Goals as goal

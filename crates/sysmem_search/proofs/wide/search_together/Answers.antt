@@ -2,9 +2,9 @@
 use Rattle.std.proofs.Common.{◌≡◌, ◌<◌, ◌↔◌, Some, length, subst, arith}
 use Rattle.std.specs.Prelude.{IfSome, IsTrue, option_map}
 use Rattle.verdict_claims.specs.Matter.{forest}
-use Rattle.sysmem_search.specs.Live.{SomeMeet}
-use Rattle.sysmem_search.specs.Question.{MeetsSoFar}
-use Rattle.sysmem_search.specs.Standing.{Standing}
+use Rattle.search_questions.specs.Live.{SomeMeet}
+use Rattle.search_questions.specs.Question.{MeetsSoFar}
+use Rattle.search_questions.specs.Standing.{Standing}
 use Rattle.sysmem_search.specs.Wide.{IsFirstIn, share_start}
 use Rattle.sysmem_search.proofs.Sharing.{prefix_of, first_of_all, cut_at_once, share_none, share_all}
 use Rattle.sysmem_tree.specs.Forest.{choices}

@@ -1,0 +1,147 @@
+-- What is kept, of either kind of domain.
+use Rattle.std.proofs.Common.{◌≡◌, ◌≤◌, ◌<◌, ◌^◌, ◌+◌, ◌*◌, Bool, true, false, List, [], ◌++◌, Option, Some, None, length, refl, sym, ◌∙◌, ap, subst, arith}
+use Rattle.std.specs.Prelude.{◌↔◌, All, IsTrue, OnOk, IfErr, Result, Ok, Err, is_ok, option_map}
+use Rattle.std.specs.List.Sorted.{IsPermutation}
+use Rattle.std.proofs.lemmas.List.{map-append}
+use Rattle.std.proofs.lemmas.List.Elements.{filter_map-append}
+use Rattle.std.proofs.lemmas.List.Sorted.{All-permutation, IsPermutation-append_right, IsPermutation-map, IsPermutation-sym, length_permutation}
+use Rattle.sysmem_counts.proofs.CallerLemmas.{tally_in_order}
+use Rattle.sysmem_counts.specs.Counts.{IsCounted}
+use Rattle.sysmem_counts.specs.declared.constraints.CountConstraints.{CountConstraints}
+use Rattle.sysmem_counts.specs.Tally.{sum_of}
+use Rattle.sysmem_merge.specs.declared.reason.Reason.{Reason}
+use Rattle.sysmem_merge.specs.declared.settings.Settings.{Settings}
+use Rattle.sysmem_merge.specs.Best as best
+use Rattle.sysmem_merge.specs.Demands.{counts_asked}
+use Rattle.sysmem_merge.specs.Settings.{CoversOn}
+use Rattle.sysmem_merge.specs.Sum.{SumFacts, SumsUp, SumsInAnyOrder}
+use Rattle.sysmem_merge.specs.Sum as sum
+use Rattle.verdict_claims.specs.Base.{BaseFacts, terms_of}
+use Rattle.verdict_claims.specs.Members.{participants, members_at}
+use Rattle.verdict_claims.specs.Verdict.{MeetsFixed, MeetsFor, MeetsLooselyFor, IsBestFor}
+use Rattle.sysmem_sanitise.specs.Participant.{Participant}
+use Rattle.sysmem_sanitise.specs.Platform.{PlatformFacts}
+use Rattle.search_questions.specs.declared.kept.Kept.{Kept}
+use Rattle.search_questions.specs.declared.kept.Kept.TheVariants as kept_as
+use Rattle.search_questions.specs.declared.kept.Part.{Part}
+use Rattle.search_questions.specs.declared.kept.Part.TheVariants as part_as
+use Rattle.search_questions.specs.declared.on_base.OnBase.{OnBase}
+use Rattle.search_questions.specs.Kept.{TakesBase, IsKeptOf, IsPart, HasRoom, HaveRoom}
+use Rattle.verdict_claims.specs.Asked.{asked_in}
+use Rattle.search_questions.proofs.Shapes.{member_asks}
+use Rattle.search_questions.proofs.AskedMembers.{accepted_asked}
+use Rattle.search_questions.proofs.Taking.{few_asked_of}
+use Rattle.sysmem_tree.specs.Node.{NodeFacts}
+use Rattle.sysmem_tree.specs.Shape.{Member}
+
+-- with a base, a part is how its participants take it
+pub part_taken : (platform : PlatformFacts) (base : Option BaseFacts) (b : BaseFacts) (settings : Settings) (kept : OnBase) (ps : List Participant) → base ≡ Some b → settings ≡ b.settings
+    → IsPart platform base (part_as.OnBase kept) ps → TakesBase platform settings [] kept ps
+part_taken platform base b settings kept ps some is h = subst (λ s. TakesBase platform s [] kept ps) (sym is) (subst (λ o. IsPart platform o (part_as.OnBase kept) ps) some h)
+
+pub taken_part : (platform : PlatformFacts) (base : Option BaseFacts) (b : BaseFacts) (settings : Settings) (kept : OnBase) (ps : List Participant) → base ≡ Some b → settings ≡ b.settings
+    → TakesBase platform settings [] kept ps → IsPart platform base (part_as.OnBase kept) ps
+taken_part platform base b settings kept ps some is h = subst (λ o. IsPart platform o (part_as.OnBase kept) ps) (sym some) (subst (λ s. TakesBase platform s [] kept ps) is h)
+
+-- settings that the participants take behind those accepted before
+-- are settings that meet the members
+pub fixed_met : (platform : PlatformFacts) (nodes : List NodeFacts) (b : BaseFacts) (ms : List Member) (met : Bool)
+    → IsTrue met ↔ (All (CoversOn platform b.settings) (participants ms) × IsCounted (counts_asked (asked_in nodes b.accepted) ++ counts_asked (participants ms)) b.settings.count)
+    → IsTrue met ↔ MeetsFixed platform (terms_of nodes b) ms b.settings
+fixed_met platform nodes b ms met h =
+    let same : counts_asked (participants (members_at nodes b.accepted ++ ms)) ≡ counts_asked (asked_in nodes b.accepted) ++ counts_asked (participants ms) =
+    ap counts_asked (filter_map-append member_asks (members_at nodes b.accepted) ms ∙ ap (λ xs. xs ++ participants ms) (accepted_asked nodes b.accepted))
+    ∙ map-append (λ p. p.counts) (asked_in nodes b.accepted) (participants ms) in (
+      λ is. record { same = refl; covers = (h.0 is).0; counted = subst (λ xs. IsCounted xs b.settings.count) (sym same) (h.0 is).1 },
+      λ m. h.1 (m.covers, subst (λ xs. IsCounted xs b.settings.count) same m.counted),
+    )
+
+-- the test of settings that are a base's, behind what is kept
+abbrev pub Suits : PlatformFacts → Settings → OnBase → Bool → Type 0
+Suits platform settings kept met = (platform' : PlatformFacts) (earlier ps : List Participant) → TakesBase platform' settings earlier kept ps
+    → IsTrue met ↔ (All (CoversOn platform' settings) ps × IsCounted (counts_asked earlier ++ counts_asked ps) settings.count)
+
+module _ (platform : PlatformFacts) (nodes : List NodeFacts) (base : Option BaseFacts) (ms : List Member) where
+  module _ (b : BaseFacts) (some : base ≡ Some b) (settings : Settings) (is : settings ≡ b.settings) (kept : OnBase) (met : Bool) (suits : Suits platform settings kept met)
+      (keeps : IsKeptOf platform nodes base (kept_as.OnBase kept) (participants ms)) where
+    test : IsTrue met ↔ MeetsFixed platform (terms_of nodes b) ms b.settings
+    test = fixed_met platform nodes b ms met (subst (λ s. Suits platform s kept met) is suits platform (asked_in nodes b.accepted) (participants ms)
+        (subst (λ o. IsKeptOf platform nodes o (kept_as.OnBase kept) (participants ms)) some keeps))
+
+    pub base_met : IsTrue met ↔ ((t : Settings) × MeetsLooselyFor platform (option_map (terms_of nodes) base) ms t)
+    base_met = subst (λ o. IsTrue met ↔ ((t : Settings) × MeetsLooselyFor platform (option_map (terms_of nodes) o) ms t)) (sym some)
+        (λ yes'. (b.settings, test.0 yes'), λ t. test.1 (subst (MeetsFixed platform (terms_of nodes b) ms) t.1.same t.1))
+
+    pub base_best : met ≡ true → IsBestFor platform (option_map (terms_of nodes) base) ms settings
+    base_best yes' = subst (λ o. IsBestFor platform (option_map (terms_of nodes) o) ms settings) (sym some) (subst (MeetsFixed platform (terms_of nodes b) ms) (sym is) (test.0 yes'))
+
+    pub base_none : met ≡ false → (t : Settings) → ¬ (MeetsFor platform (option_map (terms_of nodes) base) ms t)
+    base_none no' = subst (λ o. (t : Settings) → ¬ (MeetsFor platform (option_map (terms_of nodes) o) ms t)) (sym some)
+        (λ t meets. never met no' (test.1 (subst (MeetsFixed platform (terms_of nodes b) ms) meets.same meets))) where
+          never : (x : Bool) → x ≡ false → IsTrue x → ⊥
+          never true e t = absurd (cc)
+          never false e t = absurd (cc)
+
+-- a sum was asked whether more may meet it
+pub record SumAsked (platform : PlatformFacts) (kept : SumFacts) (r : Result Unit Reason) : Type 0 where
+  pub met : (ps : List Participant) → SumsUp kept platform ps → OnOk r (sum.IsMet false platform ps)
+  pub none : (ps : List Participant) → SumsUp kept platform ps → IfErr r (λ _. best.IsUnmet false platform ps)
+
+-- a sum of the members of an initial domain
+pub sum_met : (platform : PlatformFacts) (nodes : List NodeFacts) (base : Option BaseFacts) (ms : List Member) (kept : SumFacts) (r : Result Unit Reason) (met : Bool) → met ≡ is_ok r
+    → SumAsked platform kept r
+    → IsKeptOf platform nodes base (kept_as.Sum kept) (participants ms) → IsTrue met ↔ ((t : Settings) × MeetsLooselyFor platform (option_map (terms_of nodes) base) ms t)
+sum_met platform nodes (Some b) ms kept r met is asked keeps = absurd keeps
+sum_met platform nodes None ms kept r met is asked keeps = subst (λ x. IsTrue x ↔ ((t : Settings) × MeetsLooselyFor platform None ms t)) (sym is)
+    (by r (asked.met (participants ms) keeps) (asked.none (participants ms) keeps)) where
+      by : (r : Result Unit Reason) → OnOk r (sum.IsMet false platform (participants ms)) → IfErr r (λ _. best.IsUnmet false platform (participants ms))
+          → IsTrue (is_ok r) ↔ ((t : Settings) × MeetsLooselyFor platform None ms t)
+      by (Ok u) m n = (λ _. m, λ _. refl)
+      by (Err e) m n = (λ is. absurd (cc), λ t. absurd (n t.0 t.1))
+
+-- what is kept of a prefix and of a choice, joined
+pub joined_base : (above more joined : OnBase) → ((platform : PlatformFacts) (settings : Settings) (earlier ps qs : List Participant) → TakesBase platform settings earlier above ps
+    → TakesBase platform settings [] more qs → TakesBase platform settings earlier joined (ps ++ qs)) → (platform : PlatformFacts) (nodes : List NodeFacts) (base : Option BaseFacts) (ps qs : List Participant)
+    → IsKeptOf platform nodes base (kept_as.OnBase above) ps → IsPart platform base (part_as.OnBase more) qs → IsKeptOf platform nodes base (kept_as.OnBase joined) (ps ++ qs)
+joined_base above more joined join platform nodes None ps qs keeps is = absurd keeps
+joined_base above more joined join platform nodes (Some b) ps qs keeps is = join platform b.settings (asked_in nodes b.accepted) ps qs keeps is
+
+-- a part of at most 128 participants takes one more
+pub has_room : (platform : PlatformFacts) (base : Option BaseFacts) (part : Part) (ps : List Participant) → IsPart platform base part ps → length ps ≤ 128 → HasRoom part
+has_room platform None (part_as.Share share) ps is few = omega (arith, is.sums.many, few)
+has_room platform None (part_as.OnBase kept) ps is few = absurd is
+has_room platform (Some b) (part_as.Share share) ps is few = absurd is
+has_room platform (Some b) (part_as.OnBase kept) ps is few = omega (arith, is.small, few)
+
+-- a prefix and a choice of so few participants fit together
+pub have_room : (platform : PlatformFacts) (nodes : List NodeFacts) (base : Option BaseFacts) (kept : Kept) (part : Part) (ps qs : List Participant) → (IsKeptOf platform nodes base kept ps) → IsPart platform base part qs
+    → ((b : BaseFacts) → base ≡ Some b → length b.accepted ≤ 128) → length ps ≤ 128 → length qs ≤ 128 → HaveRoom kept part
+have_room platform nodes None (kept_as.Sum s) (part_as.Share share) ps qs keeps is few a b = omega (arith, keeps.many, is.sums.many, a, b)
+have_room platform nodes None (kept_as.Sum s) (part_as.OnBase kept) ps qs keeps is few a b = tt
+have_room platform nodes None (kept_as.OnBase s) (part_as.Share share) ps qs keeps is few a b = tt
+have_room platform nodes None (kept_as.OnBase s) (part_as.OnBase kept) ps qs keeps is few a b = absurd keeps
+have_room platform nodes (Some base) (kept_as.Sum s) (part_as.Share share) ps qs keeps is few a b = absurd keeps
+have_room platform nodes (Some base) (kept_as.Sum s) (part_as.OnBase kept) ps qs keeps is few a b = tt
+have_room platform nodes (Some base) (kept_as.OnBase s) (part_as.Share share) ps qs keeps is few a b = tt
+have_room platform nodes (Some base) (kept_as.OnBase s) (part_as.OnBase kept) ps qs keeps is few a b =
+    let accepted = few base refl in omega (arith, keeps.small, is.small, few_asked_of nodes base.accepted, accepted, a, b)
+
+-- what is kept of participants is kept of them in any order
+pub kept_in_order : SumsInAnyOrder → (platform : PlatformFacts) (nodes : List NodeFacts) (base : Option BaseFacts) (kept : Kept) (ps qs : List Participant) → IsPermutation ps qs
+    → IsKeptOf platform nodes base kept ps → IsKeptOf platform nodes base kept qs
+kept_in_order law platform nodes None (kept_as.Sum s) ps qs order keeps = law s platform ps qs order keeps
+kept_in_order law platform nodes None (kept_as.OnBase s) ps qs order keeps = absurd keeps
+kept_in_order law platform nodes (Some base) (kept_as.Sum s) ps qs order keeps = absurd keeps
+kept_in_order law platform nodes (Some base) (kept_as.OnBase s) ps qs order keeps =
+    let earlier = counts_asked (asked_in nodes base.accepted) in
+    let mixed = IsPermutation-append_right earlier (counts_asked ps) (counts_asked qs) (IsPermutation-map (λ (p : Participant). p.counts) ps qs order) in record {
+      counts = record {
+        tallied = keeps.counts.tallied ∙ tally_in_order (earlier ++ counts_asked ps) (earlier ++ counts_asked qs) mixed;
+        fits = All-permutation (λ (q : CountConstraints). q.max_buffer_count < 2 ^ 32) (earlier ++ counts_asked ps) (earlier ++ counts_asked qs) mixed keeps.counts.fits;
+      };
+      small = subst (λ n. sum_of s.counts ≤ (length (asked_in nodes base.accepted) + n) * 2 ^ 33) (sym (length_permutation ps qs order)) keeps.small;
+      accept = (
+        λ is. All-permutation (CoversOn platform base.settings) ps qs order (keeps.accept.0 is),
+        λ all. keeps.accept.1 (All-permutation (CoversOn platform base.settings) qs ps (IsPermutation-sym ps qs order) all),
+      );
+    }

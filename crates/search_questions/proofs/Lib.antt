@@ -1,0 +1,12 @@
+pub mod Raising
+pub mod Shapes
+pub mod Sofar
+pub mod Finding
+pub mod AskedMembers
+pub mod Walking
+pub mod Taking
+pub mod Accepting
+pub mod Keeping
+pub mod Entering
+pub mod Unmet
+pub mod CallerLemmas
