@@ -1,5 +1,5 @@
--- A job whose files are apart doesn't empty its script.
-use Rattle.std.proofs.Common.{◌≡◌, ◌∙◌, ◌⊎◌, ℕ, inl, inr, refl, sym, ap, arith, slice_index, codes, List, Option, Some, None, IsSomeAnd}
+-- A job empties its script if it has one file, and not if its files are apart.
+use Rattle.std.proofs.Common.{◌≡◌, ◌∙◌, ℕ, inl, inr, refl, sym, ap, arith, slice_index, codes, List, Option, Some, None, IsSomeAnd}
 use Rattle.clap.specs.Words.{Row, Text}
 use Rattle.command_line.specs.CommandLine.{AsksForJob, EmptiesScript, IsOneFile}
 use Rattle.command_line.specs.declared.words.Job.{Job}
@@ -47,3 +47,14 @@ pub kept_apart : (o : Option (Text × List Row)) (job : Job) → IsSomeAnd o (λ
     → IsSomeAnd o (λ e. AsksForJob e job × ¬ EmptiesScript e)
 kept_apart None job h apart = h
 kept_apart (Some e) job h apart = (h, not_emptied e job h apart)
+
+emptied : (entries : Text × List Row) (job : Job) → AsksForJob entries job → IsOneFile job → EmptiesScript entries
+emptied entries (Run file is_json proof) asks one = record { file = file.now; reads = asks.1; writes = inl (asks.0, asks.3 ∙ one) }
+emptied entries (Threads file) asks one = absurd one
+emptied entries (Explain file is_json page is_strict) asks one = record { file = file.now; reads = asks.1; writes = inr (asks.0, asks.3 ∙ one) }
+emptied entries (Check file proof) asks one = absurd one
+
+-- entries that ask for a job with one file empty the script
+pub emptied_by : (o : Option (Text × List Row)) (job : Job) → IsSomeAnd o (λ e. AsksForJob e job) → IsOneFile job → IsSomeAnd o EmptiesScript
+emptied_by None job h one = h
+emptied_by (Some e) job h one = emptied e job h one

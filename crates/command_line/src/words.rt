@@ -1,7 +1,7 @@
 //! The command line: the job that the words after the program's name ask for.
-ghost use Rattle.std.specs.Prelude.{◌≡◌, Err, IfNone, IfOk, IfSome, IsSomeAnd, false, map, string_bytes};
+ghost use Rattle.std.specs.Prelude.{◌≡◌, Err, IfNone, IfOk, IfSome, IsOkAnd, IsSomeAnd, false, map, string_bytes};
 ghost use Rattle.std.specs.Bool.{Decides};
-ghost use Rattle.clap.specs.Words.{FailsBy, app_of, fault_of, found_of, rows_of, rule_of, subcommand_of, subcommand_rows_of};
+ghost use Rattle.clap.specs.Words.{AddsSubcommand, FailsBy, app_of, fault_of, found_of, rows_of, rule_of, subcommand_of, subcommand_rows_of};
 ghost use Rattle.clap.specs.declared.builder.command.Command.TheViews.{out-Command as fields_of};
 ghost use Rattle.command_line.specs.CommandLine.{AsksForJob, AsksForNone, EmptiesScript, IsOneFile, IsPlainRun, IsRefusedBy, certificate_rule, check_app, explain_app, file_rule, flag_of, jobless_app, json_rule, page_rule, players_app, proof_rule, replay_app, run_app, runs_app, strict_rule, tellers_app, threads_app};
 
@@ -184,36 +184,39 @@ fn is_set(entries: &ArgMatches<'_>, flag: &str) -> bool
 fn replay_command<'a>(alloc: Global) -> Result<Command<'a>, AllocError>
     ensures { IfOk result (λ c. app_of c ≡ replay_app) }
 {
-    let command = command_of_tellers(alloc)?;
-    let check = check_command(alloc)?;
-    command.subcommand(check)
+    with_subcommand(command_of_tellers(alloc)?, check_command(alloc))
 }
 
 /// The same without `check`.
 fn command_of_tellers<'a>(alloc: Global) -> Result<Command<'a>, AllocError>
     ensures { IfOk result (λ c. app_of c ≡ tellers_app) }
 {
-    let command = command_of_players(alloc)?;
-    let explain = explain_command(alloc)?;
-    command.subcommand(explain)
+    with_subcommand(command_of_players(alloc)?, explain_command(alloc))
 }
 
 /// The same with the subcommands `run` and `threads` alone.
 fn command_of_players<'a>(alloc: Global) -> Result<Command<'a>, AllocError>
     ensures { IfOk result (λ c. app_of c ≡ players_app) }
 {
-    let command = command_of_runs(alloc)?;
-    let threads = threads_command(alloc)?;
-    command.subcommand(threads)
+    with_subcommand(command_of_runs(alloc)?, threads_command(alloc))
 }
 
 /// The same with the subcommand `run` alone.
 fn command_of_runs<'a>(alloc: Global) -> Result<Command<'a>, AllocError>
     ensures { IfOk result (λ c. app_of c ≡ runs_app) }
 {
-    let command = jobless_command(alloc)?;
-    let run = run_command(alloc)?;
-    command.subcommand(run)
+    with_subcommand(jobless_command(alloc)?, run_command(alloc))
+}
+
+/// The command, with the subcommand that was made for it.
+fn with_subcommand<'a>(
+    command: Command<'a>,
+    subcommand: Result<Command<'a>, AllocError>,
+) -> Result<Command<'a>, AllocError>
+    ensures { IfOk result (λ new. IsOkAnd subcommand.entry
+        (λ sub. AddsSubcommand command.entry sub new)) }
+{
+    command.subcommand(subcommand?)
 }
 
 /// The same with no subcommand.
