@@ -57,7 +57,7 @@ fn laid(pair: Pair, colour: ColourSpace, corner: Corner) -> FlatImage
 }
 
 /// The smallest image of a pair in these bounds.
-#[tactic(auto, using(crate::proofs::Corners::some_corner, crate::proofs::Corners::lies_within))]
+#[tactic(auto, using(crate::proofs::Corners::lies_within))]
 fn drawn(pair: Pair, colour: ColourSpace, settings: &Settings) -> FlatImage
     requires { HasImage pair colour settings.now }
     ensures { IsImageWritten pair colour settings.now result }

@@ -1,9 +1,10 @@
 -- With one more there are settings, or none.
-use Rattle.std.proofs.Common.{arith, take, false}
+use Rattle.std.proofs.Common.{◌≡◌, length, take, true, false, refl, subst, arith}
+use Rattle.std.specs.Prelude.{IfSome}
 use Rattle.sysmem_merge.specs.Aggregate.{StandsFor}
 use Rattle.sysmem_merge.specs.Best.{IsBest, IsUnmet}
 use Rattle.sysmem_merge.specs.Reasons.{IsFirstReason}
-use Rattle.flat_negotiation.proofs.Lists.{so-more}
+use Rattle.flat_negotiation.proofs.Lists.{so-all, so-more}
 use Rattle.flat_negotiation.proofs.settling.stop_of.Goals as goal
 
 pub returns-in-Err : goal.returns-in-Err
@@ -27,3 +28,15 @@ loop-who-preserved c =
       omega (arith, c.in_ok-add.ensures.grows, c.loop-who.invariant.1),
       so-more (λ l. IsBest false platform l c.in-Ok.settings) asked c.loop-who.who c.index-asked-who.result c.loop-who-test.true c.index-asked-who.is (c.in-Ok.ensures.best platform _ stands),
     )
+
+pub returns : goal.returns
+returns c =
+    let asked = c.args.asked.now in
+    let platform = c.args.platform.now in
+    let at_end : c.loop-who.who ≡ length asked = omega (arith, c.loop-who-test.false, c.loop-who.auto.who-end) in
+    record {
+      who = refl;
+      shared = subst (λ k. IfSome c.loop-who.shared (IsBest false platform (take k asked))) at_end c.loop-who.invariant.2;
+      unmet = so-all (λ l. IsUnmet true platform l) asked (length asked) (omega arith) c.requires.unmet;
+      reason = so-all (λ l. IsFirstReason true platform l c.args.reason) asked (length asked) (omega arith) c.requires.reason;
+    }
