@@ -13,12 +13,13 @@ use verdict_claims::Claim;
 pub enum Entry {
     /// An accepted action on a node; the constraints that it set stand in the tree.
     Acted(NodeId, ActionKind),
-    /// The decision of a domain, with its verdict and what proves it, if anything does;
-    /// `None` where memory was refused to it.
+    /// The decision of a domain, with its verdict and what proves it, if anything does; `None`
+    /// where memory was refused to it.
     Decided(DomainId, Option<Arc<Claim>>),
 }
 
-/// Enters an accepted action.
+/// Adds an accepted action on a node behind a history's entries. The history has room for one more,
+/// so this takes no memory.
 pub fn enter_action(history: &mut Vec<Entry>, node: NodeId, kind: ActionKind)
     requires { vec_len history.old < vec_capacity history.old }
     ensures items { history.new.items ≡ history.old.items ++ entries.Acted node kind ∷ [] }

@@ -26,8 +26,8 @@ pub fn open_nodes(tree: &Tree) -> [bool; MOST_NODES]
     marks
 }
 
-/// Marks the nodes that are open where a domain has come to wait and none did before; as
-/// long as one does, the marks stay.
+/// Marks anew the nodes that are open where domains are `waiting` and `none_waited` before; else
+/// the marks stay.
 pub fn mark_for_first(
     tree: &Tree,
     none_waited: bool,

@@ -1,4 +1,4 @@
--- A job empties its script if it has one file, and not if its files are apart.
+-- Words empty their script where the job is to write where the script stands, and else not.
 use Rattle.std.proofs.Common.{◌≡◌, ◌∙◌, ℕ, inl, inr, refl, sym, ap, arith, slice_index, codes, List, Option, Some, None, IsSomeAnd}
 use Rattle.clap.specs.Words.{Row, Text}
 use Rattle.command_line.specs.CommandLine.{AsksForJob, EmptiesScript, IsOneFile}
@@ -42,7 +42,7 @@ not_emptied entries (Check file proof) asks apart h = elim h.writes [
   | inr explain ↦ explain_or_check (sym explain.0 ∙ asks.0)
 ]
 
--- entries that ask for such a job don't empty a script
+-- entries that ask for a job that doesn't write where its script stands empty no script
 pub kept_apart : (o : Option (Text × List Row)) (job : Job) → IsSomeAnd o (λ e. AsksForJob e job) → ¬ IsOneFile job
     → IsSomeAnd o (λ e. AsksForJob e job × ¬ EmptiesScript e)
 kept_apart None job h apart = h
@@ -54,7 +54,7 @@ emptied entries (Threads file) asks one = absurd one
 emptied entries (Explain file is_json page is_strict) asks one = record { file = file.now; reads = asks.1; writes = inr (asks.0, asks.3 ∙ one) }
 emptied entries (Check file proof) asks one = absurd one
 
--- entries that ask for a job with one file empty the script
+-- entries that ask for a job that writes where its script stands empty it
 pub emptied_by : (o : Option (Text × List Row)) (job : Job) → IsSomeAnd o (λ e. AsksForJob e job) → IsOneFile job → IsSomeAnd o EmptiesScript
 emptied_by None job h one = h
 emptied_by (Some e) job h one = emptied e job h one

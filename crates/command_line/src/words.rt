@@ -208,7 +208,8 @@ fn command_of_runs<'a>(alloc: Global) -> Result<Command<'a>, AllocError>
     with_subcommand(jobless_command(alloc)?, run_command(alloc))
 }
 
-/// The command, with the subcommand that was made for it.
+/// The command, with the subcommand that was made for it. `AllocError` where memory to make it, or
+/// to add it, is refused.
 fn with_subcommand<'a>(
     command: Command<'a>,
     subcommand: Result<Command<'a>, AllocError>,
@@ -219,7 +220,7 @@ fn with_subcommand<'a>(
     command.subcommand(subcommand?)
 }
 
-/// The same with no subcommand.
+/// The command line with no subcommand.
 fn jobless_command<'a>(alloc: Global) -> Result<Command<'a>, AllocError>
     ensures { IfOk result (λ c. app_of c ≡ jobless_app) }
 {

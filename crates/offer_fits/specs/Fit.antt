@@ -14,8 +14,8 @@ abbrev pub OwnWithoutImage : Offer → ImageBounds → Type 0
 OwnWithoutImage NoImage b = IsOwn NoImage b
 OwnWithoutImage (image pair colour) b = Unit {0}
 
--- a size of 64 bits that holds an image which the bounds admit and
--- which is as large as they ask for
+-- a size of 64 bits that holds an image which the bounds admit and which is as large as they ask
+-- for
 pub record IsSoundFit (t : Fit) : Type 0 where
   pub some : 1 ≤ t.size_bytes
   pub fits : t.size_bytes < 2 ^ 64

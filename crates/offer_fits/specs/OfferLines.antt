@@ -11,8 +11,8 @@ use Rattle.sysmem_image.specs.Lines.{AlignmentsMeet, DivisorsMeet, IsBoundsLine}
 use Rattle.offer_fits.specs.Demands.{OfferDemand}
 use Rattle.offer_fits.specs.Offers.{has_format, has_colour, bounds_asked}
 
--- no size holds the corner of these bounds, is large enough for each
--- participant and small enough for each
+-- no size holds the corner of these bounds, is large enough for each participant and small enough
+-- for each
 abbrev pub SizeAbove : Offer → List ImageBounds → List OfferDemand → Type 0
 SizeAbove o es ds = (w h r n : ℕ) → FitsWidth o es w → FitsHeight o es h → FitsRow o es w r
     → image_bytes_of o r h ≤ n → 1 ≤ n → n < 2 ^ 64

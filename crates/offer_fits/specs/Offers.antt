@@ -12,8 +12,8 @@ use Rattle.sysmem_image.specs.Colours.{lists}
 use Rattle.sysmem_image.specs.Entries.{effective, first_match, takes_colour}
 use Rattle.offer_fits.specs.Demands.{OfferDemand}
 
--- a participant with entries takes only the offers for which it has one;
--- without entries it takes every offer
+-- a participant with entries takes only the offers for which it has one; without entries it takes
+-- every offer
 abbrev pub has_format : Offer → OfferDemand → Bool
 has_format o d = length d.entries == 0 || is_some (first_match o d.entries)
 
@@ -25,8 +25,8 @@ has_colour o d = option_map_or (takes_colour o) (first_match o d.entries) true
 abbrev pub entry_bounds : Offer → OfferDemand → Option ImageBounds
 entry_bounds o d = option_map (effective o) (first_match o d.entries)
 
--- the bounds that a participant's entry puts on the offer have the property; a
--- participant without an entry puts none
+-- the bounds that a participant's entry puts on the offer have the property; a participant without
+-- an entry puts none
 abbrev pub Asks : Offer → (ImageBounds → Type 0) → OfferDemand → Type 0
 Asks o P d = IfSome (entry_bounds o d) P
 

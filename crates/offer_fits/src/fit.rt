@@ -12,8 +12,8 @@ use sysmem_counts::Field;
 use sysmem_formats::Offer;
 use sysmem_image::{ImageBounds, corner};
 
-/// What settings say of images: an offer, the bounds on its images, and
-/// a buffer's size for it in bytes.
+/// What settings say of images: an offer, the bounds on its images, and a buffer's size for it in
+/// bytes.
 #[derive(Clone, Copy, Debug, PartialEq, Eq)]
 pub struct Fit {
     pub offer: Offer,

@@ -9,8 +9,8 @@ use Rattle.search_questions.specs.Visits.{IsRaised}
 use Rattle.sysmem_tree.specs.Forest.{Forest}
 use Rattle.sysmem_tree.specs.Shape.{Member}
 
--- the choices are as before; no selection of the forest can be met, and
--- each live prefix of it was visited
+-- the choices are as before; no selection of the forest can be met, and each live prefix of it was
+-- visited
 pub record NothingFound (Met Loosely : Meeting) (d : Forest Member) (old new : List ℕ)
     (from to : ℕ) : Type 0 where
   pub same : new ≡ old

@@ -52,8 +52,8 @@ AreMade m levels = (k : ℕ) (level : Level) → slice_get levels k ≡ Some lev
 abbrev pub IsSlot : ℕ → ℕ → Type 0
 IsSlot place slot = slot + place ≡ 127
 
--- what is kept in a slot is of the child whose slot it is: of the
--- participants that the choice of it settles
+-- what is kept in a slot is of the child whose slot it is: of the participants that the choice of
+-- it settles
 abbrev pub AreParts : Matter → Layout → List (Option Part) → Type 0
 AreParts m layout parts = (place slot : ℕ) (part : Part) → IsSlot place slot
     → slice_get parts slot ≡ Some (Some part)

@@ -17,8 +17,8 @@ abbrev pub AllDiffer : List (List ℕ) → Type 0
 AllDiffer [] = Unit {0}
 AllDiffer (p ∷ ps) = AllByRecursion (λ q. p ≢ q) ps × AllDiffer ps
 
--- a number went up by one for each of the lists with the property,
--- each once; at 2 ^ 64 - 1 it stays
+-- a number went up by one for each of the lists with the property, each once; at 2 ^ 64 - 1 it
+-- stays
 pub record IsRaised (P : List ℕ → Type 0) (from to : ℕ) : Type 0 where
   pub lists : List (List ℕ)
   pub different : AllDiffer lists

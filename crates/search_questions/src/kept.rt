@@ -1,5 +1,5 @@
-//! What a search keeps of participants, so that each is read once and not
-//! again at each prefix that settles it.
+//! What a search keeps of participants, so that each is read once and not again at each prefix that
+//! settles it.
 
 ghost use Rattle.std.specs.Prelude.{◌≡◌, ◌↔◌, ◌++◌, List, [], ◌∷◌, IfOk, IsTrue, MatchOption, Option, is_some};
 ghost use Rattle.sysmem_merge.specs.declared.settings.Settings.{Settings as Settled};
@@ -77,8 +77,8 @@ impl Kept {
         }
     }
 
-    /// Becomes what is kept of the participants above, then those of a part,
-    /// whatever it was. It takes no memory.
+    /// Becomes what is kept of the participants above, then those of a part, whatever it was. It
+    /// takes no memory.
     pub(crate) fn join_of(&mut self, subject: &Subject<'_>, above: &Kept, part: &Part)
         requires { HaveRoom above.now part.now }
         ensures { (others ps qs : List Participant) → IsKeptFor subject.now self.old others
@@ -107,8 +107,8 @@ impl Kept {
         }
     }
 
-    /// The best settings for the participants, who are all that there are; `None` where
-    /// none meet them. It takes no memory.
+    /// The best settings for the participants, who are all that there are; `None` where none meet
+    /// them. It takes no memory.
     // In line, a caller that asks only whether there are any copies no settings.
     #[inline(always)]
     pub(crate) fn best(&self, subject: &Subject<'_>) -> Option<Settings>
@@ -129,8 +129,8 @@ impl Kept {
         }
     }
 
-    /// Whether there are best settings for the participants, who are all
-    /// that there are. It takes no memory.
+    /// Whether there are best settings for the participants, who are all that there are. It takes
+    /// no memory.
     pub(crate) fn has_best(&self, subject: &Subject<'_>) -> bool
         ensures { (best : Option Settled) × (result ≡ is_some best)
             × ((ms : List Member) → IsKeptFor subject.now self.now (participants ms)

@@ -14,8 +14,8 @@ use conflict_finding::Subject;
 use std::alloc::AllocError;
 use sysmem_tree::{ChildPlace, GroupPlace, Layout, MOST_NODES};
 
-/// What is kept at a prefix. Those of longer prefixes are written over,
-/// so that a visit takes no memory.
+/// What is kept at a prefix. Those of longer prefixes are written over, so that a visit takes no
+/// memory.
 #[derive(Drop)]
 pub(crate) struct Level {
     /// The first group that is open after the choices.
@@ -24,8 +24,8 @@ pub(crate) struct Level {
     pub(crate) kept: Kept,
 }
 
-/// Makes the level below this depth that of one choice more, which settles a
-/// part and leaves this group open.
+/// Makes the level below this depth that of one choice more, which settles a part and leaves this
+/// group open.
 pub(crate) fn join_level(
     levels: &mut Vec<Level>,
     subject: &Subject<'_>,

@@ -52,7 +52,7 @@ impl<'a> Model for Question<'a> {
 }
 
 impl<'a> Question<'a> {
-    /// Of this subject, at no choice.
+    /// The question of this subject, at no choice. `AllocError` where memory is refused.
     pub fn new(subject: &'a Subject<'a>) -> Result<Question<'a>, AllocError>
         ensures { IfOk result (λ question. question
             ≡ record { matter = subject.now; choices = [] }) }
@@ -101,8 +101,8 @@ impl<'a> Question<'a> {
         }
     }
 
-    /// Whether some settings meet the participants that the choices settle, as long as
-    /// more may come. It takes no memory.
+    /// Whether some settings meet the participants that the choices settle, as long as more may
+    /// come. It takes no memory.
     pub fn is_met(&self) -> bool
         ensures { IfSome (after (forest self.now.matter) self.now.choices)
             (λ d. IsTrue result ↔ SomeMeet (MeetsSoFar self.now.matter) d) }
@@ -111,8 +111,8 @@ impl<'a> Question<'a> {
         level.kept.is_met(self.subject)
     }
 
-    /// The best settings for the participants of a selection; `None` where
-    /// none meet them. It takes no memory.
+    /// The best settings for the participants of a selection; `None` where none meet them. It takes
+    /// no memory.
     pub fn best(&self) -> Option<Settings>
         ensures { IfSome (after (forest self.now.matter) self.now.choices) (λ d. MatchOption result
             ((t : Settled) → ¬ (MeetsOf self.now.matter (settled d) t))
@@ -133,8 +133,8 @@ impl<'a> Question<'a> {
         level.kept.has_best(self.subject)
     }
 
-    /// The conflict of the participants that the choices settle which comes
-    /// first, where no settings meet them.
+    /// The conflict of the participants that the choices settle which comes first, where no
+    /// settings meet them. `AllocError` where memory is refused.
     pub fn conflict(&mut self) -> Result<Conflict, AllocError>
         requires prefix { IsPrefix (forest self.old.matter) self.old.choices }
         requires unmet { IfSome (after (forest self.old.matter) self.old.choices)
@@ -161,7 +161,7 @@ impl<'a> Question<'a> {
         }
     }
 
-    /// Whether the choices and this one are a selection.
+    /// `true` only where the choices and this one are a selection; of `false` nothing is promised.
     pub fn is_last(&self, choice: u8) -> bool
         requires { IsPrefix (forest self.now.matter) (self.now.choices ++ choice ∷ []) }
         ensures { IsTrue result
@@ -177,7 +177,8 @@ impl<'a> Question<'a> {
     }
 
     /// The conflict of the participants of the selection that the choices and this one are which
-    /// comes first, where no settings meet them. What they ask together isn't kept.
+    /// comes first, where no settings meet them. What they ask together isn't kept. `AllocError`
+    /// where memory is refused.
     pub fn last_conflict(&mut self, choice: u8) -> Result<Conflict, AllocError>
         requires room { length self.old.choices < MOST_NODES }
         requires prefix { IsPrefix (forest self.old.matter) (self.old.choices ++ choice ∷ []) }
@@ -208,8 +209,9 @@ impl<'a> Question<'a> {
         }
     }
 
-    /// Makes one choice more. It takes memory where a choice of this child, or so many
-    /// choices, are made for the first time.
+    /// Makes one choice more: `choice` is the number of a child of the next group, from 0. It takes
+    /// memory where a choice of this child, or so many choices, are made for the first time.
+    /// `AllocError` where that is refused; where the question stands then isn't promised.
     pub fn enter(&mut self, choice: u8) -> Result<(), AllocError>
         requires room { length self.old.choices < MOST_NODES }
         requires prefix { IsPrefix (forest self.old.matter) (self.old.choices ++ choice ∷ []) }

@@ -11,9 +11,8 @@ use offer_fits::{Fit, fit_of_bounds};
 use sysmem_counts::Field;
 use sysmem_formats::Offer;
 
-/// The offer with the participants' merged bounds and the least size in bytes, at least 1, that
-/// holds the bounds' corner and that the participants take, from `least_size` to `greatest_size`.
-/// Where nothing of the offer suits them, the field whose line in the table of conflicts is true.
+/// What `fit_of_bounds` gives, where merged bounds are kept of the offer; where a field is kept in
+/// their place, that field, whose line in the table of conflicts is true.
 pub(crate) fn best_fit(
     kept: &KeptBounds,
     offer: &Offer,

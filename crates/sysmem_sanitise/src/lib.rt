@@ -1,5 +1,5 @@
-//! What the records of participants and platforms state: exactly the profile's, or the first
-//! fault.
+//! What a participant's record states: exactly the profile's, or the first fault. The reader of
+//! platforms' records is passed on.
 //!
 //! ```
 //! let platform = read_platform(rt.alloc(), &value["platform"])?;

@@ -12,10 +12,10 @@ use search_questions::Question;
 use std::alloc::AllocError;
 use verdict_claims::laws::cuts_lose_nothing;
 
-/// Whether any settings meet a selection that begins with the question's choices, and
-/// then the choices go on to the first such selection; where none do, they are as before.
-/// What is settled by a prefix that can't be met isn't gone on with. The visits of
-/// prefixes are counted, at most to `u64::MAX`.
+/// Whether any settings meet a selection that begins with the question's choices, and then the
+/// choices go on to the first such selection; where none do, they are as before. What is settled by
+/// a prefix that can't be met isn't gone on with. The visits of prefixes are counted, at most to
+/// `u64::MAX`.
 pub(crate) fn search_from<G: Gate>(
     question: &mut Question<'_>,
     gate: &G,

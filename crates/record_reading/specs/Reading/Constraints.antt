@@ -90,8 +90,8 @@ constraints_fields = field.Usage ∷ field.MinBufferCountForCamping
     ∷ field.MinBufferCount ∷ field.MaxBufferCount ∷ field.BufferMemoryConstraints
     ∷ field.ImageFormatConstraints ∷ []
 
--- the participant that a value states, or its first fault, while memory for
--- one field, or for none, is refused
+-- the participant that a value states, or its first fault, while memory for one field, or for none,
+-- is refused
 abbrev pub participant_with : Option Field → Data → Result Participant Fault
 participant_with lack d = do
   _ ← object_of Whole constraints_fields d

@@ -49,8 +49,8 @@ asked_of d = do
 abbrev pub has_asked : List AskedPair → AskedPair → Bool
 has_asked pairs new = list_any (λ pair. same_asked pair new) pairs
 
--- the pairs of an entry, and one more that a field gives: none of them or of the
--- entries before asks for the same
+-- the pairs of an entry, and one more that a field gives: none of them or of the entries before
+-- asks for the same
 abbrev pub with_asked : Option Field → Field → List Entry → List AskedPair → AskedPair
     → Result (List AskedPair) Fault
 with_asked lack field entries pairs asked = do
@@ -139,8 +139,8 @@ abbrev pub entry_with : ColourSet → EntryBounds → AskedPair → Entry
 entry_with colours bounds pair =
     record { format = pair.format; modifier = pair.modifier; colours = colours; bounds = bounds }
 
--- the entries, and those that an item stands for: one for each of its
--- pairs, which share its other fields
+-- the entries, and those that an item stands for: one for each of its pairs, which share its other
+-- fields
 abbrev pub with_entry : Option Field → List Entry → Data → Result (List Entry) Fault
 with_entry lack entries d = do
   _ ← entry_object d

@@ -114,8 +114,8 @@ abbrev pub kept : {A : Type 0} → Option Field → Field → A → Result A Fau
 kept None field a = Ok a
 kept (Some lack) field a = if same_field lack field then Err (wrong WantOfMemory lack) else Ok a
 
--- the answer is what the record says where memory is refused for the
--- field of an S13, and for no other
+-- the answer is what the record says where memory is refused for the field of an S13, and for no
+-- other
 abbrev pub Reads : {A : Type 0} → (Option Field → Result A Fault) → Result A Fault → Type 0
 Reads said (Ok a) = said None ≡ Ok a
 Reads said (Err fault) = said (lack_of fault) ≡ Err fault

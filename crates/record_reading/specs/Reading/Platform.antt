@@ -63,8 +63,8 @@ colours_of lack d = do
 abbrev pub platform_fields : List Field
 platform_fields = field.Heaps ∷ field.Pairs ∷ field.ColorSpaces ∷ []
 
--- the platform that a value states, or its first fault, while memory for
--- one field, or for none, is refused
+-- the platform that a value states, or its first fault, while memory for one field, or for none, is
+-- refused
 abbrev pub platform_with : Option Field → Data → Result PlatformFacts Fault
 platform_with lack d = do
   _ ← object_of Whole platform_fields d

@@ -85,7 +85,11 @@ impl Listed for Entry {
     }
 }
 
-/// The entries of a participant's record, one for each pair that they give.
+/// The entries of a participant's record, one for each pair that they give; none where it lacks the
+/// field. At most 64 are read.
+///
+/// Refuses with the first fault, entry by entry and in the order of an entry's fields. Memory that
+/// a field takes and is refused is a fault of this field, where it takes it.
 pub fn entries_in(alloc: Global, object: &Value) -> Result<Vec<Entry>, Fault>
     ensures { Reads (λ lack. optional ImageFormatConstraints [] (entries_of lack) (view object.now))
         (seen_by (λ entries. entries.items) result) }

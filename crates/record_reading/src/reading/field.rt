@@ -24,7 +24,8 @@ fn are_keys_of(members: &Map<String, Value>, fields: &[Field]) -> bool
     members.keys().all(|key| is_key_of(key.as_str(), fields))
 }
 
-/// Whether the value is an object that has no other fields than these; else the fault at its place.
+/// Succeeds where the value is an object with no other fields than these. `NotAnObject` or
+/// `UnknownField`, at this place, where it isn't.
 pub fn expect_object(value: &Value, at: FaultPlace, fields: &[Field]) -> Result<(), Fault>
     ensures { seen_by (λ _. view value.now) result ≡ object_of at fields.now (view value.now) }
 {
@@ -46,7 +47,8 @@ pub fn expect_object(value: &Value, at: FaultPlace, fields: &[Field]) -> Result<
     }
 }
 
-/// The value of a field that the record must have, or the code of its want.
+/// The value of a field that the record must have; where it is missing, a fault of this code at the
+/// field.
 pub fn stated(object: &Value, code: Code, field: Field) -> Result<&Value, Fault>
     ensures { seen_by (λ value. view value.now) result ≡ stated code field (view object.now) }
 {
@@ -80,7 +82,8 @@ pub(super) fn number_or(
     }
 }
 
-/// A number of 32 bits, or what a record without it has.
+/// The number of a field, 0 to 4,294,967,295; `absent` where the record lacks the field, and
+/// `WrongKind` at the field where it is anything else.
 pub fn count_or(object: &Value, field: Field, absent: u32) -> Result<u32, Fault>
     ensures { result ≡ number_or field absent most_number (view object.now) }
 {

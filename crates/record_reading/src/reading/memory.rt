@@ -60,7 +60,12 @@ fn memory_of(alloc: Global, object: &Value) -> Result<MemoryConstraints, Fault>
     })
 }
 
-/// The memory constraints of a participant's record.
+/// The memory constraints of a participant's record; where it lacks the field, those of one that
+/// asks for nothing: any size, the domain cpu alone, and every heap. At most 64 permitted heaps are
+/// read.
+///
+/// Refuses with the first fault in the order of the constraints' fields. Memory that a field takes
+/// and is refused is a fault of this field, where it takes it.
 pub fn memory_in(alloc: Global, object: &Value) -> Result<MemoryConstraints, Fault>
     ensures { Reads (λ lack. optional BufferMemoryConstraints no_wishes (memory_of lack)
         (view object.now)) result }

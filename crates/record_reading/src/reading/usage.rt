@@ -31,7 +31,9 @@ fn families_of(list: &[Value]) -> Result<Usage, Fault>
     Ok(usage)
 }
 
-/// A list of families that isn't empty: none alone, or others. A repeated family counts once.
+/// A list of families that isn't empty: `none` alone, or others. A repeated family counts once.
+/// `WrongKind` where the value isn't a list or an item isn't a text, `UnknownName` where an item
+/// names no family, and `BadUsage` where the list is empty or has `none` beside others.
 pub fn usage_of(value: &Value) -> Result<Usage, Fault>
     ensures { result ≡ usage_of (view value.now) }
 {

@@ -1,3 +1,4 @@
+-- One subcommand more.
 use Rattle.command_line.specs.CommandLine.{threads_app}
 use Rattle.command_line.proofs.Grown.{joined}
 use Rattle.command_line.proofs.words.command_of_players.Goals as goal

@@ -1,3 +1,4 @@
+-- One argument after the other, none of them global.
 use Rattle.std.proofs.Common.{◌≡◌, codes, false, rules}
 use Rattle.std.proofs.lemmas.Result.{IfOk-weaker}
 use Rattle.clap.specs.declared.builder.command.Command.TheViews.{out-Command as fields_of}

@@ -1,3 +1,4 @@
+-- Its name, then its settings, one after the other; the name in usage changes none of them.
 use Rattle.std.proofs.Common.{◌≡◌, codes, rules}
 use Rattle.std.proofs.lemmas.Result.{IfOk-weaker}
 use Rattle.clap.specs.Words.{app_of, new_app}

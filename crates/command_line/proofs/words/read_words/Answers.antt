@@ -1,3 +1,4 @@
+-- A job that doesn't write where its script stands keeps it, and one that does empties it.
 use Rattle.std.proofs.Common.{rules, map, string_bytes}
 use Rattle.clap.specs.Words.{subcommand_of}
 use Rattle.command_line.specs.CommandLine.{replay_app}

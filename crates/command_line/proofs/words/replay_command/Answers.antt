@@ -1,3 +1,4 @@
+-- One subcommand more.
 use Rattle.command_line.specs.CommandLine.{check_app}
 use Rattle.command_line.proofs.Grown.{joined}
 use Rattle.command_line.proofs.words.replay_command.Goals as goal

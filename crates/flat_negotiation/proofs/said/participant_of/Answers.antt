@@ -1,4 +1,4 @@
--- What the struct states, the participant has, or it is amiss.
+-- The participant has what the struct states, or what the struct states is amiss.
 use Rattle.std.proofs.Common.{subst, sym}
 use Rattle.negotiation_inputs.specs.Amiss.{ParticipantAmiss}
 use Rattle.flat_negotiation.specs.Said.{IsParticipantSaid, wishes_amiss}

@@ -1,4 +1,4 @@
--- With one more there are settings, or none.
+-- With one more there are still settings, or none; at the end only names are missing.
 use Rattle.std.proofs.Common.{◌≡◌, length, take, true, false, refl, subst, arith}
 use Rattle.std.specs.Prelude.{IfSome}
 use Rattle.sysmem_merge.specs.Aggregate.{StandsFor}

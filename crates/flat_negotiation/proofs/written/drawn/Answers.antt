@@ -1,4 +1,4 @@
--- The smallest image lies in the size.
+-- There is a smallest image, and it lies in the size.
 use Rattle.std.proofs.Common.{arith}
 use Rattle.flat_negotiation.proofs.Corners.{lies_within, some_corner}
 use Rattle.flat_negotiation.proofs.written.drawn.Goals as goal

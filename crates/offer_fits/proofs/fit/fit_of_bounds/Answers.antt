@@ -1,3 +1,4 @@
+-- The size is the corner's bytes, the least size or 1; else a line of bounds or size is true.
 use Rattle.std.proofs.Common.{arith}
 use Rattle.std.proofs.lemmas.Result.{err_from_is_err_and}
 use Rattle.offer_fits.specs.Offers.{bounds_asked}

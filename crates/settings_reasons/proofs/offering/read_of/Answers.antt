@@ -1,4 +1,4 @@
--- One more demand.
+-- One more demand, and at the end those of all.
 use Rattle.std.proofs.Common.{subst}
 use Rattle.std.proofs.lemmas.List.{take_all}
 use Rattle.sysmem_merge.specs.Demands.{offer_demand, offer_demands}

@@ -1,4 +1,4 @@
--- One more who lacks it.
+-- One more whose entry lacks the colour space, or nobody more.
 use Rattle.std.proofs.Common.{sym, ◌∙◌}
 use Rattle.std.proofs.lemmas.List.Elements.{All-push}
 use Rattle.settings_reasons.specs.True.{LacksColour}

@@ -1,4 +1,4 @@
--- One more who lacks it.
+-- One more who has entries and none for the offer, or nobody more.
 use Rattle.std.proofs.Common.{arith}
 use Rattle.std.proofs.lemmas.List.Elements.{All-push}
 use Rattle.settings_reasons.specs.True.{LacksEntry}

@@ -1,4 +1,4 @@
--- One more who refuses it.
+-- One more who refuses the place by the field, or nobody more.
 use Rattle.std.proofs.Common.{sym, ◌∙◌}
 use Rattle.std.proofs.lemmas.List.Elements.{All-push}
 use Rattle.settings_reasons.specs.True.{Refuses}

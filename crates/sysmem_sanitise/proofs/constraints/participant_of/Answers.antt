@@ -1,3 +1,5 @@
+-- The parts that were read are a participant's; a fault of the entries is the record's, where the
+-- parts before were read.
 use Rattle.std.proofs.Common.{sym}
 use Rattle.std.proofs.lemmas.Result.{err_from_is_err_and}
 use Rattle.serde_json.specs.View.{view}
