@@ -115,10 +115,40 @@ pub fn edits_on(
 }
 
 /// Constraints after a change, with what is changed in words.
-#[derive(Drop)]
 pub struct Changed {
     pub value: Value,
     pub words: String,
+}
+
+impl Drop for Changed {
+    fn drop(self) {
+        let Changed { value: _, words: _ } = self;
+    }
+}
+
+impl Changed {
+    /// The constraints alone.
+    pub fn into_value(self) -> Value {
+        let Changed { value, words: _ } = self;
+        value
+    }
+
+    /// The constraints, and what is changed.
+    pub fn into_parts(self) -> (Value, String) {
+        let Changed { value, words } = self;
+        (value, words)
+    }
+
+    /// What is changed, with these as the memory of the constraints.
+    pub(crate) fn in_memory_of(
+        self,
+        alloc: Global,
+        constraints: &Value,
+    ) -> Result<Changed, AllocError> {
+        let (memory, words) = self.into_parts();
+        let value = with(alloc, Some(constraints), MEMORY, memory)?;
+        Ok(Changed { value, words })
+    }
 }
 
 /// The constraints with a change, on a platform with these heaps; `None` where they are so already.
@@ -211,10 +241,7 @@ fn without_memory(alloc: Global, value: &Value, key: &str) -> Result<Option<Chan
     let Some(change) = without(alloc, memory, key)? else {
         return Ok(None);
     };
-    Ok(Some(Changed {
-        value: with(alloc, Some(value), MEMORY, change.value)?,
-        words: change.words,
-    }))
+    Ok(Some(change.in_memory_of(alloc, value)?))
 }
 
 fn without_bound(alloc: Global, value: &Value, key: &str) -> Result<Option<Changed>, AllocError> {

@@ -19,10 +19,7 @@ pub(crate) fn exchanged(
     }
     if let Some(memory) = value.get(MEMORY) {
         if let Some(change) = exchanged_in(alloc, memory, least, most)? {
-            return Ok(Some(Changed {
-                value: with(alloc, Some(value), MEMORY, change.value)?,
-                words: change.words,
-            }));
+            return Ok(Some(change.in_memory_of(alloc, value)?));
         }
     }
     if !have(value, least) {
@@ -33,8 +30,9 @@ pub(crate) fn exchanged(
     for entry in entries_of(value) {
         match exchanged_in(alloc, entry, least, most)? {
             Some(change) => {
-                words = change.words;
-                copy.push(change.value)?;
+                let (entry, said) = change.into_parts();
+                words = said;
+                copy.push(entry)?;
             }
             None => copy.push(entry.clone()?)?,
         }

@@ -10,11 +10,24 @@ use serde_json::Value;
 use std::alloc::{AllocError, Global};
 
 /// Constraints that a call states in the place of its own.
-#[derive(Drop)]
 pub struct Stated {
     /// The place of the call, from 0.
     pub place: usize,
     pub value: Value,
+}
+
+impl Drop for Stated {
+    fn drop(self) {
+        let Stated { place: _, value: _ } = self;
+    }
+}
+
+impl Stated {
+    /// The constraints alone.
+    pub fn into_value(self) -> Value {
+        let Stated { value, place: _ } = self;
+        value
+    }
 }
 
 /// The calls, of which some state other constraints.

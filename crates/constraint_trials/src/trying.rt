@@ -20,12 +20,35 @@ use std::alloc::{AllocError, Global};
 pub const MOST_HALVINGS: usize = 140;
 
 /// A change that helps, with the decision that comes then.
-#[derive(Drop)]
 pub struct Found {
     pub words: String,
     pub line: String,
     /// The constraints with the change.
     pub value: Value,
+}
+
+impl Drop for Found {
+    fn drop(self) {
+        let Found {
+            words: _,
+            line: _,
+            value: _,
+        } = self;
+    }
+}
+
+impl Found {
+    /// The line of the decision alone.
+    pub fn into_line(self) -> String
+        ensures { result ≡ self.entry.line }
+    {
+        let Found {
+            line,
+            words: _,
+            value: _,
+        } = self;
+        line
+    }
 }
 
 /// Trying constraints of a participant, for the domain at a path.
@@ -118,11 +141,10 @@ impl Trial<'_, '_> {
             self.now.place self.now.path.now (string_bytes found.line))) }
     {
         match self.outcome(alloc, &change.value)? {
-            Some(line) if !is_absurd(&line, false) => Ok(Some(Found {
-                words: change.words,
-                line,
-                value: change.value,
-            })),
+            Some(line) if !is_absurd(&line, false) => {
+                let (value, words) = change.into_parts();
+                Ok(Some(Found { words, line, value }))
+            }
             _ => Ok(None),
         }
     }

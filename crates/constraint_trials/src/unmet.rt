@@ -217,7 +217,9 @@ impl Tried<'_> {
         }
         let stated = Stated {
             place: self.place,
-            value: halving.changed(alloc, self.value, self.amount)?.value,
+            value: halving
+                .changed(alloc, self.value, self.amount)?
+                .into_value(),
         };
         Ok(!leaves_none(alloc, group, parties, from_ref(&stated))?)
     }

@@ -258,7 +258,7 @@ fn tell_refusal(
     tell_fault(&mut told, document, fault)?;
     for item in told.into_list() {
         if item.kind == Kind::Answer {
-            items.say(2, "", item.text)?;
+            items.say(2, "", item.into_text())?;
         }
     }
     Ok(())

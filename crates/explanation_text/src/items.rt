@@ -18,7 +18,6 @@ pub enum Kind {
 }
 
 /// A line, or some, of what is told.
-#[derive(Drop)]
 pub struct Item {
     /// What the text is about, in one word; empty where it says so itself.
     pub label: &'static str,
@@ -29,11 +28,40 @@ pub struct Item {
     pub kind: Kind,
 }
 
+impl Drop for Item {
+    fn drop(self) {
+        let Item {
+            label: _,
+            text: _,
+            depth: _,
+            kind: _,
+        } = self;
+    }
+}
+
+impl Item {
+    /// Its text alone.
+    pub fn into_text(self) -> String {
+        let Item {
+            text,
+            label: _,
+            depth: _,
+            kind: _,
+        } = self;
+        text
+    }
+}
+
 /// A list of items that grows.
-#[derive(Drop)]
 pub struct Items {
     alloc: Global,
     list: Vec<Item>,
+}
+
+impl Drop for Items {
+    fn drop(self) {
+        let Items { alloc: _, list: _ } = self;
+    }
 }
 
 impl Items {
@@ -87,7 +115,7 @@ impl Items {
 
     /// Puts all of another list after this one.
     pub fn append(&mut self, others: Items) -> Result<(), AllocError> {
-        for item in others.list {
+        for item in others.into_list() {
             self.list.push(item)?;
         }
         Ok(())
@@ -108,7 +136,8 @@ impl Items {
     }
 
     pub fn into_list(self) -> Vec<Item> {
-        self.list
+        let Items { list, alloc: _ } = self;
+        list
     }
 }
 

@@ -148,7 +148,7 @@ fn make(alloc: Global, now: &mut Value, part: Part, heaps: &[HeapInfo]) -> Resul
         return Ok(());
     }
     if let Some(change) = part.changed(alloc, now, heaps)? {
-        *now = change.value;
+        *now = change.into_value();
     }
     Ok(())
 }

@@ -26,12 +26,23 @@ pub const MOST_ENTRIES: usize = 64;
 /// at most 64 heaps and has at most 64 entries, none of them twice. In an entry alignments and
 /// divisors are 1 to 65,536, what is least is 1 or more, there is some colour space, and no tiled
 /// modifier goes with a format that isn't of 4 bytes.
-#[derive(Debug, Drop)]
+#[derive(Debug)]
 pub struct Constraints {
     usage: Usage,
     counts: CountConstraints,
     memory: MemoryConstraints,
     entries: Vec<Entry>,
+}
+
+impl Drop for Constraints {
+    fn drop(self) {
+        let Constraints {
+            usage: _,
+            counts: _,
+            memory: _,
+            entries: _,
+        } = self;
+    }
 }
 
 impl Model for Constraints {

@@ -21,11 +21,21 @@ use sysmem_memory::HeapInfo;
 /// A platform: its heaps, 1 to 64 and no two of one type and id; its pairs of a format and a
 /// modifier, no tiled modifier with a format that isn't of 4 bytes; and its colour spaces. Each
 /// list is in the platform's order, isn't empty and has no item twice.
-#[derive(Debug, Drop)]
+#[derive(Debug)]
 pub struct Platform {
     heaps: Vec<HeapInfo>,
     pairs: Vec<Pair>,
     colours: Vec<ColourSpace>,
+}
+
+impl Drop for Platform {
+    fn drop(self) {
+        let Platform {
+            heaps: _,
+            pairs: _,
+            colours: _,
+        } = self;
+    }
 }
 
 impl Model for Platform {

@@ -18,12 +18,22 @@ use sysmem_alloc::Book;
 use sysmem_sanitise::Platform;
 
 /// A collection on which calls were made, and their report.
-#[derive(Debug, Drop)]
+#[derive(Debug)]
 pub struct Replayed {
     pub report: Report,
     /// How many prefixes its searches visited, at most `u64::MAX`.
     pub visits: u64,
     runner: Runner,
+}
+
+impl Drop for Replayed {
+    fn drop(self) {
+        let Replayed {
+            report: _,
+            visits: _,
+            runner: _,
+        } = self;
+    }
 }
 
 impl Replayed {

@@ -26,7 +26,6 @@ use verdict_claims::Conflict;
 /// What a search is about, and a prefix of choices at which it stands. What a choice settles is
 /// read once, when the choice is first made; each prefix on the way is kept by what its
 /// participants ask together.
-#[derive(Drop)]
 pub struct Question<'a> {
     subject: &'a Subject<'a>,
     layout: Layout,
@@ -37,6 +36,19 @@ pub struct Question<'a> {
     levels: Vec<Level>,
     /// What was learnt of participants where a conflict was looked for.
     learnt: Learnt,
+}
+
+impl Drop for Question<'_> {
+    fn drop(self) {
+        let Question {
+            subject: _,
+            layout: _,
+            prefix: _,
+            parts: _,
+            levels: _,
+            learnt: _,
+        } = self;
+    }
 }
 
 impl<'a> Model for Question<'a> {
@@ -83,7 +95,15 @@ impl<'a> Question<'a> {
     pub fn into_prefix(self) -> Prefix
         ensures { result ≡ self.entry.choices }
     {
-        self.prefix
+        let Question {
+            prefix,
+            subject: _,
+            layout: _,
+            parts: _,
+            levels: _,
+            learnt: _,
+        } = self;
+        prefix
     }
 
     /// How many children the group has that is next; `None` where the choices are a selection.

@@ -19,7 +19,6 @@ pub(crate) struct Reason<'a> {
 }
 
 /// What fails for the same reasons.
-#[derive(Drop)]
 pub(crate) struct Row {
     /// The names of what fails.
     pub(crate) names: Vec<String>,
@@ -29,6 +28,17 @@ pub(crate) struct Row {
     pub(crate) distance: usize,
     /// How many fail; a name may stand for several.
     pub(crate) count: usize,
+}
+
+impl Drop for Row {
+    fn drop(self) {
+        let Row {
+            names: _,
+            reasons: _,
+            distance: _,
+            count: _,
+        } = self;
+    }
 }
 
 /// Tells words with a label, if there was memory for them.

@@ -229,9 +229,10 @@ fn try_change(
     let Some(change) = edited(alloc, value, edit, heaps)? else {
         return Ok(());
     };
+    let (value_then, words) = change.into_parts();
     let stated = Stated {
         place: trial.place,
-        value: change.value,
+        value: value_then,
     };
     if known.is_none() && leaves_none(alloc, group, search.parties, from_ref(&stated))? {
         return Ok(());
@@ -240,9 +241,9 @@ fn try_change(
         return Ok(());
     };
     let found = Found {
-        words: change.words,
+        words,
         line,
-        value: stated.value,
+        value: stated.into_value(),
     };
     let least = trial.least(alloc, group, search.parties, value, edit, found)?;
     tell_found(search, group, trial, one, edit, least)
@@ -327,5 +328,5 @@ fn put_change(
     let words = found.words.as_str();
     let text = format!(in items.alloc(); "{who}: {words}")?;
     items.say(2, label, text)?;
-    items.push(Kind::Decision, 3, "->", found.line)
+    items.push(Kind::Decision, 3, "->", found.into_line())
 }

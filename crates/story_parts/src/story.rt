@@ -173,13 +173,23 @@ impl<'a> Domain<'a> {
 }
 
 /// What a script's calls did.
-#[derive(Drop)]
 pub struct Story<'a> {
     pub calls: Vec<Made<'a>>,
     pub nodes: Vec<Node<'a>>,
     pub domains: Vec<Domain<'a>>,
     /// The domains by index, in the order of the report.
     pub order: Vec<usize>,
+}
+
+impl Drop for Story<'_> {
+    fn drop(self) {
+        let Story {
+            calls: _,
+            nodes: _,
+            domains: _,
+            order: _,
+        } = self;
+    }
 }
 
 impl<'a> Story<'a> {

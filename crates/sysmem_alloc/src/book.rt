@@ -37,7 +37,7 @@ use verdict_claims::{Base, Claim, Verdict};
 const ROOM: usize = 1024;
 
 /// A collection's tree, its history, and the domains that wait for a decision.
-#[derive(Debug, Drop)]
+#[derive(Debug)]
 pub struct Book {
     platform: Platform,
     tree: Tree,
@@ -53,6 +53,21 @@ pub struct Book {
     failed: Verdict,
     /// What it lends for one whose decision wanted memory.
     no_memory: Verdict,
+}
+
+impl Drop for Book {
+    fn drop(self) {
+        let Book {
+            platform: _,
+            tree: _,
+            history: _,
+            waiting: _,
+            chosen: _,
+            were_open: _,
+            failed: _,
+            no_memory: _,
+        } = self;
+    }
 }
 
 impl Model for Book {

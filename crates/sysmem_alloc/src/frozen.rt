@@ -11,12 +11,23 @@ use verdict_claims::Base;
 
 /// Copies of a book's platform and tree, with the domain that is to be
 /// decided next and what it is decided on.
-#[derive(Debug, Drop)]
+#[derive(Debug)]
 pub struct Frozen {
     platform: Platform,
     tree: Tree,
     domain: DomainId,
     base: Option<Base>,
+}
+
+impl Drop for Frozen {
+    fn drop(self) {
+        let Frozen {
+            platform: _,
+            tree: _,
+            domain: _,
+            base: _,
+        } = self;
+    }
 }
 
 impl Model for Frozen {

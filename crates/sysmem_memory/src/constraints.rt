@@ -7,7 +7,7 @@ use crate::heap::Heap;
 use std::marker::Model;
 
 /// What a participant asks of a buffer's memory. Sizes are in bytes.
-#[derive(Debug, Drop)]
+#[derive(Debug)]
 pub struct MemoryConstraints {
     pub min_size_bytes: u64,
     pub max_size_bytes: u64,
@@ -18,6 +18,21 @@ pub struct MemoryConstraints {
     pub inaccessible_domain_supported: bool,
     /// The heaps that the buffer may lie in; an empty list permits every heap.
     pub permitted_heaps: Vec<Heap>,
+}
+
+impl Drop for MemoryConstraints {
+    fn drop(self) {
+        let MemoryConstraints {
+            min_size_bytes: _,
+            max_size_bytes: _,
+            physically_contiguous_required: _,
+            secure_required: _,
+            cpu_domain_supported: _,
+            ram_domain_supported: _,
+            inaccessible_domain_supported: _,
+            permitted_heaps: _,
+        } = self;
+    }
 }
 
 impl Model for MemoryConstraints {

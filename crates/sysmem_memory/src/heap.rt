@@ -34,12 +34,23 @@ impl PartialEq for Heap {
 }
 
 /// A heap of a platform.
-#[derive(Debug, Drop)]
+#[derive(Debug)]
 pub struct HeapInfo {
     pub heap: Heap,
     pub contiguous: bool,
     pub secure: bool,
     pub domains: CoherencyDomains,
+}
+
+impl Drop for HeapInfo {
+    fn drop(self) {
+        let HeapInfo {
+            heap: _,
+            contiguous: _,
+            secure: _,
+            domains: _,
+        } = self;
+    }
 }
 
 impl Model for HeapInfo {

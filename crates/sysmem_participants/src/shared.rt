@@ -13,7 +13,6 @@ use sysmem_search::Gate;
 
 /// A collection's book under its lock, where one waits for a verdict, and the platform for which
 /// it is decided.
-#[derive(Drop)]
 pub(crate) struct Shared<L: Ledger> {
     pub(crate) room: Mutex<Room<L>>,
     pub(crate) changed: Condvar,
@@ -21,8 +20,17 @@ pub(crate) struct Shared<L: Ledger> {
     pub(crate) platform: Platform,
 }
 
+impl<L: Ledger> Drop for Shared<L> {
+    fn drop(self) {
+        let Shared {
+            room: _,
+            changed: _,
+            platform: _,
+        } = self;
+    }
+}
+
 /// What an allocator decides for, and who is told of its searches.
-#[derive(Drop)]
 pub(crate) struct Rules<G: Gate + Drop> {
     pub(crate) alloc: Global,
     pub(crate) platform: Platform,
@@ -30,4 +38,15 @@ pub(crate) struct Rules<G: Gate + Drop> {
     /// How many workers a search gets; `None` where that goes by how long it may take.
     pub(crate) workers: Option<u32>,
     ghost few: { ForSome workers (λ many. (1 ≤ many) × (many ≤ MOST_WORKERS)) },
+}
+
+impl<G: Gate + Drop> Drop for Rules<G> {
+    fn drop(self) {
+        let Rules {
+            alloc: _,
+            platform: _,
+            gate: _,
+            workers: _,
+        } = self;
+    }
 }

@@ -13,7 +13,6 @@ use sysmem_tree::Action;
 
 /// What is left of a handle that was spent: its node's path, its accepted actions, its share of the
 /// ledger, what it knows of its domain's cell, and the platform. An audit wants one for each node.
-#[derive(Drop)]
 pub struct Stub<L: Ledger> {
     pub(crate) shared: Arc<Shared<L>>,
     pub(crate) path: SmallVec<u32, 4>,
@@ -21,6 +20,19 @@ pub struct Stub<L: Ledger> {
     pub(crate) share: Share<L>,
     pub(crate) cell: Arc<OnceBox<Outcome>>,
     pub(crate) note: Note<Outcome>,
+}
+
+impl<L: Ledger> Drop for Stub<L> {
+    fn drop(self) {
+        let Stub {
+            shared: _,
+            path: _,
+            actions: _,
+            share: _,
+            cell: _,
+            note: _,
+        } = self;
+    }
 }
 
 impl<L: Ledger> Model for Stub<L> {
@@ -51,6 +63,14 @@ impl<L: Ledger> Stub<L> {
         ensures parts { result.parts ≡ 1 }
         ensures amount { result.amount ≡ length self.deeds }
     {
-        self.share
+        let Stub {
+            share,
+            shared: _,
+            path: _,
+            actions: _,
+            cell: _,
+            note: _,
+        } = self;
+        share
     }
 }

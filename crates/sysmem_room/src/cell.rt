@@ -10,10 +10,15 @@ use std::sync::Arc;
 use sysmem_tree::{ActionKind, DomainId, Tree};
 
 /// An empty cell with the memory in which the outcome will lie, so that to set it takes none.
-#[derive(Drop)]
 pub struct FreshCell {
     cell: Arc<OnceBox<Outcome>>,
     place: Box<Outcome>,
+}
+
+impl Drop for FreshCell {
+    fn drop(self) {
+        let FreshCell { cell: _, place: _ } = self;
+    }
 }
 
 impl FreshCell {
@@ -31,9 +36,10 @@ impl FreshCell {
 
     /// For the domain that was made.
     pub(crate) fn kept(self) -> DomainCell {
+        let FreshCell { cell, place } = self;
         DomainCell {
-            cell: self.cell,
-            place: Some(self.place),
+            cell,
+            place: Some(place),
         }
     }
 }

@@ -15,7 +15,6 @@ use sysmem_sanitise::Constraints;
 use sysmem_tree::{Action, ActionKind, NodeId, NodeKind, NodeState, Tree};
 
 /// How a node was made, and the accepted actions on it, with room for one more.
-#[derive(Drop)]
 pub struct Log {
     begun: NodeKind,
     is_domain_root: bool,
@@ -24,6 +23,18 @@ pub struct Log {
     actions: Vec<Action>,
     /// How many of the actions come before the `Duplicate`s at the end.
     others: usize,
+}
+
+impl Drop for Log {
+    fn drop(self) {
+        let Log {
+            begun: _,
+            is_domain_root: _,
+            state: _,
+            actions: _,
+            others: _,
+        } = self;
+    }
 }
 
 impl Model for Log {
@@ -132,7 +143,7 @@ impl Log {
     pub fn ended(self, action: Action) -> Vec<Action>
         ensures { map deed_of result.items ≡ self.deeds ++ deed_of action ∷ [] }
     {
-        let mut actions = self.actions;
+        let mut actions = self.into_actions();
         actions.push_reserved(action);
         actions
     }
@@ -141,7 +152,14 @@ impl Log {
     pub fn into_actions(self) -> Vec<Action>
         ensures { map deed_of result.items ≡ self.deeds }
     {
-        self.actions
+        let Log {
+            actions,
+            begun: _,
+            is_domain_root: _,
+            state: _,
+            others: _,
+        } = self;
+        actions
     }
 
     /// Whether a node was made as this log's, and stands as the actions make it.

@@ -28,7 +28,6 @@ impl Model for Ruling {
 }
 
 /// What became of a domain.
-#[derive(Drop)]
 pub enum Outcome {
     /// It was decided.
     Decided(Ruling),
@@ -36,6 +35,16 @@ pub enum Outcome {
     Failed,
     /// Memory was refused to its decision.
     NoMemory,
+}
+
+impl Drop for Outcome {
+    fn drop(self) {
+        match self {
+            Outcome::Decided(_) => {}
+            Outcome::Failed => {}
+            Outcome::NoMemory => {}
+        }
+    }
 }
 
 impl Ruling {

@@ -39,7 +39,6 @@ use sysmem_tree::{Action, ActionKind, DomainId, Event, MOST_NODES, NodeId, Refus
 
 /// A collection's book, the count of its actions, and the cells of its domains. Whoever has the
 /// lock finds a legal book, and as many actions counted as its history has.
-#[derive(Drop)]
 pub struct Room<L: Ledger> {
     book: Book,
     /// Where in the book's history the actions on each node are.
@@ -51,6 +50,19 @@ pub struct Room<L: Ledger> {
     cells: Vec<DomainCell>,
     /// Whether somebody takes the decisions.
     is_deciding: bool,
+}
+
+impl<L: Ledger> Drop for Room<L> {
+    fn drop(self) {
+        let Room {
+            book: _,
+            places: _,
+            counted: _,
+            spare: _,
+            cells: _,
+            is_deciding: _,
+        } = self;
+    }
 }
 
 impl<L: Ledger> Model for Room<L> {

@@ -29,10 +29,19 @@ use std::marker::Model;
 pub const MOST_NODES: usize = 128;
 
 /// The nodes of a collection, at most 128, and how it stands with its domains.
-#[derive(Debug, Drop)]
+#[derive(Debug)]
 pub struct Tree {
     pub(crate) nodes: Vec<Node>,
     pub(crate) domains: Vec<Domain>,
+}
+
+impl Drop for Tree {
+    fn drop(self) {
+        let Tree {
+            nodes: _,
+            domains: _,
+        } = self;
+    }
 }
 
 impl Model for Tree {

@@ -39,11 +39,21 @@ impl EarlierChoices {
 }
 
 /// What shows that a selection is the first that can be met, and its settings the best.
-#[derive(Debug, Drop)]
+#[derive(Debug)]
 pub struct Certificate {
     earlier: Vec<EarlierChoices>,
     offers: Lines,
     places: Lines,
+}
+
+impl Drop for Certificate {
+    fn drop(self) {
+        let Certificate {
+            earlier: _,
+            offers: _,
+            places: _,
+        } = self;
+    }
 }
 
 impl Model for Certificate {
@@ -107,10 +117,19 @@ pub enum Proof {
 }
 
 /// A verdict with what is to prove it. Any are a claim; whether it is true is a checker's matter.
-#[derive(Debug, Drop)]
+#[derive(Debug)]
 pub struct Claim {
     /// What is claimed to be optimal.
     pub verdict: Verdict,
     /// What is to prove it.
     pub proof: Proof,
+}
+
+impl Drop for Claim {
+    fn drop(self) {
+        let Claim {
+            verdict: _,
+            proof: _,
+        } = self;
+    }
 }

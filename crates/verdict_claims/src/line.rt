@@ -14,10 +14,16 @@ const NEAR: usize = 4;
 
 /// A field that fails for the participants at some paths, in any order. Lines with
 /// the same paths may keep them once.
-#[derive(Debug, Drop)]
+#[derive(Debug)]
 pub struct Line {
     field: Field,
     nodes: Arc<PathList>,
+}
+
+impl Drop for Line {
+    fn drop(self) {
+        let Line { field: _, nodes: _ } = self;
+    }
 }
 
 impl Model for Line {
@@ -93,9 +99,15 @@ impl Line {
 }
 
 /// Lines for some places or offers of a platform, one for each, in their order.
-#[derive(Debug, Drop)]
+#[derive(Debug)]
 pub struct Lines {
     lines: Vec<Line>,
+}
+
+impl Drop for Lines {
+    fn drop(self) {
+        let Lines { lines: _ } = self;
+    }
 }
 
 impl Model for Lines {

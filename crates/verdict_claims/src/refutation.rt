@@ -15,9 +15,15 @@ pub enum Item {
 }
 
 /// Splits and conflicts in pre-order, one flat list.
-#[derive(Debug, Drop)]
+#[derive(Debug)]
 pub struct Refutation {
     items: Vec<Item>,
+}
+
+impl Drop for Refutation {
+    fn drop(self) {
+        let Refutation { items: _ } = self;
+    }
 }
 
 impl Model for Refutation {
