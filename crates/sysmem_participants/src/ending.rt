@@ -177,18 +177,26 @@ impl<L: Ledger, G: Gate + Drop + Sync> Seat<L, G> {
         }
     }
 
-    /// Releases the node.
+    /// Releases the node: what is left of the handle, or the handle as it was, and why. Beside that
+    /// the book as the release found and left it, and what it saw in the cell before.
     pub(crate) fn release<R: Threads + Wait + Sync>(
         self,
         rt: &R,
-    ) -> Result<Stub<L>, (Seat<L, G>, Refusal)>
-        ensures left { IfOk result (λ stub. stub ≡ left_of (acted self releases)) }
-        ensures back { IfErr result (λ refused. refused.0 ≡ self) }
-        ensures foreseen { OnOk result (MayEnter self releases) }
-        ensures answers { IfErr result (λ refused. AnswersAtEnd self releases refused.1) }
+    ) -> (
+        Result<Stub<L>, (Seat<L, G>, Refusal)>,
+        Hold<L>,
+        Note<Outcome>,
+    )
+        ensures left { IfOk result.0 (λ stub. stub ≡ left_of (acted self releases)) }
+        ensures back { IfErr result.0 (λ refused. refused.0 ≡ self) }
+        ensures foreseen { OnOk result.0 (MayEnter self releases) }
+        ensures answers { IfErr result.0 (λ refused. AnswersAtEnd self releases refused.1) }
+        ensures saw { (result.2.cell ≡ self.cell)
+            × IfSome self.known (λ known. result.2.known ≡ Some known) }
+        ensures strange { IfErr result.0 (λ refused. refused.1 ≡ Refusal.Strange
+            → IsStrangeTo result.1.found self result.2.known) }
     {
-        let (spent, _hold, _seen) = self.spend(rt, Action::Release, Action::Release);
-        spent
+        self.spend(rt, Action::Release, Action::Release)
     }
 
     /// Closes the node, as a channel that ends: what is left of the handle, and that the close was

@@ -63,6 +63,7 @@ fn audited<L: Ledger>(
         (λ refused. refused.1 ≡ room.old) }
     ensures agree { IfOk result (λ found. AgreesWith found.1 stubs.items found.0) }
     ensures fault { IfErr result (λ refused. IsFaultOf refused.1 stubs.items refused.0) }
+    ensures memory { IfErr result (λ refused. refused.0 ≢ AuditFault.NoMemory) }
     ensures sum { IfOk result (λ found.
         found.0.actions ≡ sum_by (λ s. length s.deeds) stubs.items) }
 {
@@ -110,6 +111,8 @@ pub fn audit<L: Ledger, R: Wait>(
     ensures fault { IfErr result (λ refused.
         0 < vec_len stubs → refused.0 ≢ AuditFault.NoMemory → IsSomeAnd refused.1
         (λ book. IsBook book × IsFaultOf book stubs.items refused.0)) }
+    ensures unseen { IfErr result (λ refused.
+        refused.0 ≡ AuditFault.NoMemory → refused.1 ≡ None) }
     ensures sum { IfOk result (λ found.
         found.0.actions ≡ sum_by (λ s. length s.deeds) stubs.items) }
 {

@@ -73,7 +73,8 @@ impl<L: Ledger, G: Gate + Drop + Sync> Group<L, G> {
         ensures answers { IfErr result (λ refused. AnswersAtEnd self releases refused.1) }
     {
         let Group { seat } = self;
-        match seat.release(rt) {
+        let (released, _hold, _seen) = seat.release(rt);
+        match released {
             Ok(stub) => Ok(stub),
             Err(refused) => Err((Group { seat: refused.0 }, refused.1)),
         }

@@ -98,7 +98,8 @@ impl<L: Ledger, G: Gate + Drop + Sync> Token<L, G> {
         ensures answers { IfErr result (λ refused. AnswersAtEnd self releases refused.1) }
     {
         let Token { seat } = self;
-        match seat.release(rt) {
+        let (released, _hold, _seen) = seat.release(rt);
+        match released {
             Ok(stub) => Ok(stub),
             Err(refused) => Err((Token { seat: refused.0 }, refused.1)),
         }

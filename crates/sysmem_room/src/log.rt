@@ -143,7 +143,13 @@ impl Log {
     pub fn ended(self, action: Action) -> Vec<Action>
         ensures { map deed_of result.items ≡ self.deeds ++ deed_of action ∷ [] }
     {
-        let mut actions = self.into_actions();
+        let Log {
+            mut actions,
+            begun: _,
+            is_domain_root: _,
+            state: _,
+            others: _,
+        } = self;
         actions.push_reserved(action);
         actions
     }

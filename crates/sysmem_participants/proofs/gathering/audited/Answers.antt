@@ -33,3 +33,9 @@ returns-in-Err-clause-fault g c =
     let first : IsFirstFault c.args.room.now c.stubs_agree.new.stubs c.in-Err.fault =
     subst (λ (b : BookFacts). IsFirstFault b c.stubs_agree.new.stubs c.in-Err.fault) book c.in-Err.ensures.fault in
     subst (λ (b : BookFacts). IsFaultOf b c.args.stubs.items c.in-Err.fault) (sym c.seen-seen.ensures) (inr (for_it, (c.stubs_agree.new.stubs, read, first)))
+
+pub returns-in-Err-clause-memory : goal.returns-in-Err-clause-memory
+returns-in-Err-clause-memory g c refused =
+    let book : c.book-2.result.now ≡ c.args.room.now = search rules in
+    subst (λ (f : AuditFault). IsFirstFault c.args.room.now c.stubs_agree.new.stubs f) refused
+    (subst (λ (b : BookFacts). IsFirstFault b c.stubs_agree.new.stubs c.in-Err.fault) book c.in-Err.ensures.fault)
