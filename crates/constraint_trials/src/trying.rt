@@ -40,7 +40,7 @@ impl Drop for Found {
 impl Found {
     /// The line of the decision alone.
     pub fn into_line(self) -> String
-        ensures { result ≡ self.entry.line }
+        ensures { result ≡ self.line }
     {
         let Found {
             line,

@@ -1,5 +1,6 @@
 use Rattle.std.proofs.Common.{◌≡◌, ◌∙◌, ap, sym, subst, arith, inr, rules, tests, length}
 use Rattle.sysmem_alloc.specs.Book.{BookFacts}
+use Rattle.sysmem_participants.specs.declared.faults.AuditFault.{AuditFault}
 use Rattle.sysmem_room.specs.Counting.{actions_in}
 use Rattle.sysmem_participants.specs.Audit.{AgreesWith, AreFor, AreRead, IsAudited, IsFaultOf, IsFirstFault}
 use Rattle.sysmem_participants.proofs.Entries.{sum_written}
