@@ -1,9 +1,10 @@
 # Mezulobu: the two commands are `make run FILE=examples/NAME.json` and `make test`.
 PROGRAM := crates/sysmem_replay
 FILE ?= examples/one_participant.json
-# How many proofs the gate makes side by side: one a processor, where each has 4 GB of memory. Each
-# is made by one process, which takes about a third less processor time than several.
-JOBS ?= $(shell awk -v n=$$(nproc) '/^MemAvailable/ { m = int($$2 / 4000000); print m < 1 ? 1 : m < n ? m : n }' /proc/meminfo)
+# How many proofs the gate makes side by side: one a processor, where each has 4 GB of memory; of
+# four processors or more one stays free, since proofs wait for memory, and each takes less processor
+# time beside fewer. A proof is made by one process, which takes about a third less than several.
+JOBS ?= $(shell awk -v n=$$(nproc) '/^MemAvailable/ { m = int($$2 / 4000000); n -= n > 3; print m < 1 ? 1 : m < n ? m : n }' /proc/meminfo)
 
 .PHONY: run proved test program-test wrong-bodies shown-by-test threads-often bench lib install \
 	lib-test
