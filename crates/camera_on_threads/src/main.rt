@@ -1,11 +1,10 @@
-//! A camera and an encoder share buffers, each on a thread of its own; later a recorder is let in,
-//! on a third.
+//! A camera and an encoder share buffers, each on a thread of its own; once they have them a
+//! recorder is let in, on a third.
 #![tactic(auto)]
 
 mod asking;
 mod failure;
 mod sharing;
-mod slot;
 
 use asking::{CAMERA, ENCODER, PLATFORM, RECORDER, asked, platform};
 use failure::Failure;

@@ -1,13 +1,12 @@
-//! The threads of the camera, the encoder and the recorder.
+//! The threads of the camera, of the encoder, and of the app, which lets a recorder in.
 
 ghost use Rattle.std.specs.Prelude.{◌≡◌};
 ghost use Rattle.sysmem_room.specs.Counting.{all_parts};
 
 use crate::failure::Failure;
-use crate::slot::Slot;
 use std::alloc::{AllocError, Global};
 use std::sync::ledger::{Blank, Ledger};
-use std::sync::{Arc, Wait};
+use std::sync::{Arc, Mutex, Wait};
 use std::thread;
 use std::thread::Threads;
 use sysmem_merge::Settings;
@@ -34,6 +33,10 @@ pub(crate) struct Told {
     pub(crate) audit: Audit,
 }
 
+/// How a token comes to another thread. A closure can't own one, since a token has to be spent, and
+/// a closure may be let go.
+type Slot<L> = Mutex<Option<Token<L, NoGate>>>;
+
 /// What a participant was told, and what is left of its handle.
 #[derive(Drop)]
 struct Part<L: Ledger> {
@@ -41,8 +44,7 @@ struct Part<L: Ledger> {
     stub: Stub<L>,
 }
 
-/// A camera and an encoder take part in one collection of buffers, and a recorder is let in once
-/// they have their buffers.
+/// A camera and an encoder share buffers, and once they have them a recorder is let in.
 pub(crate) fn share<L: Ledger + Send + Sync, R: Threads + Wait + Sync>(
     rt: &R,
     alloc: Global,
@@ -57,40 +59,117 @@ pub(crate) fn share<L: Ledger + Send + Sync, R: Threads + Wait + Sync>(
     let Ok(mut root) = allocator.allocate_shared::<L>(blank) else {
         return Err(Failure::NoMemory);
     };
-    let camera = Slot::new(root.duplicate(rt).ok());
-    let encoder = Slot::new(root.duplicate(rt).ok());
-    let recorder = Slot::empty();
-    let root = given_back(rt, root);
-    let (filmed, (encoded, recorded)) = thread::join(
+    let camera = Mutex::new(root.duplicate(rt).ok());
+    let encoder = Mutex::new(root.duplicate(rt).ok());
+    let app = Mutex::new(Some(root));
+    let ((app_stub, recorded), (filmed, encoded)) = thread::join(
         rt,
-        || film(rt, &camera, &recorder, &asks.camera),
+        || lead(rt, &app, &asks.recorder),
         || {
             thread::join(
                 rt,
-                || take_part(rt, &encoder, &asks.encoder),
-                || take_part(rt, &recorder, &asks.recorder),
+                || take_part(rt, taken(rt, &camera), &asks.camera),
+                || take_part(rt, taken(rt, &encoder), &asks.encoder),
             )
         },
     );
-    camera.end(rt);
-    encoder.end(rt);
-    recorder.end(rt);
-    audited(rt, alloc, root, filmed, encoded, recorded)
+    end(rt, camera);
+    end(rt, encoder);
+    end(rt, app);
+    audited(rt, alloc, app_stub, filmed, encoded, recorded)
+}
+
+/// The token that was left here, if there is one.
+fn taken<L: Ledger, R: Wait>(rt: &R, slot: &Slot<L>) -> Option<Token<L, NoGate>> {
+    slot.lock(rt).take()
+}
+
+/// Spends the token that nobody took, if there is one.
+fn end<L: Ledger, R: Threads + Wait + Sync>(rt: &R, slot: Slot<L>) {
+    if let Some(token) = slot.into_inner() {
+        let _stub = token.close(rt);
+    }
+}
+
+/// The app's thread: what is left of the app's handle, and the part of the recorder, if it is let
+/// in.
+fn lead<L: Ledger, R: Threads + Wait + Sync>(
+    rt: &R,
+    slot: &Slot<L>,
+    recorder: &Arc<Constraints>,
+) -> (Option<Stub<L>>, Option<Part<L>>) {
+    let Some(token) = taken(rt, slot) else {
+        return (None, None);
+    };
+    let mut app = match token.bind(rt) {
+        Ok(app) => app,
+        Err((token, _refusal)) => return (Some(token.close(rt).0), None),
+    };
+    let late = late_token(rt, &mut app).ok();
+    let stub = app.close(rt).0;
+    (Some(stub), take_part(rt, late, recorder))
+}
+
+/// Asks for nothing, waits until the others have their buffers, and makes a token for who is late.
+fn late_token<L: Ledger, R: Threads + Wait + Sync>(
+    rt: &R,
+    app: &mut Collection<L, NoGate>,
+) -> Result<Token<L, NoGate>, Refusal> {
+    app.set_constraints(rt, None)?;
+    app.wait_for_all(rt)?;
+    app.attach_token(rt)
+}
+
+/// A participant's thread: what it is told, and what is left of its handle; `None` where there is no
+/// token.
+fn take_part<L: Ledger, R: Threads + Wait + Sync>(
+    rt: &R,
+    token: Option<Token<L, NoGate>>,
+    asked: &Arc<Constraints>,
+) -> Option<Part<L>> {
+    let mut collection = match token?.bind(rt) {
+        Ok(collection) => collection,
+        Err((token, refusal)) => {
+            return Some(Part {
+                told: Err(refusal),
+                stub: token.close(rt).0,
+            });
+        }
+    };
+    let told = negotiate(rt, &mut collection, asked);
+    Some(Part {
+        told,
+        stub: collection.close(rt).0,
+    })
+}
+
+/// States what is asked for, and waits for the settings that all share.
+fn negotiate<L: Ledger, R: Threads + Wait + Sync>(
+    rt: &R,
+    collection: &mut Collection<L, NoGate>,
+    asked: &Arc<Constraints>,
+) -> Result<Settings, Refusal> {
+    let Ok(own) = Arc::try_clone(asked) else {
+        return Err(Refusal::NoMemory);
+    };
+    collection.set_constraints(rt, Some(own))?;
+    let view = collection.wait_for_all(rt)?;
+    Ok(view.settings())
 }
 
 /// What each was told, and what an audit finds of what is left of all handles.
 fn audited<L: Ledger, R: Threads + Wait + Sync>(
     rt: &R,
     alloc: Global,
-    root: Stub<L>,
+    app: Option<Stub<L>>,
     filmed: Option<Part<L>>,
     encoded: Option<Part<L>>,
     recorded: Option<Part<L>>,
 ) -> Result<Told, Failure> {
-    let (Some(filmed), Some(encoded)) = (filmed, encoded) else {
+    let (Some(app), Some(filmed), Some(encoded)) = (app, filmed, encoded) else {
         return Err(Failure::NoMemory);
     };
-    let mut stubs = Vec::from_array(alloc, [root, filmed.stub, encoded.stub])?;
+    let mut stubs = Vec::from_array(alloc, [app, filmed.stub, encoded.stub])?;
     let recorder = told_to(&mut stubs, recorded)?;
     match audit(rt, stubs) {
         Ok((audit, _seen)) => Ok(Told {
@@ -114,90 +193,4 @@ fn told_to<L: Ledger>(
     };
     stubs.push(part.stub)?;
     Ok(Some(part.told))
-}
-
-/// Releases a token: what is left of it. It is closed where that is refused.
-fn given_back<L: Ledger, R: Threads + Wait + Sync>(rt: &R, token: Token<L, NoGate>) -> Stub<L> {
-    match token.release(rt) {
-        Ok(stub) => stub,
-        Err((token, _refusal)) => token.close(rt).0,
-    }
-}
-
-/// The camera's thread: takes part, and leaves a token for who is late.
-fn film<L: Ledger, R: Threads + Wait + Sync>(
-    rt: &R,
-    slot: &Slot<L>,
-    late: &Slot<L>,
-    asked: &Arc<Constraints>,
-) -> Option<Part<L>> {
-    let part = match slot.take(rt) {
-        Some(token) => Some(let_in(rt, token, late, asked)),
-        None => None,
-    };
-    late.finish(rt);
-    part
-}
-
-fn let_in<L: Ledger, R: Threads + Wait + Sync>(
-    rt: &R,
-    token: Token<L, NoGate>,
-    late: &Slot<L>,
-    asked: &Arc<Constraints>,
-) -> Part<L> {
-    let mut collection = match bound(rt, token) {
-        Ok(collection) => collection,
-        Err(part) => return part,
-    };
-    let told = negotiate(rt, &mut collection, asked);
-    late.leave(rt, collection.attach_token(rt).ok());
-    Part {
-        told,
-        stub: collection.close(rt).0,
-    }
-}
-
-/// Another's thread: takes part.
-fn take_part<L: Ledger, R: Threads + Wait + Sync>(
-    rt: &R,
-    slot: &Slot<L>,
-    asked: &Arc<Constraints>,
-) -> Option<Part<L>> {
-    let mut collection = match bound(rt, slot.take(rt)?) {
-        Ok(collection) => collection,
-        Err(part) => return Some(part),
-    };
-    let told = negotiate(rt, &mut collection, asked);
-    Some(Part {
-        told,
-        stub: collection.close(rt).0,
-    })
-}
-
-/// The collection that a token becomes; or what is left of the token, and why.
-fn bound<L: Ledger, R: Threads + Wait + Sync>(
-    rt: &R,
-    token: Token<L, NoGate>,
-) -> Result<Collection<L, NoGate>, Part<L>> {
-    match token.bind(rt) {
-        Ok(collection) => Ok(collection),
-        Err((token, refusal)) => Err(Part {
-            told: Err(refusal),
-            stub: token.close(rt).0,
-        }),
-    }
-}
-
-/// States what is asked for, and waits for the settings that all share.
-fn negotiate<L: Ledger, R: Threads + Wait + Sync>(
-    rt: &R,
-    collection: &mut Collection<L, NoGate>,
-    asked: &Arc<Constraints>,
-) -> Result<Settings, Refusal> {
-    let Ok(own) = Arc::try_clone(asked) else {
-        return Err(Refusal::NoMemory);
-    };
-    collection.set_constraints(rt, Some(own))?;
-    let view = collection.wait_for_all(rt)?;
-    Ok(view.settings())
 }

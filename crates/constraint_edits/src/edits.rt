@@ -1,5 +1,7 @@
 //! Constraints with one field changed.
 
+ghost use Rattle.std.specs.Prelude.{◌≡◌, IfOk};
+
 use crate::exchanging::{exchanged, exchanges};
 use crate::objects::{ENTRIES, MEMORY, entries_of, have, lacking, values_in, with, words_without};
 use crate::permitting::{meaning, means, permits_more, permitting};
@@ -128,13 +130,18 @@ impl Drop for Changed {
 
 impl Changed {
     /// The constraints alone.
-    pub fn into_value(self) -> Value {
+    pub fn into_value(self) -> Value
+        ensures { result ≡ self.value }
+    {
         let Changed { value, words: _ } = self;
         value
     }
 
     /// The constraints, and what is changed.
-    pub fn into_parts(self) -> (Value, String) {
+    pub fn into_parts(self) -> (Value, String)
+        ensures value { result.0 ≡ self.value }
+        ensures words { result.1 ≡ self.words }
+    {
         let Changed { value, words } = self;
         (value, words)
     }
@@ -144,7 +151,9 @@ impl Changed {
         self,
         alloc: Global,
         constraints: &Value,
-    ) -> Result<Changed, AllocError> {
+    ) -> Result<Changed, AllocError>
+        ensures { IfOk result (λ made. made.words ≡ self.words) }
+    {
         let (memory, words) = self.into_parts();
         let value = with(alloc, Some(constraints), MEMORY, memory)?;
         Ok(Changed { value, words })

@@ -1,6 +1,6 @@
 //! Calls of which some state other constraints.
 
-ghost use Rattle.std.specs.Prelude.{map, IfOk};
+ghost use Rattle.std.specs.Prelude.{◌≡◌, map, IfOk};
 ghost use Rattle.script_reading.specs.Seen.{call_seen};
 ghost use Rattle.constraint_trials.specs.Edited.{IsRestated};
 
@@ -24,7 +24,9 @@ impl Drop for Stated {
 
 impl Stated {
     /// The constraints alone.
-    pub fn into_value(self) -> Value {
+    pub fn into_value(self) -> Value
+        ensures { result ≡ self.value }
+    {
         let Stated { value, place: _ } = self;
         value
     }

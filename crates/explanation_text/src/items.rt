@@ -1,5 +1,7 @@
 //! What is told, as one list of items.
 
+ghost use Rattle.std.specs.Prelude.{◌≡◌};
+
 use std::alloc::{AllocError, Global};
 
 /// How an item is shown.
@@ -41,7 +43,9 @@ impl Drop for Item {
 
 impl Item {
     /// Its text alone.
-    pub fn into_text(self) -> String {
+    pub fn into_text(self) -> String
+        ensures { result ≡ self.text }
+    {
         let Item {
             text,
             label: _,

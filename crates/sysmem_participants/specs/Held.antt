@@ -15,8 +15,8 @@ use Rattle.sysmem_room.specs.Log.{LogFacts, begun_as}
 use Rattle.sysmem_room.specs.Refusals.{MayAnswer, due}
 use Rattle.sysmem_room.specs.declared.outcome.Outcome.{Outcome}
 
--- its node's path, how the node began, the accepted actions on it, its domain's cell and what it
--- knows of that, and the platform
+-- its node's path, how the node began, the accepted actions on it, the number of its cell and what
+-- it knows of what is there, and the platform
 pub record Held : Type 0 where
   pub path : List ℕ
   pub begun : Shown
@@ -41,7 +41,7 @@ state_of h = (shown_after_all h.begun h.deeds).state
 abbrev pub acted : Held → Deed → Held
 acted h deed = record h { deeds = h.deeds ++ deed ∷ [] }
 
--- what the handle of a child holds that was just made, in a domain with this cell
+-- what the handle of a child holds that was just made, with this cell
 abbrev pub child_of : Held → NodeKind → Bool → ℕ → Held
 child_of h kind is_root cell = record h {
   path = h.path ++ (state_of h).children ∷ [];

@@ -12,7 +12,7 @@ use sysmem_room::Outcome;
 use sysmem_tree::Action;
 
 /// What is left of a handle that was spent: its node's path, its accepted actions, its share of the
-/// ledger, what it knows of its domain's cell, and the platform. An audit wants one for each node.
+/// ledger, its cell and what it knows of that, and the platform. An audit wants one for each node.
 pub struct Stub<L: Ledger> {
     pub(crate) shared: Arc<Shared<L>>,
     pub(crate) path: SmallVec<u32, 4>,
