@@ -4,7 +4,7 @@ ghost use Rattle.std.specs.Prelude.{◌≡◌};
 ghost use Rattle.sysmem_room.specs.Counting.{all_parts};
 
 use crate::failure::Failure;
-use std::alloc::{AllocError, Global};
+use std::alloc::Global;
 use std::sync::ledger::{Blank, Ledger};
 use std::sync::{Arc, Mutex, Wait};
 use std::thread;
@@ -187,7 +187,7 @@ fn audited<L: Ledger, R: Threads + Wait + Sync>(
 fn told_to<L: Ledger>(
     stubs: &mut Vec<Stub<L>>,
     late: Option<Part<L>>,
-) -> Result<Option<Result<Settings, Refusal>>, AllocError> {
+) -> Result<Option<Result<Settings, Refusal>>, Failure> {
     let Some(part) = late else {
         return Ok(None);
     };
