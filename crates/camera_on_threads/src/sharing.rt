@@ -178,7 +178,7 @@ fn audited<L: Ledger, R: Threads + Wait + Sync>(
             recorder,
             audit,
         }),
-        Err((fault, _seen)) => Err(Failure::Audit(fault)),
+        Err((fault, _seen, _stubs)) => Err(Failure::Audit(fault)),
     }
 }
 

@@ -1,5 +1,7 @@
 //! What becomes of a handle by a call.
 
+ghost use Rattle.std.specs.Prelude.{◌≡◌, ◌↔◌, false, true, IsTrue};
+
 use crate::handle::Handle;
 use std::sync::Wait;
 use std::sync::ledger::Ledger;
@@ -24,7 +26,9 @@ pub(crate) struct Called<L: Ledger> {
 
 impl<L: Ledger> Called<L> {
     /// The handle is as it is now, and no further one is made.
-    pub(crate) fn kept(handle: Handle<L>) -> Called<L> {
+    pub(crate) fn kept(handle: Handle<L>) -> Called<L>
+        ensures { result.is_starved ≡ false }
+    {
         Called {
             rest: Rest::Handle(handle),
             made: None,
@@ -33,7 +37,9 @@ impl<L: Ledger> Called<L> {
     }
 
     /// A further handle is made.
-    pub(crate) fn made(handle: Handle<L>, made: Handle<L>) -> Called<L> {
+    pub(crate) fn made(handle: Handle<L>, made: Handle<L>) -> Called<L>
+        ensures { result.is_starved ≡ false }
+    {
         Called {
             rest: Rest::Handle(handle),
             made: Some(made),
@@ -42,7 +48,9 @@ impl<L: Ledger> Called<L> {
     }
 
     /// The handle is spent.
-    pub(crate) fn spent(stub: Stub<L>) -> Called<L> {
+    pub(crate) fn spent(stub: Stub<L>) -> Called<L>
+        ensures { result.is_starved ≡ false }
+    {
         Called {
             rest: Rest::Stub(stub),
             made: None,
@@ -51,7 +59,9 @@ impl<L: Ledger> Called<L> {
     }
 
     /// Memory was refused, and so the handle is closed: nobody waits for what it can't do any more.
-    pub(crate) fn starved<R: Threads + Wait + Sync>(rt: &R, handle: Handle<L>) -> Called<L> {
+    pub(crate) fn starved<R: Threads + Wait + Sync>(rt: &R, handle: Handle<L>) -> Called<L>
+        ensures { result.is_starved ≡ true }
+    {
         Called {
             rest: Rest::Stub(handle.close(rt)),
             made: None,
@@ -64,7 +74,9 @@ impl<L: Ledger> Called<L> {
         rt: &R,
         handle: Handle<L>,
         refusal: Refusal,
-    ) -> Called<L> {
+    ) -> Called<L>
+        ensures { IsTrue result.is_starved ↔ (refusal ≡ Refusal.NoMemory) }
+    {
         match refusal {
             Refusal::NoMemory => Called::starved(rt, handle),
             _ => Called::kept(handle),

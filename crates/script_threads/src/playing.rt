@@ -1,6 +1,6 @@
 //! A script played by its actors.
 
-ghost use Rattle.std.specs.Prelude.{◌≡◌, IfOk};
+ghost use Rattle.std.specs.Prelude.{◌≡◌, IfOk, IsTrue};
 ghost use Rattle.std.specs.String.{string_bytes};
 ghost use Rattle.script_replay.specs.Lines.{Puts};
 ghost use Rattle.script_threads.specs.Text.{AreLines, IsText, IsTold, audit_line};
@@ -137,14 +137,15 @@ fn tell<L: Ledger, R: Wait>(
     remains: Remains<L>,
 ) -> Result<Told, AuditFault>
     requires { IfOk lines (λ lines. AreLines lines.is_starved (string_bytes lines.text)) }
-    ensures { IfOk result (λ told. IsTold told.is_starved (string_bytes told.text)) }
+    ensures told { IfOk result (λ told. IsTold told.is_starved (string_bytes told.text)) }
+    ensures starved { IfOk result (λ told. IsTrue remains.is_starved → IsTrue told.is_starved) }
 {
     let Ok(lines) = lines else {
         return Err(AuditFault::NoMemory);
     };
     let audit = match audit(rt, remains.stubs) {
         Ok((audit, _seen)) => audit,
-        Err((fault, _seen)) => return Err(fault),
+        Err((fault, _seen, _stubs)) => return Err(fault),
     };
     let is_starved = lines.is_starved || remains.is_starved;
     match with_audit(lines, audit) {

@@ -42,7 +42,7 @@ unfolding many_deeds
 sum_read read stubs is = sum_of_deeds read ∙ ap (sum_by length) (same_deeds stubs read is) ∙ sym (sum_of_deeds stubs)
 
 -- a vector whose items were all written has what was written
-all_written : {X : Type 0} (many : ℕ) (xs new : List X) → many ≡ length new → take many (new ++ drop (length new) xs) ≡ new
+pub all_written : {X : Type 0} (many : ℕ) (xs new : List X) → many ≡ length new → take many (new ++ drop (length new) xs) ≡ new
 all_written many xs new same = rw same (take-append_seam new (drop (length new) xs))
 
 -- as many actions are found in stubs that were written back as in those that were given

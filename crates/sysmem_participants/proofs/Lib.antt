@@ -6,4 +6,5 @@ mod Ruled
 mod Audited
 mod Closing
 mod Ended
+mod Owned
 mod TwoAudits

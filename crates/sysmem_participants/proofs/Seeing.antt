@@ -9,7 +9,7 @@ use Rattle.sysmem_room.specs.declared.outcome.Outcome.{Outcome}
 use Rattle.sysmem_room.specs.Agreeing.{IsKnown, book_log}
 use Rattle.sysmem_sanitise.specs.Platform.{PlatformFacts}
 use Rattle.sysmem_tree.specs.Path.{node_at}
-use Rattle.sysmem_participants.specs.Audit.{AreMatched, AreRead, HasAt, HaveCalls, HaveVerdicts, IsAmong, IsAmongPaths, IsOf, IsRead}
+use Rattle.sysmem_participants.specs.Audit.{AreFor, AreMatched, AreRead, HasAt, HaveCalls, HaveVerdicts, IsAmong, IsAmongPaths, IsOf, IsRead}
 use Rattle.sysmem_participants.specs.Held.{Left}
 use Rattle.sysmem_participants.proofs.Noted.{known_on}
 
@@ -211,6 +211,12 @@ same_deeds old new read = by old new read.many read.each where
 -- the stubs before an index are for a platform
 abbrev pub ForFirst : PlatformFacts → List Left → ℕ → Type 0
 ForFirst platform stubs index = (k : ℕ) (d : Left) → k < index → (get_or stubs k d).platform ≡ platform
+
+-- stubs that were read are for the same platform
+pub for_read : (platform : PlatformFacts) (old new : List Left) → AreRead old new → AreFor platform old → AreFor platform new
+for_read platform old new read are k d less =
+    let below : k < length old = omega (arith, less, read.many) in
+    (read.each k d below).platform ∙ are k d below
 
 pub for_more : (platform : PlatformFacts) (stubs : List Left) (index : ℕ) (s : Left) → slice_get stubs index ≡ Some s → s.platform ≡ platform → ForFirst platform stubs index
     → ForFirst platform stubs (index + 1)

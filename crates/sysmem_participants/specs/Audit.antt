@@ -99,11 +99,10 @@ pub record AgreesWith (b : BookFacts) (stubs : List Left) (a : Audit) : Type 0 w
   pub audited : (read : List Left) × AreRead stubs read × IsAudited b read a
 
 -- the first fault of a book and the stubs of its collection: the stubs are for another platform, or
--- for the book's, and once their cells were read the fault is the first one
+-- for the book's, and of these the fault is the first one
 abbrev pub IsFaultOf : BookFacts → List Left → AuditFault → Type 0
 IsFaultOf b stubs fault = ((fault ≡ faults.Stubs) × (AreFor b.platform stubs → ⊥))
-    ⊎ (AreFor b.platform stubs
-    × ((read : List Left) × AreRead stubs read × IsFirstFault b read fault))
+    ⊎ (AreFor b.platform stubs × IsFirstFault b stubs fault)
 
 -- faults as the program prints them; a want of memory is told as that refusal
 abbrev pub fault_text : AuditFault → List ℕ

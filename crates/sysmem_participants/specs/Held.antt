@@ -11,8 +11,9 @@ use Rattle.sysmem_tree.specs.ActionKind.{Deed, kind_of}
 use Rattle.sysmem_tree.specs.Path.{Shown}
 use Rattle.sysmem_tree.specs.Step.{shown_after_all}
 use Rattle.sysmem_room.specs.Agreeing.{IsOwn}
+use Rattle.sysmem_room.specs.Entering.{HasEntered}
 use Rattle.sysmem_room.specs.Log.{LogFacts, begun_as}
-use Rattle.sysmem_room.specs.Refusals.{MayAnswer, due}
+use Rattle.sysmem_room.specs.Refusals.{IsDisputed, MayAnswer, due}
 use Rattle.sysmem_room.specs.declared.outcome.Outcome.{Outcome}
 
 -- its node's path, how the node began, the accepted actions on it, the number of its cell and what
@@ -92,6 +93,20 @@ AnswersAtEnd h deed r = r ≢ Strange
 -- the log of a handle; for how many more actions it has room is left out
 abbrev pub log_of : Held → LogFacts
 log_of h = record { begun = h.begun; deeds = h.deeds; places = 0 }
+
+-- a book has the node that is a handle's own, by what the handle saw in its cell
+abbrev pub HasOwn : BookFacts → Held → Option Outcome → Type 0
+HasOwn b h seen = (node : ℕ) × IsOwn b h.path (log_of h) seen node
+
+-- a book has on that node one action more than before, and nothing else
+abbrev pub HasActed : BookFacts → BookFacts → Held → Option Outcome → Deed → Type 0
+HasActed old new h seen deed = HasEntered old new h.path (log_of h) seen deed
+
+-- a handle that saw this in its cell and a book disagree on an action: the book has no node that is
+-- the handle's own, or its decision left that node out, which is a member by what the handle saw
+abbrev pub Disputes : BookFacts → Held → Option Outcome → Deed → Type 0
+Disputes b h seen deed = (node : ℕ) → IsOwn b h.path (log_of h) seen node
+    → IsDisputed b h.path (state_of h) seen (kind_of deed) node
 
 -- a handle that saw this in its cell and a book disagree: the book has no node that is the handle's
 -- own

@@ -74,7 +74,7 @@ abbrev pub AreOpen : List Left → Type 0
 AreOpen ss = (k : ℕ) (d : Left) → k < length ss → IsOpen (slice_index_or ss k d)
 
 -- where none of the stubs was closed that agree with a book, once their cells were read, no node of
--- it was
+-- it was closed before its initial domain's decision
 abbrev pub NoneClosed : Type 0
 NoneClosed = (b : BookFacts) (ss read : List Left) (a : Audit) → IsBook b → AreRead ss read
     → IsAudited b read a → AreOpen ss → NoEarlyClose b.history

@@ -1,9 +1,9 @@
 //! The actions after which a handle is still there.
 
-ghost use Rattle.std.specs.Prelude.{◌≡◌, ◌≢◌, ◌<◌, ◌≤◌, ◌+◌, ◌++◌, ℕ, [], ◌∷◌, None, false, true, is_some, length, option_map, IfErr, IfOk, OnErr, OnOk};
+ghost use Rattle.std.specs.Prelude.{◌≡◌, ◌≢◌, ◌<◌, ◌≤◌, ◌+◌, ◌++◌, ℕ, [], ◌∷◌, None, false, true, is_some, length, option_map, Err, Some, IfErr, IfOk, IfSome, OnErr, OnOk};
 ghost use Rattle.std.specs.Arc.{arc_value};
 ghost use Rattle.once_cell.specs.Once.{cell_name};
-ghost use Rattle.sysmem_participants.specs.Held.{Answers, MayEnter, acted, child_of};
+ghost use Rattle.sysmem_participants.specs.Held.{Answers, Disputes, HasOwn, HasActed, MayEnter, acted, child_of};
 ghost use Rattle.sysmem_room.specs.Agreeing.{IsOwn};
 ghost use Rattle.sysmem_room.specs.Counting.{nodes_by};
 ghost use Rattle.sysmem_room.specs.Entering.{HasEntered};
@@ -16,7 +16,7 @@ use crate::deciding::decide;
 use crate::holding::{Hold, in_hold};
 use crate::seat::{Prepared, Seat};
 use crate::shared::{Rules, Shared};
-use once_cell::race::OnceBox;
+use once_cell::race::{Note, OnceBox};
 use std::alloc::{AllocError, Global};
 use std::sync::ledger::{Ledger, Share};
 use std::sync::{Arc, Wait};
@@ -61,6 +61,9 @@ fn enter<L: Ledger, G: Gate + Drop + Sync, R: Threads + Wait + Sync>(
         → IsOwn result.1.found path.now log.old (option_map (λ o. o.now) known.entry) node
         → IsDisputed result.1.found path.now (shown_by log.old).state
         (option_map (λ o. o.now) known.entry) (kind_of (deed_of action)) node) }
+    ensures own { IfErr result.0 (λ refusal. refusal ≢ Refusal.Strange → (node : ℕ)
+        × IsOwn result.1.found path.now log.old (option_map (λ o. o.now) known.entry) node) }
+    ensures unchanged { OnErr result.0 (result.1.left ≡ result.1.found) }
     ensures foreseen { OnOk result.0 (due (option_map (λ o. o.now) known.entry) path.now
         (shown_by log.old).state (kind_of (deed_of action)) ≡ None) }
     ensures answers { IfErr result.0 (λ refusal. refusal ≢ Refusal.Strange
@@ -77,13 +80,13 @@ fn enter<L: Ledger, G: Gate + Drop + Sync, R: Threads + Wait + Sync>(
     ensures empty { IfOk result.0 (λ share. share.amount ≡ 0) }
 {
     let (entered, hold) = in_hold(rt, shared, path, log, known, action, fresh, mine);
-    let (done, decides) = match entered {
+    let (done, turn) = match entered {
         Ok(entered) => entered,
         Err(refusal) => return (Err(refusal), hold),
     };
     log.push(copy);
-    if decides {
-        let _none_waits = decide(rt, shared, rules);
+    if let Some(turn) = turn {
+        let _none_waits = decide(rt, shared, rules, turn);
     }
     (Ok(done.share), hold)
 }
@@ -133,30 +136,43 @@ impl<L: Ledger, G: Gate + Drop> Prepared<L, G> {
 
 impl<L: Ledger, G: Gate + Drop + Sync> Seat<L, G> {
     /// Enters an action that leaves the handle there: what the node gets of the count that it
-    /// makes. `copy` is the same action, for the log.
+    /// makes. `copy` is the same action, for the log. Beside that the book as the action found and
+    /// left it, and what it saw in the cell before; neither where memory is refused.
     fn step<R: Threads + Wait + Sync>(
         &mut self,
         rt: &R,
         action: Action,
         copy: Action,
         fresh: Option<FreshCell>,
-    ) -> Result<Share<L>, Refusal>
+    ) -> (Result<Share<L>, Refusal>, Option<(Hold<L>, Note<Outcome>)>)
         requires same { deed_of copy ≡ deed_of action }
         requires fresh { is_some fresh ≡ makes_root (kind_of (deed_of action)) }
         requires stays { ends_node (kind_of (deed_of action)) ≡ false }
-        ensures entered { OnOk result (self.new ≡ acted self.old (deed_of action)) }
-        ensures unchanged { OnErr result (self.new ≡ self.old) }
-        ensures foreseen { OnOk result (MayEnter self.old (deed_of action)) }
-        ensures answers { IfErr result (Answers self.old (deed_of action)) }
-        ensures given { IfOk result (λ share. share.parts ≡ nodes_by (kind_of (deed_of action))) }
-        ensures empty { IfOk result (λ share. share.amount ≡ 0) }
+        ensures entered { OnOk result.0 (self.new ≡ acted self.old (deed_of action)) }
+        ensures unchanged { OnErr result.0 (self.new ≡ self.old) }
+        ensures foreseen { OnOk result.0 (MayEnter self.old (deed_of action)) }
+        ensures answers { IfErr result.0 (Answers self.old (deed_of action)) }
+        ensures given { IfOk result.0 (λ share.
+            share.parts ≡ nodes_by (kind_of (deed_of action))) }
+        ensures empty { IfOk result.0 (λ share. share.amount ≡ 0) }
+        ensures starved { is_some result.1 ≡ false → result.0 ≡ Err Refusal.NoMemory }
+        ensures saw { IfSome result.1 (λ look. (look.1.cell ≡ self.old.cell)
+            × IfSome self.old.known (λ known. look.1.known ≡ Some known)) }
+        ensures taken { IfSome result.1 (λ look. OnOk result.0
+            (HasActed look.0.found look.0.left self.old look.1.known (deed_of action))) }
+        ensures as_found { IfSome result.1 (λ look. OnErr result.0 (look.0.left ≡ look.0.found)) }
+        ensures own { IfSome result.1 (λ look. IfErr result.0 (λ refusal.
+            refusal ≢ Refusal.Strange → HasOwn look.0.found self.old look.1.known)) }
+        ensures strange { IfSome result.1 (λ look. IfErr result.0 (λ refusal.
+            refusal ≡ Refusal.Strange
+            → Disputes look.0.found self.old look.1.known (deed_of action))) }
     {
         if self.log.reserve().is_err() {
-            return Err(Refusal::NoMemory);
+            return (Err(Refusal::NoMemory), None);
         }
         let mut seen = self.note.again();
         let known = self.cell.get_as(&mut seen);
-        let (entered, _hold) = enter(
+        let (entered, hold) = enter(
             rt,
             &self.shared,
             &self.rules,
@@ -168,7 +184,7 @@ impl<L: Ledger, G: Gate + Drop + Sync> Seat<L, G> {
             fresh,
             &mut self.share,
         );
-        entered
+        (entered, Some((hold, seen)))
     }
 
     /// A further token, the last child of a token.
@@ -186,7 +202,8 @@ impl<L: Ledger, G: Gate + Drop + Sync> Seat<L, G> {
         let Ok(child) = self.prepared(NodeKind::Token, false) else {
             return Err(Refusal::NoMemory);
         };
-        match self.step(rt, Action::Duplicate, Action::Duplicate, None) {
+        let (done, _look) = self.step(rt, Action::Duplicate, Action::Duplicate, None);
+        match done {
             Ok(share) => Ok(child.seated(share)),
             Err(refusal) => Err(refusal),
         }
@@ -207,7 +224,8 @@ impl<L: Ledger, G: Gate + Drop + Sync> Seat<L, G> {
         let Ok(child) = self.prepared(NodeKind::Group, false) else {
             return Err(Refusal::NoMemory);
         };
-        match self.step(rt, Action::CreateGroup, Action::CreateGroup, None) {
+        let (done, _look) = self.step(rt, Action::CreateGroup, Action::CreateGroup, None);
+        match done {
             Ok(share) => Ok(child.seated(share)),
             Err(refusal) => Err(refusal),
         }
@@ -228,7 +246,8 @@ impl<L: Ledger, G: Gate + Drop + Sync> Seat<L, G> {
         let Ok(child) = self.prepared(NodeKind::Token, false) else {
             return Err(Refusal::NoMemory);
         };
-        match self.step(rt, Action::CreateChild, Action::CreateChild, None) {
+        let (done, _look) = self.step(rt, Action::CreateChild, Action::CreateChild, None);
+        match done {
             Ok(share) => Ok(child.seated(share)),
             Err(refusal) => Err(refusal),
         }
@@ -253,7 +272,8 @@ impl<L: Ledger, G: Gate + Drop + Sync> Seat<L, G> {
             return Err(Refusal::NoMemory);
         };
         child.cell = cell;
-        match self.step(rt, Action::AttachToken, Action::AttachToken, Some(fresh)) {
+        let (done, _look) = self.step(rt, Action::AttachToken, Action::AttachToken, Some(fresh));
+        match done {
             Ok(share) => Ok(child.seated(share)),
             Err(refusal) => Err(refusal),
         }
@@ -266,7 +286,8 @@ impl<L: Ledger, G: Gate + Drop + Sync> Seat<L, G> {
         ensures foreseen { OnOk result (MayEnter self.old binds) }
         ensures answers { IfErr result (Answers self.old binds) }
     {
-        match self.step(rt, Action::Bind, Action::Bind, None) {
+        let (done, _look) = self.step(rt, Action::Bind, Action::Bind, None);
+        match done {
             Ok(_share) => Ok(()),
             Err(refusal) => Err(refusal),
         }
@@ -282,12 +303,13 @@ impl<L: Ledger, G: Gate + Drop + Sync> Seat<L, G> {
         ensures foreseen { OnOk result (MayEnter self.old has_all_children) }
         ensures answers { IfErr result (Answers self.old has_all_children) }
     {
-        match self.step(
+        let (done, _look) = self.step(
             rt,
             Action::AllChildrenPresent,
             Action::AllChildrenPresent,
             None,
-        ) {
+        );
+        match done {
             Ok(_share) => Ok(()),
             Err(refusal) => Err(refusal),
         }
@@ -308,12 +330,13 @@ impl<L: Ledger, G: Gate + Drop + Sync> Seat<L, G> {
         let Ok(own) = shared_again(&asked) else {
             return Err(Refusal::NoMemory);
         };
-        match self.step(
+        let (done, _look) = self.step(
             rt,
             Action::SetConstraints(asked),
             Action::SetConstraints(own),
             None,
-        ) {
+        );
+        match done {
             Ok(_share) => Ok(()),
             Err(refusal) => Err(refusal),
         }

@@ -19,7 +19,7 @@ use sysmem_sanitise::Platform;
 use sysmem_search::Gate;
 use sysmem_tree::{NodeKind, Refusal};
 
-/// Makes collections that are decided for one platform; its gate is told of the searches.
+/// Makes collections for one platform; its gate is told of the searches.
 #[derive(Drop)]
 pub struct Allocator<G: Gate + Drop> {
     rules: Arc<Rules<G>>,

@@ -61,7 +61,7 @@ impl<L: Ledger, G: Gate + Drop + Sync> Collection<L, G> {
     }
 
     /// A token, the last child of this node, whose domain is decided once this one is, with the
-    /// same settings.
+    /// same settings or none.
     pub fn attach_token<R: Threads + Wait + Sync>(&mut self, rt: &R) -> Result<Token<L, G>, Refusal>
         ensures entered { OnOk result (self.new ≡ acted self.old attaches_token) }
         ensures unchanged { OnErr result (self.new ≡ self.old) }
@@ -76,8 +76,8 @@ impl<L: Ledger, G: Gate + Drop + Sync> Collection<L, G> {
         }
     }
 
-    /// What was decided of the domain, or why nothing can be shown: `Pending` as long as it isn't
-    /// decided, `DomainFailed` where it failed, `NoMemory` where memory was refused to its
+    /// What the cell tells that was decided, or why nothing can be shown: `Pending` as long as it
+    /// tells nothing, `DomainFailed` where the domain failed, `NoMemory` where memory was refused to its
     /// decision, `ConstraintsIntersectionEmpty` and `TooManyGroupChildCombinations` where nothing
     /// was chosen, `NotSelected` where the node isn't a member. It neither waits nor takes memory.
     pub fn check(&mut self) -> Result<View<'_>, Refusal>
@@ -96,7 +96,7 @@ impl<L: Ledger, G: Gate + Drop + Sync> Collection<L, G> {
         self.seat.check()
     }
 
-    /// The same as `check`, once the domain has a verdict. Nothing says that it ever has.
+    /// The same as `check`, once the cell tells a verdict. Nothing says that it ever does.
     pub fn wait_for_all<R: Wait>(&mut self, rt: &R) -> Result<View<'_>, Refusal>
         ensures* after { sem 𝓛 (follows_so (the_row L.row G.row L.Ledger)
             (the_row L.row G.row L.Ledger) self.entry.ghost_name none (λ _ _. ⊤)

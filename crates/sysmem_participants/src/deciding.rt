@@ -14,7 +14,7 @@ use std::sync::{Arc, Wait};
 use std::thread::Threads;
 use sysmem_alloc::Frozen;
 use sysmem_proof::Claim;
-use sysmem_room::Seen;
+use sysmem_room::{Seen, Turn};
 use sysmem_search::{Gate, prove, search_wide};
 
 /// From so many nanoseconds on, a search is long enough for a second worker to be worth its thread.
@@ -81,12 +81,16 @@ fn claim_of<G: Gate + Sync, R: Threads + Sync>(
 }
 
 /// What the domain that is next is decided on, in one hold, and the book as it is left then.
-fn next_of<L: Ledger, R: Wait>(rt: &R, shared: &Shared<L>) -> (Option<Frozen>, Seen<L>)
+fn next_of<L: Ledger, R: Wait>(
+    rt: &R,
+    shared: &Shared<L>,
+    turn: &Turn<L>,
+) -> (Option<Frozen>, Seen<L>)
     ensures frozen { result.0 ≡ frozen_of result.1 }
     ensures none { result.0 ≡ None → next_ready result.1.state ≡ None }
 {
     let mut room = shared.room.lock(rt);
-    let frozen = room.frozen();
+    let frozen = room.frozen(turn);
     let seen = room.seen();
     (frozen, seen)
 }
@@ -98,20 +102,21 @@ pub(crate) fn decide<L: Ledger, G: Gate + Drop + Sync, R: Threads + Wait + Sync>
     rt: &R,
     shared: &Shared<L>,
     rules: &Rules<G>,
+    turn: Turn<L>,
 ) -> Seen<L>
     ensures { next_ready result.state ≡ None }
 {
     for _ in rt.forever() {
-        let (next, seen) = next_of(rt, shared);
+        let (next, seen) = next_of(rt, shared, &turn);
         shared.changed.notify_all();
         let Some(frozen) = next else {
             return seen;
         };
         match claimed(rt, rules, &frozen) {
             Ok((claim, copy)) => {
-                let _entered = shared.room.lock(rt).conclude(frozen, claim, copy);
+                let _entered = shared.room.lock(rt).conclude(&turn, frozen, claim, copy);
             }
-            Err(_) => shared.room.lock(rt).lack(&frozen),
+            Err(_) => shared.room.lock(rt).lack(&turn, &frozen),
         }
     }
     unreachable!()

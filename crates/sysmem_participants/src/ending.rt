@@ -1,7 +1,7 @@
 //! The actions that spend a handle.
 
 ghost use Rattle.std.specs.Prelude.{◌≡◌, ◌≢◌, ◌<◌, ◌+◌, ◌++◌, ℕ, [], ◌∷◌, None, Some, false, true, map, option_map, IfErr, IfOk, IfSome, MatchOption, OnErr, OnOk};
-ghost use Rattle.sysmem_participants.specs.Held.{AnswersAtEnd, IsStrangeTo, MayEnter, acted, left_of, state_of};
+ghost use Rattle.sysmem_participants.specs.Held.{AnswersAtEnd, HasOwn, HasActed, IsStrangeTo, MayEnter, acted, left_of, state_of};
 ghost use Rattle.sysmem_room.specs.Agreeing.{IsOwn};
 ghost use Rattle.sysmem_room.specs.Entering.{HasEntered};
 ghost use Rattle.sysmem_room.specs.Log.{shown_by};
@@ -60,6 +60,9 @@ fn end<L: Ledger, G: Gate + Drop + Sync, R: Threads + Wait + Sync>(
     ensures back { IfErr result.0 (λ refused. refused.0 ≡ log) }
     ensures strange { IfErr result.0 (λ refused. refused.1 ≡ Refusal.Strange → (node : ℕ)
         → IsOwn result.1.found path.now log (option_map (λ o. o.now) known.entry) node → ⊥) }
+    ensures own { IfErr result.0 (λ refused. refused.1 ≢ Refusal.Strange → (node : ℕ)
+        × IsOwn result.1.found path.now log (option_map (λ o. o.now) known.entry) node) }
+    ensures unchanged { OnErr result.0 (result.1.left ≡ result.1.found) }
     ensures foreseen { OnOk result.0 (due (option_map (λ o. o.now) known.entry) path.now
         (shown_by log).state (kind_of (deed_of action)) ≡ None) }
     ensures answers { IfErr result.0 (λ refused. refused.1 ≢ Refusal.Strange
@@ -71,13 +74,13 @@ fn end<L: Ledger, G: Gate + Drop + Sync, R: Threads + Wait + Sync>(
     ensures uncounted { OnErr result.0 (mine.new.amount ≡ mine.old.amount) }
 {
     let (entered, hold) = in_hold(rt, shared, path, &log, known, action, None, mine);
-    let decides = match entered {
-        Ok((_ended, decides)) => decides,
+    let turn = match entered {
+        Ok((_ended, turn)) => turn,
         Err(refusal) => return (Err((log, at_end(refusal))), hold),
     };
     shared.changed.notify_all();
-    if decides {
-        let _none_waits = decide(rt, shared, rules);
+    if let Some(turn) = turn {
+        let _none_waits = decide(rt, shared, rules, turn);
     }
     (Ok(log.ended(copy)), hold)
 }
@@ -133,6 +136,11 @@ impl<L: Ledger, G: Gate + Drop + Sync> Seat<L, G> {
             AnswersAtEnd self (deed_of action) refused.1) }
         ensures saw { (result.2.cell ≡ self.cell)
             × IfSome self.known (λ known. result.2.known ≡ Some known) }
+        ensures taken { OnOk result.0
+            (HasActed result.1.found result.1.left self result.2.known (deed_of action)) }
+        ensures as_found { OnErr result.0 (result.1.left ≡ result.1.found) }
+        ensures own { IfErr result.0 (λ refused. refused.1 ≢ Refusal.Strange
+            → HasOwn result.1.found self result.2.known) }
         ensures strange { IfErr result.0 (λ refused. refused.1 ≡ Refusal.Strange
             → IsStrangeTo result.1.found self result.2.known) }
     {
@@ -193,6 +201,10 @@ impl<L: Ledger, G: Gate + Drop + Sync> Seat<L, G> {
         ensures answers { IfErr result.0 (λ refused. AnswersAtEnd self releases refused.1) }
         ensures saw { (result.2.cell ≡ self.cell)
             × IfSome self.known (λ known. result.2.known ≡ Some known) }
+        ensures taken { OnOk result.0
+            (HasActed result.1.found result.1.left self result.2.known releases) }
+        ensures own { IfErr result.0 (λ refused. refused.1 ≢ Refusal.Strange
+            → HasOwn result.1.found self result.2.known) }
         ensures strange { IfErr result.0 (λ refused. refused.1 ≡ Refusal.Strange
             → IsStrangeTo result.1.found self result.2.known) }
     {
@@ -211,6 +223,8 @@ impl<L: Ledger, G: Gate + Drop + Sync> Seat<L, G> {
         ensures foreseen { MatchOption result.1 (MayEnter self closes) (λ _. Unit {0}) }
         ensures saw { (result.3.cell ≡ self.cell)
             × IfSome self.known (λ known. result.3.known ≡ Some known) }
+        ensures taken { MatchOption result.1
+            (HasActed result.2.found result.2.left self result.3.known closes) (λ _. Unit {0}) }
         ensures strange { IfSome result.1 (λ refusal. (refusal ≡ Refusal.Strange)
             × IsStrangeTo result.2.found self result.3.known) }
     {

@@ -14,7 +14,8 @@ pub struct Audit {
     pub decisions: u32,
 }
 
-/// Why an audit says no. The first that is true, in this order, of all stubs.
+/// Why an audit says no: the first that is true, in this order, of all stubs, once their cells were
+/// read.
 #[derive(Clone, Copy, Debug, PartialEq, Eq)]
 pub enum AuditFault {
     /// The stub of a node is missing, doubled, or of no node.

@@ -14,7 +14,7 @@ use std::thread::Threads;
 use sysmem_search::Gate;
 use sysmem_tree::{NodeKind, Refusal};
 
-/// Alternatives: of the children one will be chosen. It has to be spent, by `release` once it is
+/// Alternatives: where settings are chosen, one of the children is. It has to be spent, by `release` once it is
 /// complete, or by `close`.
 pub struct Group<L: Ledger, G: Gate + Drop> {
     seat: Seat<L, G>,

@@ -14,7 +14,7 @@ ghost use Rattle.sysmem_tree.specs.declared.tree.TheConstants.{MOST_NODES};
 use crate::shared::Shared;
 use std::sync::Wait;
 use std::sync::ledger::{Ledger, Share};
-use sysmem_room::{Entered, FreshCell, Log, Outcome, Seen};
+use sysmem_room::{Entered, FreshCell, Log, Outcome, Seen, Turn};
 use sysmem_tree::{Action, Refusal};
 
 /// The book as an action found it in a hold, and as it left it; for clauses alone: it takes no
@@ -25,9 +25,9 @@ pub(crate) struct Hold<L: Ledger> {
     pub(crate) left: Seen<L>,
 }
 
-/// Enters an action in one hold, and says whether it is this thread's turn to decide. Beside that
-/// stands the book: an accepted action is one more on the handle's own node, and nothing else; and
-/// a refused one leaves it as it was.
+/// Enters an action in one hold, and gives the turn to decide where that is this thread's. Beside
+/// that stands the book: an accepted action is one more on the node that is at the path and agrees
+/// with the log and what is known, and nothing else; and a refused one leaves it as it was.
 pub(crate) fn in_hold<L: Ledger, R: Wait>(
     rt: &R,
     shared: &Shared<L>,
@@ -37,7 +37,7 @@ pub(crate) fn in_hold<L: Ledger, R: Wait>(
     action: Action,
     fresh: Option<FreshCell>,
     mine: &mut Share<L>,
-) -> (Result<(Entered<L>, bool), Refusal>, Hold<L>)
+) -> (Result<(Entered<L>, Option<Turn<L>>), Refusal>, Hold<L>)
     requires mine { 0 < mine.old.parts }
     requires fresh { is_some fresh ≡ makes_root (kind_of (deed_of action)) }
     ensures legal { IsBook result.1.found }
@@ -71,14 +71,14 @@ pub(crate) fn in_hold<L: Ledger, R: Wait>(
     let mut room = shared.room.lock(rt);
     room.book().recall_legal();
     let found = room.seen();
-    let done = match room.act(path, log, known, action, fresh, mine) {
-        Ok(done) => done,
+    match room.act(path, log, known, action, fresh, mine) {
+        Ok(done) => {
+            let left = room.seen();
+            (Ok(done), Hold { found, left })
+        }
         Err(refusal) => {
             let left = room.seen();
-            return (Err(refusal), Hold { found, left });
+            (Err(refusal), Hold { found, left })
         }
-    };
-    let decides = room.begin();
-    let left = room.seen();
-    (Ok((done, decides)), Hold { found, left })
+    }
 }

@@ -16,7 +16,8 @@ pub fn audits_agree()
     one_path();
 }
 
-/// Where none of the stubs of an audit that said yes was closed, no node of the collection was.
+/// Where none of the stubs of an audit that said yes was closed, no node of the collection was
+/// closed before its initial domain's decision.
 pub fn none_closed()
     ensures { NoneClosed }
 {

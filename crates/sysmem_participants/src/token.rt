@@ -54,7 +54,7 @@ impl<L: Ledger, G: Gate + Drop + Sync> Token<L, G> {
         }
     }
 
-    /// A group, the last child of this token: of its children one will be chosen.
+    /// A group, the last child of this token: where settings are chosen, one of its children is.
     pub fn create_group<R: Threads + Wait + Sync>(&mut self, rt: &R) -> Result<Group<L, G>, Refusal>
         ensures entered { OnOk result (self.new ≡ acted self.old creates_group) }
         ensures unchanged { OnErr result (self.new ≡ self.old) }

@@ -4,11 +4,11 @@
 //! ```
 //! let opened = Room::<L>::open(alloc, blank, platform)?;
 //! let (mut room, mut share) = (opened.room, opened.share);
-//! let done = room.act(&path, &log, known, Action::Release, None, &mut share)?;
-//! if room.begin() {
-//!     while let Some(frozen) = room.frozen() {
+//! let (done, turn) = room.act(&path, &log, known, Action::Release, None, &mut share)?;
+//! if let Some(turn) = turn {
+//!     while let Some(frozen) = room.frozen(&turn) {
 //!         // a search and a proof, where nothing is locked
-//!         room.conclude(frozen, claim, copy);
+//!         room.conclude(&turn, frozen, claim, copy);
 //!     }
 //! }
 //! ```
@@ -29,6 +29,6 @@ pub use cell::FreshCell;
 pub use log::Log;
 pub use outcome::{Outcome, Ruling};
 pub use refusing::{due, is_member};
-pub use room::{Entered, Opened, Room};
+pub use room::{Entered, Opened, Room, Turn};
 pub use seen::Seen;
 pub use verdicts::has_verdict;

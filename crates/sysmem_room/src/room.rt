@@ -28,7 +28,7 @@ use crate::seen::Seen;
 use crate::verdicts::has_verdict;
 use once_cell::race::OnceBox;
 use std::alloc::{AllocError, Global};
-use std::marker::Model;
+use std::marker::{Model, PhantomData};
 use std::sync::Arc;
 use std::sync::ledger::{Blank, Book as Counted, Ledger, Share};
 use sysmem_alloc::laws::{few_entries, legal_agrees};
@@ -104,6 +104,14 @@ pub struct Entered<L: Ledger> {
     pub node: NodeId,
     /// The share of the node that was made; without parts, where none was.
     pub share: Share<L>,
+}
+
+/// The turn to take a collection's decisions. `Room::act` alone gives one, with an action that was
+/// entered: so a call that is refused decides nothing. It takes no bytes, and is over where
+/// `frozen` finds no domain that waits.
+#[derive(Drop)]
+pub struct Turn<L: Ledger> {
+    ledger: PhantomData<L>,
 }
 
 /// How many parts of the count a node gets that the action makes: one, or none where it makes no
@@ -271,6 +279,8 @@ impl<L: Ledger> Room<L> {
     /// than the one that is known; else with what is due by what the handle knows; else with what
     /// the book refuses it for, which the handle can't foresee, or, unless it ends the node, with
     /// `Strange` where the handle's verdict has its node as a member, and the book left it out.
+    /// Beside what was entered stands the turn to take the decisions, if a domain waits for one and
+    /// nobody takes them.
     pub fn act(
         &mut self,
         path: &[u32],
@@ -279,7 +289,7 @@ impl<L: Ledger> Room<L> {
         action: Action,
         fresh: Option<FreshCell>,
         mine: &mut Share<L>,
-    ) -> Result<Entered<L>, Refusal>
+    ) -> Result<(Entered<L>, Option<Turn<L>>), Refusal>
         requires mine { 0 < mine.old.parts }
         requires fresh { is_some fresh ≡ makes_root (kind_of (deed_of action)) }
         ensures entered { OnOk result ((node : ℕ)
@@ -288,7 +298,7 @@ impl<L: Ledger> Room<L> {
         ensures accepted { IfOk result (λ done. (node : ℕ)
             × IsOwn self.old path.now log.now (option_map (λ o. o.now) known.entry) node
             × (applied self.old.state.tree node (deed_of action)
-            ≡ Ok (record { tree = self.new.state.tree; node = done.node }))) }
+            ≡ Ok (record { tree = self.new.state.tree; node = done.0.node }))) }
         ensures own { IfErr result (λ refusal. refusal ≢ Refusal.Strange → (node : ℕ)
             × IsOwn self.old path.now log.now (option_map (λ o. o.now) known.entry) node) }
         ensures strange { IfErr result (λ refusal. refusal ≡ Refusal.Strange → (node : ℕ)
@@ -310,9 +320,11 @@ impl<L: Ledger> Room<L> {
         ensures parts { mine.new.parts ≡ mine.old.parts }
         ensures counted { OnOk result (mine.new.amount ≡ mine.old.amount + 1) }
         ensures uncounted { OnErr result (mine.new.amount ≡ mine.old.amount) }
-        ensures given { IfOk result (λ done. done.share.parts
+        ensures given { IfOk result (λ done. done.0.share.parts
             ≡ nodes_by (kind_of (deed_of action))) }
-        ensures empty { IfOk result (λ done. done.share.amount ≡ 0) }
+        ensures empty { IfOk result (λ done. done.0.share.amount ≡ 0) }
+        ensures turn { IfOk result (λ done. is_some done.1 ≡ true
+            → is_some (next_ready self.new.state) ≡ true) }
     {
         let Some(node) = self.node_of(path, log, known) else {
             return Err(Refusal::Strange);
@@ -325,29 +337,29 @@ impl<L: Ledger> Room<L> {
         self.book.recall_legal();
         legal_agrees();
         match self.enter(Event { node, action }, fresh, mine) {
-            Ok(done) => Ok(done),
+            Ok(done) => Ok((done, self.begin())),
             Err(refusal) => Err(unforeseen(known, kind, refusal)),
         }
     }
 
-    /// Whether the caller is to take the decisions: a domain waits for one, and nobody takes them.
-    /// From then on somebody does, until `frozen` finds no domain that waits. To be asked in the
-    /// hold of an action that was entered.
-    pub fn begin(&mut self) -> bool
+    /// The turn to take the decisions, if a domain waits for one and nobody takes them.
+    fn begin(&mut self) -> Option<Turn<L>>
         ensures same { self.new ≡ self.old }
-        ensures waits { IsTrue result → is_some (next_ready self.old.state) ≡ true }
+        ensures waits { is_some result ≡ true → is_some (next_ready self.old.state) ≡ true }
     {
         if self.is_deciding || self.book.next_ready().is_none() {
-            return false;
+            return None;
         }
         self.is_deciding = true;
-        true
+        Some(Turn {
+            ledger: PhantomData,
+        })
     }
 
-    /// What the domain that is next is decided on; `None` where no domain waits, and then nobody
-    /// takes the decisions any more. A domain for which memory is refused is entered and published
-    /// as decided without memory, and the next one is taken.
-    pub fn frozen(&mut self) -> Option<Frozen>
+    /// What the domain that is next is decided on; `None` where no domain waits, and then the turn
+    /// is over. A domain for which memory is refused is entered and published as decided without
+    /// memory, and the next one is taken.
+    pub fn frozen(&mut self, _turn: &Turn<L>) -> Option<Frozen>
         ensures frozen { result ≡ frozen_of self.new }
         ensures lacking { (domains : List ℕ) × (self.new ≡ without_memory self.old domains) }
     {
@@ -378,7 +390,13 @@ impl<L: Ledger> Room<L> {
     /// Enters and publishes a decision that was made from what was frozen, if the book still has
     /// that for the domain that is next; `false` where it hasn't, and then nothing has changed.
     /// `copy` is the same claim with an owner of its own, for the book. It takes no memory.
-    pub fn conclude(&mut self, frozen: Frozen, claim: Arc<Claim>, copy: Arc<Claim>) -> bool
+    pub fn conclude(
+        &mut self,
+        _turn: &Turn<L>,
+        frozen: Frozen,
+        claim: Arc<Claim>,
+        copy: Arc<Claim>,
+    ) -> bool
         requires right { IsTrueClaim frozen.platform frozen.tree.nodes frozen.domain frozen.base
             (arc_value claim) }
         requires same { arc_value copy ≡ arc_value claim }
@@ -415,7 +433,7 @@ impl<L: Ledger> Room<L> {
 
     /// Enters and publishes that memory was refused to the decision of what was frozen, if its
     /// domain still is the next one; else it changes nothing.
-    pub fn lack(&mut self, frozen: &Frozen)
+    pub fn lack(&mut self, _turn: &Turn<L>, frozen: &Frozen)
         ensures entered { next_ready self.old.state ≡ Some frozen.now.domain
             → self.new ≡ entered self.old (Decided (record {
               domain = frozen.now.domain;

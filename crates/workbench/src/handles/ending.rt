@@ -39,7 +39,7 @@ pub(crate) fn put_audit<L: Ledger, R: Threads + Wait + Sync>(
                 "audit nodes {nodes} actions {actions} decisions {decisions}"
             )
         }
-        Err((fault, _seen)) => {
+        Err((fault, _seen, _stubs)) => {
             let name = fault.name();
             writeln!(text, "audit {name}")
         }

@@ -77,7 +77,7 @@ fn play_once<L: Ledger, R: Threads + Wait + Sync>(
     }
     match audit(rt, left) {
         Ok(_found) => Ok(()),
-        Err((fault, _seen)) => Err(Failure::Audit(fault)),
+        Err((fault, _seen, _stubs)) => Err(Failure::Audit(fault)),
     }
 }
 

@@ -116,7 +116,7 @@ pub(crate) fn counted<L: Ledger, R: Wait + Abort, const MANY: usize>(
     };
     match audit(rt, stubs) {
         Ok((found, _seen)) => Ok(found),
-        Err((fault, _seen)) => Err(fault),
+        Err((fault, _seen, _stubs)) => Err(fault),
     }
 }
 

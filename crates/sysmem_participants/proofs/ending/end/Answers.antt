@@ -1,5 +1,5 @@
 -- `Strange` is answered of what ends a node only where the hold answered it.
-use Rattle.std.proofs.Common.{◌≡◌, ◌≢◌, ℕ, rules}
+use Rattle.std.proofs.Common.{◌≡◌, ◌≢◌, ◌∙◌, ℕ, rules, sym}
 use Rattle.std.specs.Prelude.{option_map}
 use Rattle.sysmem_tree.specs.declared.refusal.Refusal.TheVariants.{Strange}
 use Rattle.sysmem_tree.specs.ActionKind.{deed_of, kind_of}
@@ -20,3 +20,10 @@ returns-in-Err-clause-strange g c = λ strange node own.
     let same = was_strange c.in-Err.refusal c.at_end.result (λ not_strange. for_its_state known c.args.path.now state kind c.in-Err.refusal c.requires.ends (told not_strange))
     c.at_end.ensures.same strange in
     undisputed c.in_hold-entered.result.1.found c.args.path.now state known kind node c.requires.ends (held same node own)
+
+pub returns-in-Err-clause-own : goal.returns-in-Err-clause-own
+returns-in-Err-clause-own g c = λ not_strange.
+    let known = option_map (λ o. o.now) c.args.known in
+    let held : c.in-Err.refusal ≢ Strange → (node : ℕ) × IsOwn c.in_hold-entered.result.1.found c.args.path.now c.args.log known node = search rules in
+    let (_, wrong) = c.at_end.ensures.told not_strange in
+    held (λ strange. absurd (cc (sym wrong ∙ strange)))

@@ -1,10 +1,12 @@
 -- What is due by what the call sees in the cell, said by what the handle knew.
 use Rattle.std.proofs.Common.{◌≡◌, true, length, rules}
+use Rattle.std.specs.Prelude.{option_map}
 use Rattle.sysmem_room.specs.Log.{shown_by}
 use Rattle.sysmem_tree.specs.ActionKind.{deed_of}
 use Rattle.sysmem_participants.specs.Held.{state_of}
 use Rattle.sysmem_participants.proofs.Answering.{answers_by_known, enters_by_known, read_known}
 use Rattle.sysmem_participants.proofs.Ended.{counted_still, open_still}
+use Rattle.sysmem_participants.proofs.Owned.{disputed, owned, read_now}
 use Rattle.sysmem_participants.proofs.seat.Seat.step.Goals as goal
 
 pub invariant_of-self-2 : goal.invariant_of-self-2
@@ -32,3 +34,21 @@ returns-clause-answers g c =
     let state : (shown_by c.reserve.new.self).state ≡ state_of c.args.self.now = search rules in
     answers_by_known c.enter-entered.result.0 c.args.self.now (deed_of c.args.action) c.again-seen.result.known c.get_as-known.result c.deref-4.result.now (shown_by c.reserve.new.self).state
     known path state (read_known c.again-seen.result.known _ c.get_as-known.result c.get_as-known.ensures.value) c.enter-entered.ensures.answers
+
+pub returns-clause-own : goal.returns-clause-own
+returns-clause-own g c =
+    let path : c.deref-4.result.now ≡ c.args.self.now.path = search rules in
+    let begun : c.reserve.new.self.begun ≡ c.args.self.now.begun = search rules in
+    let deeds : c.reserve.new.self.deeds ≡ c.args.self.now.deeds = search rules in
+    owned c.enter-entered.result.0 c.enter-entered.result.1.found c.args.self.now c.deref-4.result.now c.reserve.new.self
+    (option_map (λ o. o.now) c.get_as-known.result) c.get_as-known.new.note.known path begun deeds
+    (read_now c.again-seen.result.known _ c.get_as-known.result c.get_as-known.ensures.value) c.enter-entered.ensures.own
+
+pub returns-clause-strange : goal.returns-clause-strange
+returns-clause-strange g c =
+    let path : c.deref-4.result.now ≡ c.args.self.now.path = search rules in
+    let begun : c.reserve.new.self.begun ≡ c.args.self.now.begun = search rules in
+    let deeds : c.reserve.new.self.deeds ≡ c.args.self.now.deeds = search rules in
+    disputed c.enter-entered.result.0 c.enter-entered.result.1.found c.args.self.now (deed_of c.args.action) c.deref-4.result.now c.reserve.new.self
+    (option_map (λ o. o.now) c.get_as-known.result) c.get_as-known.new.note.known path begun deeds
+    (read_now c.again-seen.result.known _ c.get_as-known.result c.get_as-known.ensures.value) c.enter-entered.ensures.strange
