@@ -1,6 +1,6 @@
 -- What a handle holds, and what a call makes of it.
 use Rattle.std.specs.Prelude.{◌≡◌, ◌≢◌, ◌++◌, ℕ, Bool, true, List, [], ◌∷◌, Option, None, Some, IfSome}
-use Rattle.sysmem_alloc.specs.Book.{BookFacts}
+use Rattle.sysmem_alloc.specs.Book.{BookFacts, IsBook}
 use Rattle.sysmem_sanitise.specs.Platform.{PlatformFacts}
 use Rattle.sysmem_tree.specs.declared.refusal.Refusal.{Refusal}
 use Rattle.sysmem_tree.specs.declared.refusal.Refusal.TheVariants.{NoMemory, Strange, WrongState}
@@ -97,6 +97,19 @@ log_of h = record { begun = h.begun; deeds = h.deeds; places = 0 }
 -- a book has the node that is a handle's own, by what the handle saw in its cell
 abbrev pub HasOwn : BookFacts → Held → Option Outcome → Type 0
 HasOwn b h seen = (node : ℕ) × IsOwn b h.path (log_of h) seen node
+
+-- some legal book has that node, by something that the handle may have seen in its cell: what it
+-- knew, if it knew a verdict; that the book is the one under the lock isn't said
+pub record IsInBook (h : Held) : Type 0 where
+  pub seen : Option Outcome
+  pub knew : IfSome h.known (λ o. seen ≡ Some o)
+  pub book : BookFacts
+  pub legal : IsBook book
+  pub own : HasOwn book h seen
+
+-- a refusal but for want of memory, and but for a book without that node
+abbrev pub RefusesInBook : Held → Refusal → Type 0
+RefusesInBook h r = r ≢ Strange → r ≢ NoMemory → IsInBook h
 
 -- a book has on that node one action more than before, and nothing else
 abbrev pub HasActed : BookFacts → BookFacts → Held → Option Outcome → Deed → Type 0

@@ -1,9 +1,10 @@
 //! The actions after which a handle is still there.
 
-ghost use Rattle.std.specs.Prelude.{◌≡◌, ◌≢◌, ◌<◌, ◌≤◌, ◌+◌, ◌++◌, ℕ, [], ◌∷◌, None, false, true, is_some, length, option_map, Err, Some, IfErr, IfOk, IfSome, OnErr, OnOk};
+ghost use Rattle.std.specs.Prelude.{◌≡◌, ◌≢◌, ◌<◌, ◌≤◌, ◌+◌, ◌++◌, ℕ, [], ◌∷◌, None, false, true, is_some, length, option_map, Err, Some, IfErr, IfOk, IfSome, MatchResult, OnErr, OnOk};
 ghost use Rattle.std.specs.Arc.{arc_value};
 ghost use Rattle.once_cell.specs.Once.{cell_name};
-ghost use Rattle.sysmem_participants.specs.Held.{Answers, Disputes, HasOwn, HasActed, MayEnter, acted, child_of};
+ghost use Rattle.sysmem_participants.specs.Held.{Answers, Disputes, HasActed, HasOwn, IsInBook, MayEnter, RefusesInBook, acted, child_of};
+ghost use Rattle.sysmem_alloc.specs.Book.{IsBook};
 ghost use Rattle.sysmem_room.specs.Agreeing.{IsOwn};
 ghost use Rattle.sysmem_room.specs.Counting.{nodes_by};
 ghost use Rattle.sysmem_room.specs.Entering.{HasEntered};
@@ -61,6 +62,7 @@ fn enter<L: Ledger, G: Gate + Drop + Sync, R: Threads + Wait + Sync>(
         → IsOwn result.1.found path.now log.old (option_map (λ o. o.now) known.entry) node
         → IsDisputed result.1.found path.now (shown_by log.old).state
         (option_map (λ o. o.now) known.entry) (kind_of (deed_of action)) node) }
+    ensures legal { IsBook result.1.found }
     ensures own { IfErr result.0 (λ refusal. refusal ≢ Refusal.Strange → (node : ℕ)
         × IsOwn result.1.found path.now log.old (option_map (λ o. o.now) known.entry) node) }
     ensures unchanged { OnErr result.0 (result.1.left ≡ result.1.found) }
@@ -137,7 +139,7 @@ impl<L: Ledger, G: Gate + Drop> Prepared<L, G> {
 impl<L: Ledger, G: Gate + Drop + Sync> Seat<L, G> {
     /// Enters an action that leaves the handle there: what the node gets of the count that it
     /// makes. `copy` is the same action, for the log. Beside that the book as the action found and
-    /// left it, and what it saw in the cell before; neither where memory is refused.
+    /// left it, and what it saw in the cell before; without these memory was refused.
     fn step<R: Threads + Wait + Sync>(
         &mut self,
         rt: &R,
@@ -166,6 +168,7 @@ impl<L: Ledger, G: Gate + Drop + Sync> Seat<L, G> {
         ensures strange { IfSome result.1 (λ look. IfErr result.0 (λ refusal.
             refusal ≡ Refusal.Strange
             → Disputes look.0.found self.old look.1.known (deed_of action))) }
+        ensures there { MatchResult result.0 (λ _. IsInBook self.old) (RefusesInBook self.old) }
     {
         if self.log.reserve().is_err() {
             return (Err(Refusal::NoMemory), None);
@@ -198,6 +201,7 @@ impl<L: Ledger, G: Gate + Drop + Sync> Seat<L, G> {
             child ≡ child_of self.old NodeKind.Token false self.old.cell) }
         ensures foreseen { OnOk result (MayEnter self.old duplicates) }
         ensures answers { IfErr result (Answers self.old duplicates) }
+        ensures there { MatchResult result (λ _. IsInBook self.old) (RefusesInBook self.old) }
     {
         let Ok(child) = self.prepared(NodeKind::Token, false) else {
             return Err(Refusal::NoMemory);
@@ -220,6 +224,7 @@ impl<L: Ledger, G: Gate + Drop + Sync> Seat<L, G> {
             child ≡ child_of self.old NodeKind.Group false self.old.cell) }
         ensures foreseen { OnOk result (MayEnter self.old creates_group) }
         ensures answers { IfErr result (Answers self.old creates_group) }
+        ensures there { MatchResult result (λ _. IsInBook self.old) (RefusesInBook self.old) }
     {
         let Ok(child) = self.prepared(NodeKind::Group, false) else {
             return Err(Refusal::NoMemory);
@@ -242,6 +247,7 @@ impl<L: Ledger, G: Gate + Drop + Sync> Seat<L, G> {
             child ≡ child_of self.old NodeKind.Token false self.old.cell) }
         ensures foreseen { OnOk result (MayEnter self.old creates_child) }
         ensures answers { IfErr result (Answers self.old creates_child) }
+        ensures there { MatchResult result (λ _. IsInBook self.old) (RefusesInBook self.old) }
     {
         let Ok(child) = self.prepared(NodeKind::Token, false) else {
             return Err(Refusal::NoMemory);
@@ -264,6 +270,7 @@ impl<L: Ledger, G: Gate + Drop + Sync> Seat<L, G> {
             child ≡ child_of self.old NodeKind.Token true child.cell) }
         ensures foreseen { OnOk result (MayEnter self.old attaches_token) }
         ensures answers { IfErr result (Answers self.old attaches_token) }
+        ensures there { MatchResult result (λ _. IsInBook self.old) (RefusesInBook self.old) }
     {
         let Ok(mut child) = self.prepared(NodeKind::Token, true) else {
             return Err(Refusal::NoMemory);
@@ -285,6 +292,7 @@ impl<L: Ledger, G: Gate + Drop + Sync> Seat<L, G> {
         ensures unchanged { OnErr result (self.new ≡ self.old) }
         ensures foreseen { OnOk result (MayEnter self.old binds) }
         ensures answers { IfErr result (Answers self.old binds) }
+        ensures there { MatchResult result (λ _. IsInBook self.old) (RefusesInBook self.old) }
     {
         let (done, _look) = self.step(rt, Action::Bind, Action::Bind, None);
         match done {
@@ -302,6 +310,7 @@ impl<L: Ledger, G: Gate + Drop + Sync> Seat<L, G> {
         ensures unchanged { OnErr result (self.new ≡ self.old) }
         ensures foreseen { OnOk result (MayEnter self.old has_all_children) }
         ensures answers { IfErr result (Answers self.old has_all_children) }
+        ensures there { MatchResult result (λ _. IsInBook self.old) (RefusesInBook self.old) }
     {
         let (done, _look) = self.step(
             rt,
@@ -326,6 +335,7 @@ impl<L: Ledger, G: Gate + Drop + Sync> Seat<L, G> {
         ensures unchanged { OnErr result (self.new ≡ self.old) }
         ensures foreseen { OnOk result (MayEnter self.old (sets None)) }
         ensures answers { IfErr result (Answers self.old (sets None)) }
+        ensures there { MatchResult result (λ _. IsInBook self.old) (RefusesInBook self.old) }
     {
         let Ok(own) = shared_again(&asked) else {
             return Err(Refusal::NoMemory);

@@ -2,7 +2,7 @@
 
 ghost use Rattle.std.specs.Prelude.{◌≡◌, ◌≢◌, None, Some, true, option_map, IfErr, IfOk, IfSome, MatchOption, MatchResult, OnErr, OnOk, ⊤};
 ghost use Rattle.std.specs.Arc.{arc_value};
-ghost use Rattle.sysmem_participants.specs.Held.{Answers, AnswersAtEnd, IsSameBut, IsStillKnown, MayEnter, acted, child_of, left_of};
+ghost use Rattle.sysmem_participants.specs.Held.{Answers, AnswersAtEnd, IsInBook, IsSameBut, IsStillKnown, MayEnter, RefusesInBook, acted, child_of, left_of};
 ghost use Rattle.sysmem_participants.specs.Told.{IsShownTo, IsToldBy, Tells};
 ghost use Rattle.sysmem_tree.specs.ActionKind.{attaches_token, closes, releases, sets};
 
@@ -56,12 +56,13 @@ impl<L: Ledger, G: Gate + Drop + Sync> Collection<L, G> {
         ensures unchanged { OnErr result (self.new ≡ self.old) }
         ensures foreseen { OnOk result (MayEnter self.old (sets None)) }
         ensures answers { IfErr result (Answers self.old (sets None)) }
+        ensures there { MatchResult result (λ _. IsInBook self.old) (RefusesInBook self.old) }
     {
         self.seat.set_constraints(rt, asked)
     }
 
-    /// A token, the last child of this node, whose domain is decided once this one is, with the
-    /// same settings or none.
+    /// A token, the last child of this node, the root of a domain that is decided after this one,
+    /// with its settings or none.
     pub fn attach_token<R: Threads + Wait + Sync>(&mut self, rt: &R) -> Result<Token<L, G>, Refusal>
         ensures entered { OnOk result (self.new ≡ acted self.old attaches_token) }
         ensures unchanged { OnErr result (self.new ≡ self.old) }
@@ -69,6 +70,7 @@ impl<L: Ledger, G: Gate + Drop + Sync> Collection<L, G> {
             child ≡ child_of self.old NodeKind.Token true child.cell) }
         ensures foreseen { OnOk result (MayEnter self.old attaches_token) }
         ensures answers { IfErr result (Answers self.old attaches_token) }
+        ensures there { MatchResult result (λ _. IsInBook self.old) (RefusesInBook self.old) }
     {
         match self.seat.attach_token(rt) {
             Ok(seat) => Ok(Token::new(seat)),
@@ -77,9 +79,10 @@ impl<L: Ledger, G: Gate + Drop + Sync> Collection<L, G> {
     }
 
     /// What the cell tells that was decided, or why nothing can be shown: `Pending` as long as it
-    /// tells nothing, `DomainFailed` where the domain failed, `NoMemory` where memory was refused to its
-    /// decision, `ConstraintsIntersectionEmpty` and `TooManyGroupChildCombinations` where nothing
-    /// was chosen, `NotSelected` where the node isn't a member. It neither waits nor takes memory.
+    /// tells nothing, `DomainFailed` where the domain failed, `NoMemory` where memory was refused to
+    /// its decision, `ConstraintsIntersectionEmpty` and `TooManyGroupChildCombinations` where nothing
+    /// was chosen, `NotSelected` where the node isn't a member, `Strange` where it was decided for
+    /// another platform, or without what this node asks for. It neither waits nor takes memory.
     pub fn check(&mut self) -> Result<View<'_>, Refusal>
         ensures* after { sem 𝓛 (follows_so (the_row L.row G.row L.Ledger)
             (the_row L.row G.row L.Ledger) self.entry.ghost_name none (λ _ _. ⊤)
@@ -112,7 +115,7 @@ impl<L: Ledger, G: Gate + Drop + Sync> Collection<L, G> {
         self.seat.wait_for_all(rt)
     }
 
-    /// Two collections of one domain that know its verdict know the same one. It does nothing when
+    /// Two collections with one cell that know its verdict know the same one. It does nothing when
     /// it runs.
     pub fn compare(&mut self, other: &mut Collection<L, G>)
         requires { other.old.cell ≡ self.old.cell }
@@ -133,6 +136,8 @@ impl<L: Ledger, G: Gate + Drop + Sync> Collection<L, G> {
         ensures back { IfErr result (λ refused. refused.0 ≡ self) }
         ensures foreseen { OnOk result (MayEnter self releases) }
         ensures answers { IfErr result (λ refused. AnswersAtEnd self releases refused.1) }
+        ensures there { MatchResult result (λ _. IsInBook self)
+            (λ refused. RefusesInBook self refused.1) }
     {
         let Collection { seat } = self;
         let (released, _hold, _seen) = seat.release(rt);
@@ -149,6 +154,7 @@ impl<L: Ledger, G: Gate + Drop + Sync> Collection<L, G> {
             (λ _. result.0 ≡ left_of self) }
         ensures foreseen { MatchOption result.1 (MayEnter self closes) (λ _. Unit {0}) }
         ensures strange { IfSome result.1 (λ refusal. refusal ≡ Refusal.Strange) }
+        ensures there { MatchOption result.1 (IsInBook self) (λ _. Unit {0}) }
     {
         let Collection { seat } = self;
         let (stub, refused, _hold, _seen) = seat.close(rt);

@@ -1,7 +1,8 @@
 //! The actions that spend a handle.
 
-ghost use Rattle.std.specs.Prelude.{◌≡◌, ◌≢◌, ◌<◌, ◌+◌, ◌++◌, ℕ, [], ◌∷◌, None, Some, false, true, map, option_map, IfErr, IfOk, IfSome, MatchOption, OnErr, OnOk};
-ghost use Rattle.sysmem_participants.specs.Held.{AnswersAtEnd, HasOwn, HasActed, IsStrangeTo, MayEnter, acted, left_of, state_of};
+ghost use Rattle.std.specs.Prelude.{◌≡◌, ◌≢◌, ◌<◌, ◌+◌, ◌++◌, ℕ, [], ◌∷◌, None, Some, false, true, map, option_map, IfErr, IfOk, IfSome, MatchOption, MatchResult, OnErr, OnOk};
+ghost use Rattle.sysmem_participants.specs.Held.{AnswersAtEnd, HasActed, HasOwn, IsInBook, IsStrangeTo, MayEnter, RefusesInBook, acted, left_of, state_of};
+ghost use Rattle.sysmem_alloc.specs.Book.{IsBook};
 ghost use Rattle.sysmem_room.specs.Agreeing.{IsOwn};
 ghost use Rattle.sysmem_room.specs.Entering.{HasEntered};
 ghost use Rattle.sysmem_room.specs.Log.{shown_by};
@@ -29,9 +30,10 @@ fn at_end(refusal: Refusal) -> Refusal
         → (result ≡ Refusal.WrongState) × (refusal ≡ Refusal.WrongState) }
     ensures same { refusal ≡ Refusal.WrongState → result ≡ Refusal.WrongState }
 {
-    match refusal {
-        Refusal::WrongState => Refusal::WrongState,
-        _ => Refusal::Strange,
+    if refusal == Refusal::WrongState {
+        Refusal::WrongState
+    } else {
+        Refusal::Strange
     }
 }
 
@@ -60,6 +62,7 @@ fn end<L: Ledger, G: Gate + Drop + Sync, R: Threads + Wait + Sync>(
     ensures back { IfErr result.0 (λ refused. refused.0 ≡ log) }
     ensures strange { IfErr result.0 (λ refused. refused.1 ≡ Refusal.Strange → (node : ℕ)
         → IsOwn result.1.found path.now log (option_map (λ o. o.now) known.entry) node → ⊥) }
+    ensures legal { IsBook result.1.found }
     ensures own { IfErr result.0 (λ refused. refused.1 ≢ Refusal.Strange → (node : ℕ)
         × IsOwn result.1.found path.now log (option_map (λ o. o.now) known.entry) node) }
     ensures unchanged { OnErr result.0 (result.1.left ≡ result.1.found) }
@@ -143,6 +146,8 @@ impl<L: Ledger, G: Gate + Drop + Sync> Seat<L, G> {
             → HasOwn result.1.found self result.2.known) }
         ensures strange { IfErr result.0 (λ refused. refused.1 ≡ Refusal.Strange
             → IsStrangeTo result.1.found self result.2.known) }
+        ensures there { MatchResult result.0 (λ _. IsInBook self)
+            (λ refused. RefusesInBook self refused.1) }
     {
         let Seat {
             shared,
@@ -207,6 +212,8 @@ impl<L: Ledger, G: Gate + Drop + Sync> Seat<L, G> {
             → HasOwn result.1.found self result.2.known) }
         ensures strange { IfErr result.0 (λ refused. refused.1 ≡ Refusal.Strange
             → IsStrangeTo result.1.found self result.2.known) }
+        ensures there { MatchResult result.0 (λ _. IsInBook self)
+            (λ refused. RefusesInBook self refused.1) }
     {
         self.spend(rt, Action::Release, Action::Release)
     }
@@ -227,6 +234,7 @@ impl<L: Ledger, G: Gate + Drop + Sync> Seat<L, G> {
             (HasActed result.2.found result.2.left self result.3.known closes) (λ _. Unit {0}) }
         ensures strange { IfSome result.1 (λ refusal. (refusal ≡ Refusal.Strange)
             × IsStrangeTo result.2.found self result.3.known) }
+        ensures there { MatchOption result.1 (IsInBook self) (λ _. Unit {0}) }
     {
         let (spent, hold, seen) = self.spend(rt, Action::Close, Action::Close);
         match spent {

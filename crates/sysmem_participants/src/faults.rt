@@ -18,7 +18,7 @@ pub struct Audit {
 /// read.
 #[derive(Clone, Copy, Debug, PartialEq, Eq)]
 pub enum AuditFault {
-    /// The stub of a node is missing, doubled, or of no node.
+    /// The stub of a node is missing, doubled, or of no node; or stubs are for another platform.
     Stubs,
     /// The calls of a path differ.
     Calls,

@@ -1,7 +1,7 @@
 //! Groups.
 
-ghost use Rattle.std.specs.Prelude.{◌≡◌, false, IfErr, IfOk, IfSome, MatchOption, OnErr, OnOk};
-ghost use Rattle.sysmem_participants.specs.Held.{Answers, AnswersAtEnd, MayEnter, acted, child_of, left_of};
+ghost use Rattle.std.specs.Prelude.{◌≡◌, false, IfErr, IfOk, IfSome, MatchOption, MatchResult, OnErr, OnOk};
+ghost use Rattle.sysmem_participants.specs.Held.{Answers, AnswersAtEnd, IsInBook, MayEnter, RefusesInBook, acted, child_of, left_of};
 ghost use Rattle.sysmem_tree.specs.ActionKind.{closes, creates_child, has_all_children, releases};
 
 use crate::seat::Seat;
@@ -14,8 +14,8 @@ use std::thread::Threads;
 use sysmem_search::Gate;
 use sysmem_tree::{NodeKind, Refusal};
 
-/// Alternatives: where settings are chosen, one of the children is. It has to be spent, by `release` once it is
-/// complete, or by `close`.
+/// Alternatives: where settings are chosen and the group is in effect, one of its children is. It
+/// has to be spent, by `release` once it is complete, or by `close`.
 pub struct Group<L: Ledger, G: Gate + Drop> {
     seat: Seat<L, G>,
 }
@@ -44,6 +44,7 @@ impl<L: Ledger, G: Gate + Drop + Sync> Group<L, G> {
             child ≡ child_of self.old NodeKind.Token false self.old.cell) }
         ensures foreseen { OnOk result (MayEnter self.old creates_child) }
         ensures answers { IfErr result (Answers self.old creates_child) }
+        ensures there { MatchResult result (λ _. IsInBook self.old) (RefusesInBook self.old) }
     {
         match self.seat.create_child(rt) {
             Ok(seat) => Ok(Token::new(seat)),
@@ -57,6 +58,7 @@ impl<L: Ledger, G: Gate + Drop + Sync> Group<L, G> {
         ensures unchanged { OnErr result (self.new ≡ self.old) }
         ensures foreseen { OnOk result (MayEnter self.old has_all_children) }
         ensures answers { IfErr result (Answers self.old has_all_children) }
+        ensures there { MatchResult result (λ _. IsInBook self.old) (RefusesInBook self.old) }
     {
         self.seat.all_children_present(rt)
     }
@@ -71,6 +73,8 @@ impl<L: Ledger, G: Gate + Drop + Sync> Group<L, G> {
         ensures back { IfErr result (λ refused. refused.0 ≡ self) }
         ensures foreseen { OnOk result (MayEnter self releases) }
         ensures answers { IfErr result (λ refused. AnswersAtEnd self releases refused.1) }
+        ensures there { MatchResult result (λ _. IsInBook self)
+            (λ refused. RefusesInBook self refused.1) }
     {
         let Group { seat } = self;
         let (released, _hold, _seen) = seat.release(rt);
@@ -87,6 +91,7 @@ impl<L: Ledger, G: Gate + Drop + Sync> Group<L, G> {
             (λ _. result.0 ≡ left_of self) }
         ensures foreseen { MatchOption result.1 (MayEnter self closes) (λ _. Unit {0}) }
         ensures strange { IfSome result.1 (λ refusal. refusal ≡ Refusal.Strange) }
+        ensures there { MatchOption result.1 (IsInBook self) (λ _. Unit {0}) }
     {
         let Group { seat } = self;
         let (stub, refused, _hold, _seen) = seat.close(rt);

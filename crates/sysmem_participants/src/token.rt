@@ -1,7 +1,7 @@
 //! Tokens.
 
-ghost use Rattle.std.specs.Prelude.{◌≡◌, false, IfErr, IfOk, IfSome, MatchOption, OnErr, OnOk};
-ghost use Rattle.sysmem_participants.specs.Held.{Answers, AnswersAtEnd, MayEnter, acted, child_of, left_of};
+ghost use Rattle.std.specs.Prelude.{◌≡◌, false, IfErr, IfOk, IfSome, MatchOption, MatchResult, OnErr, OnOk};
+ghost use Rattle.sysmem_participants.specs.Held.{Answers, AnswersAtEnd, IsInBook, MayEnter, RefusesInBook, acted, child_of, left_of};
 ghost use Rattle.sysmem_tree.specs.ActionKind.{binds, closes, creates_group, duplicates, releases};
 
 use crate::collection::Collection;
@@ -47,6 +47,7 @@ impl<L: Ledger, G: Gate + Drop + Sync> Token<L, G> {
             child ≡ child_of self.old NodeKind.Token false self.old.cell) }
         ensures foreseen { OnOk result (MayEnter self.old duplicates) }
         ensures answers { IfErr result (Answers self.old duplicates) }
+        ensures there { MatchResult result (λ _. IsInBook self.old) (RefusesInBook self.old) }
     {
         match self.seat.duplicate(rt) {
             Ok(seat) => Ok(Token::new(seat)),
@@ -54,7 +55,8 @@ impl<L: Ledger, G: Gate + Drop + Sync> Token<L, G> {
         }
     }
 
-    /// A group, the last child of this token: where settings are chosen, one of its children is.
+    /// A group, the last child of this token: where settings are chosen and the group is in effect,
+    /// one of its children is.
     pub fn create_group<R: Threads + Wait + Sync>(&mut self, rt: &R) -> Result<Group<L, G>, Refusal>
         ensures entered { OnOk result (self.new ≡ acted self.old creates_group) }
         ensures unchanged { OnErr result (self.new ≡ self.old) }
@@ -62,6 +64,7 @@ impl<L: Ledger, G: Gate + Drop + Sync> Token<L, G> {
             child ≡ child_of self.old NodeKind.Group false self.old.cell) }
         ensures foreseen { OnOk result (MayEnter self.old creates_group) }
         ensures answers { IfErr result (Answers self.old creates_group) }
+        ensures there { MatchResult result (λ _. IsInBook self.old) (RefusesInBook self.old) }
     {
         match self.seat.create_group(rt) {
             Ok(seat) => Ok(Group::new(seat)),
@@ -78,6 +81,8 @@ impl<L: Ledger, G: Gate + Drop + Sync> Token<L, G> {
         ensures back { IfErr result (λ refused. refused.0 ≡ self) }
         ensures foreseen { OnOk result (MayEnter self binds) }
         ensures answers { IfErr result (λ refused. Answers self binds refused.1) }
+        ensures there { MatchResult result (λ _. IsInBook self)
+            (λ refused. RefusesInBook self refused.1) }
     {
         let Token { mut seat } = self;
         match seat.bind(rt) {
@@ -96,6 +101,8 @@ impl<L: Ledger, G: Gate + Drop + Sync> Token<L, G> {
         ensures back { IfErr result (λ refused. refused.0 ≡ self) }
         ensures foreseen { OnOk result (MayEnter self releases) }
         ensures answers { IfErr result (λ refused. AnswersAtEnd self releases refused.1) }
+        ensures there { MatchResult result (λ _. IsInBook self)
+            (λ refused. RefusesInBook self refused.1) }
     {
         let Token { seat } = self;
         let (released, _hold, _seen) = seat.release(rt);
@@ -112,6 +119,7 @@ impl<L: Ledger, G: Gate + Drop + Sync> Token<L, G> {
             (λ _. result.0 ≡ left_of self) }
         ensures foreseen { MatchOption result.1 (MayEnter self closes) (λ _. Unit {0}) }
         ensures strange { IfSome result.1 (λ refusal. refusal ≡ Refusal.Strange) }
+        ensures there { MatchOption result.1 (IsInBook self) (λ _. Unit {0}) }
     {
         let Token { seat } = self;
         let (stub, refused, _hold, _seen) = seat.close(rt);

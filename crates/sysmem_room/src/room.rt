@@ -107,7 +107,7 @@ pub struct Entered<L: Ledger> {
 }
 
 /// The turn to take a collection's decisions. `Room::act` alone gives one, with an action that was
-/// entered: so a call that is refused decides nothing. It takes no bytes, and is over where
+/// entered: a refused one brings no decision. It takes no bytes, and isn't to be used any more once
 /// `frozen` finds no domain that waits.
 #[derive(Drop)]
 pub struct Turn<L: Ledger> {
@@ -357,7 +357,7 @@ impl<L: Ledger> Room<L> {
     }
 
     /// What the domain that is next is decided on; `None` where no domain waits, and then the turn
-    /// is over. A domain for which memory is refused is entered and published as decided without
+    /// is to be let go. A domain for which memory is refused is entered and published as decided without
     /// memory, and the next one is taken.
     pub fn frozen(&mut self, _turn: &Turn<L>) -> Option<Frozen>
         ensures frozen { result ≡ frozen_of self.new }

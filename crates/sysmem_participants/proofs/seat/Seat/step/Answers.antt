@@ -1,12 +1,13 @@
 -- What is due by what the call sees in the cell, said by what the handle knew.
 use Rattle.std.proofs.Common.{◌≡◌, true, length, rules}
-use Rattle.std.specs.Prelude.{option_map}
+use Rattle.std.specs.Prelude.{IfSome, option_map}
+use Rattle.std.proofs.Common.{Some}
 use Rattle.sysmem_room.specs.Log.{shown_by}
 use Rattle.sysmem_tree.specs.ActionKind.{deed_of}
 use Rattle.sysmem_participants.specs.Held.{state_of}
 use Rattle.sysmem_participants.proofs.Answering.{answers_by_known, enters_by_known, read_known}
 use Rattle.sysmem_participants.proofs.Ended.{counted_still, open_still}
-use Rattle.sysmem_participants.proofs.Owned.{disputed, owned, read_now}
+use Rattle.sysmem_participants.proofs.Owned.{disputed, noted, owned, read_now, there}
 use Rattle.sysmem_participants.proofs.seat.Seat.step.Goals as goal
 
 pub invariant_of-self-2 : goal.invariant_of-self-2
@@ -52,3 +53,15 @@ returns-clause-strange g c =
     disputed c.enter-entered.result.0 c.enter-entered.result.1.found c.args.self.now (deed_of c.args.action) c.deref-4.result.now c.reserve.new.self
     (option_map (λ o. o.now) c.get_as-known.result) c.get_as-known.new.note.known path begun deeds
     (read_now c.again-seen.result.known _ c.get_as-known.result c.get_as-known.ensures.value) c.enter-entered.ensures.strange
+
+pub returns-clause-there : goal.returns-clause-there
+returns-clause-there g c =
+    let path : c.deref-4.result.now ≡ c.args.self.now.path = search rules in
+    let begun : c.reserve.new.self.begun ≡ c.args.self.now.begun = search rules in
+    let deeds : c.reserve.new.self.deeds ≡ c.args.self.now.deeds = search rules in
+    let known : c.again-seen.result.known ≡ c.args.self.now.known = search rules in
+    let knew : IfSome c.args.self.now.known (λ o. c.get_as-known.new.note.known ≡ Some o) =
+    noted c.args.self.now.known c.again-seen.result.known _ c.get_as-known.result known c.get_as-known.ensures.value in
+    there c.enter-entered.result.0 c.enter-entered.result.1.found c.enter-entered.result.1.left c.args.self.now (deed_of c.args.action) c.deref-4.result.now c.reserve.new.self
+    (option_map (λ o. o.now) c.get_as-known.result) c.get_as-known.new.note.known path begun deeds
+    (read_now c.again-seen.result.known _ c.get_as-known.result c.get_as-known.ensures.value) knew c.enter-entered.ensures.legal c.enter-entered.ensures.entered c.enter-entered.ensures.own
