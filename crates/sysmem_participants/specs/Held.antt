@@ -107,7 +107,8 @@ pub record IsInBook (h : Held) : Type 0 where
   pub legal : IsBook book
   pub own : HasOwn book h seen
 
--- a refusal but for want of memory, and but for a book without that node
+-- a refusal comes only where some legal book has that node, unless it is for want of memory or
+-- `Strange`
 abbrev pub RefusesInBook : Held → Refusal → Type 0
 RefusesInBook h r = r ≢ Strange → r ≢ NoMemory → IsInBook h
 

@@ -139,7 +139,7 @@ impl<L: Ledger, G: Gate + Drop> Prepared<L, G> {
 impl<L: Ledger, G: Gate + Drop + Sync> Seat<L, G> {
     /// Enters an action that leaves the handle there: what the node gets of the count that it
     /// makes. `copy` is the same action, for the log. Beside that the book as the action found and
-    /// left it, and what it saw in the cell before; without these memory was refused.
+    /// left it, and what it saw in the cell before; without these the answer is `NoMemory`.
     fn step<R: Threads + Wait + Sync>(
         &mut self,
         rt: &R,

@@ -62,7 +62,7 @@ impl<L: Ledger, G: Gate + Drop + Sync> Collection<L, G> {
     }
 
     /// A token, the last child of this node, the root of a domain that is decided after this one,
-    /// with its settings or none.
+    /// with its settings or none, or fails.
     pub fn attach_token<R: Threads + Wait + Sync>(&mut self, rt: &R) -> Result<Token<L, G>, Refusal>
         ensures entered { OnOk result (self.new ≡ acted self.old attaches_token) }
         ensures unchanged { OnErr result (self.new ≡ self.old) }
