@@ -98,15 +98,14 @@ fn act<L: Ledger, R: Threads + Wait + Sync>(
 
 /// Sets constraints, of which one more owner is made, or none.
 fn set<L: Ledger, R: Threads + Wait + Sync>(rt: &R, hand: &mut Hand<L>, asked: &Asked) -> Reply {
-    let own = match asked {
+    match asked {
         Ok(Some(shared)) => match Arc::try_clone(shared) {
-            Ok(own) => Some(own),
-            Err(_) => return Reply::Refused(Refusal::NoMemory),
+            Ok(own) => Reply::new(hand.set_constraints(rt, Some(own)).err()),
+            Err(_) => Reply::Refused(Refusal::NoMemory),
         },
-        Ok(None) => None,
-        Err(fault) => return Reply::Misread(*fault),
-    };
-    Reply::new(hand.set_constraints(rt, own).err())
+        Ok(None) => Reply::new(hand.set_constraints(rt, None).err()),
+        Err(fault) => Reply::Misread(*fault),
+    }
 }
 
 /// Binds, releases or closes, and puts what becomes of the handle in its place.

@@ -15,7 +15,7 @@ use std::sync::ledger::{Blank, Ledger};
 use std::sync::{Arc, Wait};
 use std::thread::Threads;
 use sysmem_alloc::Book;
-use sysmem_participants::{Allocator, audit};
+use sysmem_participants::{Allocator, Stub, Token, audit};
 use sysmem_sanitise::Platform;
 use sysmem_search::NoGate;
 use sysmem_tree::{Action, Event, NodeId};
@@ -65,16 +65,35 @@ fn play_once<L: Ledger, R: Threads + Wait + Sync>(
     let Ok(root) = allocator.allocate_shared::<L>(blank) else {
         return Err(Failure::NoMemory);
     };
+    let left = play_on(rt, alloc, root, stubs, calls, asked);
+    if is_audited {
+        audited(rt, left)
+    } else {
+        Ok(())
+    }
+}
+
+/// Plays the calls through the handles of this root's collection, and closes them: what is left of
+/// all.
+fn play_on<L: Ledger, R: Threads + Wait + Sync>(
+    rt: &R,
+    alloc: Global,
+    root: Token<L, NoGate>,
+    stubs: Vec<Stub<L>>,
+    calls: &[Call<'_>],
+    asked: &[Asked],
+) -> Vec<Stub<L>> {
     let mut hands = Vec::new(alloc);
     let _room = hands.reserve(129);
     keep(rt, &mut hands, Hand::Token(root));
     for (call, asked) in calls.iter().zip(asked) {
         let _reply = make(rt, &mut hands, call, asked);
     }
-    let left = end(rt, hands, stubs);
-    if !is_audited {
-        return Ok(());
-    }
+    end(rt, hands, stubs)
+}
+
+/// Audits what is left of all handles.
+fn audited<L: Ledger, R: Wait>(rt: &R, left: Vec<Stub<L>>) -> Result<(), Failure> {
     match audit(rt, left) {
         Ok(_found) => Ok(()),
         Err((fault, _seen, _stubs)) => Err(Failure::Audit(fault)),
