@@ -1,7 +1,6 @@
 -- What an action that ends its node is refused for: the state that the log makes of its node, and else that handle and book disagree.
-use Rattle.std.proofs.Common.{◌≡◌, ◌≢◌, ◌∙◌, ℕ, Bool, true, false, not, List, [], ◌∷◌, ◌++◌, ◌+◌, Option, Some, None, Result, Ok, Err, length, arith, refl, sym, ap, subst}
+use Rattle.std.proofs.Common.{◌≡◌, ◌≢◌, ◌∙◌, ℕ, Bool, true, false, not, List, [], ◌∷◌, ◌++◌, Option, Some, None, Result, Ok, Err, refl, sym, ap, subst}
 use Rattle.std.specs.Prelude.{OnErr, OnOk, is_some, if◌then◌else◌}
-use Rattle.std.proofs.lemmas.List.{length-append}
 use Rattle.std.proofs.lemmas.Option.{same_Some}
 use Rattle.sysmem_alloc.specs.Book.{BookFacts}
 use Rattle.sysmem_tree.specs.declared.action.ActionKind.{ActionKind}
@@ -115,15 +114,8 @@ open_after z [] d stays opened = stays_open (kind_of d) z.state stays opened
 open_after z (x ∷ ds) d stays opened = open_after (shown_after x z) ds d stays opened
 
 -- so a log that gets it, if it is accepted, has its node open still
-pub open_still : {V : Type 0} (entered : Result V Refusal) (old new : LogFacts) (d : Deed) → ends_node (kind_of d) ≡ false → new.begun ≡ old.begun
-    → OnOk entered (new.deeds ≡ old.deeds ++ d ∷ []) → OnErr entered (new.deeds ≡ old.deeds) → (shown_by old).state.is_open ≡ true → (shown_by new).state.is_open ≡ true
-open_still entered old new d stays begun logged unlogged opened = subst (λ z. (shown_after_all z new.deeds).state.is_open ≡ true) (sym begun) (by entered logged unlogged) where
-  by : {V : Type 0} (o : Result V Refusal) → OnOk o (new.deeds ≡ old.deeds ++ d ∷ []) → OnErr o (new.deeds ≡ old.deeds) → (shown_after_all old.begun new.deeds).state.is_open ≡ true
-  by (Ok v) more same = subst (λ ds. (shown_after_all old.begun ds).state.is_open ≡ true) (sym more) (open_after old.begun old.deeds d stays opened)
-  by (Err r) more same = subst (λ ds. (shown_after_all old.begun ds).state.is_open ≡ true) (sym same) opened
-
--- and as many actions as are counted
-pub counted_still : {V : Type 0} (entered : Result V Refusal) (was is : ℕ) (old new : LogFacts) (d : Deed) → OnOk entered (is ≡ was + 1) → OnErr entered (is ≡ was)
-    → OnOk entered (new.deeds ≡ old.deeds ++ d ∷ []) → OnErr entered (new.deeds ≡ old.deeds) → was ≡ length old.deeds → is ≡ length new.deeds
-counted_still (Ok v) was is old new d more same logged unlogged counted = omega (arith, more, counted, ap length logged, length-append old.deeds (d ∷ []))
-counted_still (Err r) was is old new d more same logged unlogged counted = same ∙ counted ∙ sym (ap length unlogged)
+pub open_still : {V A : Type 0} (entered : Result V Refusal) (old new : LogFacts) (d : Deed) → ends_node (kind_of d) ≡ false → new.begun ≡ old.begun
+    → OnOk entered (new.deeds ≡ old.deeds ++ d ∷ []) → OnErr entered (A × (new ≡ old)) → (shown_by old).state.is_open ≡ true → (shown_by new).state.is_open ≡ true
+open_still (Ok v) old new d stays begun logged unlogged opened =
+    subst (λ z. (shown_after_all z new.deeds).state.is_open ≡ true) (sym begun) (subst (λ ds. (shown_after_all old.begun ds).state.is_open ≡ true) (sym logged) (open_after old.begun old.deeds d stays opened))
+open_still (Err r) old new d stays begun logged unlogged opened = subst (λ (l : LogFacts). (shown_by l).state.is_open ≡ true) (sym unlogged.1) opened

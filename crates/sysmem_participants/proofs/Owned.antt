@@ -1,20 +1,21 @@
--- What a hold says of a path, a log and what was seen, said of the handle that has them.
-use Rattle.std.proofs.Common.{◌≡◌, ◌≢◌, ◌==◌, ℕ, List, Option, Some, None, Result, Ok, Err, slice_get, sym, ◌∙◌, ap, subst, Bor}
-use Rattle.std.specs.Prelude.{IfErr, IfSome, MatchOption, MatchResult, OnOk, option_map}
+-- What a hold says of a log and what was seen, said of the handle that has them.
+use Rattle.std.proofs.Common.{◌≡◌, ◌≢◌, ◌==◌, ◌++◌, ℕ, [], ◌∷◌, Option, Some, None, Result, Ok, Err, slice_get, sym, ◌∙◌, ap, subst, Bor}
+use Rattle.std.specs.Prelude.{IfErr, IfOk, IfSome, MatchOption, MatchResult, OnOk, option_map}
 use Rattle.once_cell.specs.Once.{Agrees}
 use Rattle.sysmem_alloc.specs.Book.{BookFacts, IsBook}
 use Rattle.sysmem_tree.specs.declared.refusal.Refusal.{Refusal}
 use Rattle.sysmem_tree.specs.declared.refusal.Refusal.TheVariants.{Strange}
 use Rattle.sysmem_tree.specs.ActionKind.{Deed, kind_of}
 use Rattle.sysmem_tree.specs.Node.{NodeFacts}
+use Rattle.sysmem_tree.specs.declared.state.NodeState.{NodeState}
 use Rattle.sysmem_tree.specs.Step.{shown_after_all}
 use Rattle.sysmem_room.specs.declared.outcome.Outcome.{Outcome}
 use Rattle.sysmem_room.specs.Agreeing.{AgreesAt, IsOwn}
 use Rattle.sysmem_room.specs.Entering.{HasEntered}
-use Rattle.sysmem_room.specs.Log.{LogFacts, shown_by}
+use Rattle.sysmem_room.specs.Log.{LogFacts, next_path, shown_by}
 use Rattle.sysmem_room.specs.Refusals.{IsDisputed}
 use Rattle.sysmem_participants.proofs.Answering.{read_known}
-use Rattle.sysmem_participants.specs.Held.{Disputes, HasOwn, Held, IsInBook, RefusesInBook, log_of, state_of}
+use Rattle.sysmem_participants.specs.Held.{Disputes, HasActed, HasOwn, Held, IsInBook, RefusesInBook, log_of, state_of}
 
 -- what was read of the cell is what is noted then
 pub read_now : (k new : Option Outcome) (o : Option (Bor Outcome)) → MatchOption o ((k ≡ None) × (new ≡ None)) (λ r. (new ≡ Some r.now) × Agrees k r.now)
@@ -28,50 +29,85 @@ pub noted : (known k new : Option Outcome) (o : Option (Bor Outcome)) → k ≡ 
 noted known k new o same h = subst (λ z. IfSome z (λ x. new ≡ Some x)) same (subst (λ z. IfSome k (λ x. z ≡ Some x)) (read_now k new o h) (read_known k new o h))
 
 -- for how many more actions a log has room makes no node a handle's own
-own_as : (b : BookFacts) (path : List ℕ) (l m : LogFacts) (seen : Option Outcome) (i : ℕ) → l.begun ≡ m.begun → l.deeds ≡ m.deeds → IsOwn b path l seen i → IsOwn b path m seen i
-own_as b path l m seen i begun deeds own = record {
-  agrees = subst (λ ds. AgreesAt b path ds seen i) deeds own.agrees;
+own_as : (b : BookFacts) (l m : LogFacts) (seen : Option Outcome) (i : ℕ) → l.path ≡ m.path → l.begun ≡ m.begun → l.deeds ≡ m.deeds → IsOwn b l seen i → IsOwn b m seen i
+own_as b l m seen i path begun deeds own = record {
+  agrees = subst (λ p. AgreesAt b p m.deeds seen i) path (subst (λ ds. AgreesAt b l.path ds seen i) deeds own.agrees);
   state = subst (λ ds. IfSome (slice_get b.state.tree.nodes i) (λ (n : NodeFacts). n.state ≡ (shown_after_all m.begun ds).state)) deeds
       (subst (λ z. IfSome (slice_get b.state.tree.nodes i) (λ (n : NodeFacts). n.state ≡ (shown_after_all z l.deeds).state)) begun own.state);
   root = subst (λ z. IfSome (slice_get b.state.tree.nodes i) (λ (n : NodeFacts). (n.domain == i) ≡ z.is_domain_root)) begun own.root;
 }
 
-pub owned : {V : Type 0} (result : Result V Refusal) (b : BookFacts) (h : Held) (path : List ℕ) (l : LogFacts) (seen known : Option Outcome) → path ≡ h.path → l.begun ≡ h.begun → l.deeds ≡ h.deeds
-    → seen ≡ known → IfErr result (λ r. r ≢ Strange → (i : ℕ) × IsOwn b path l seen i) → IfErr result (λ r. r ≢ Strange → HasOwn b h known)
-owned (Ok v) b h path l seen known at begun deeds saw own = tt
-owned (Err r) b h path l seen known at begun deeds saw own = λ not_strange.
-    let (i, is) = own not_strange in
-    (i, subst (λ x. IsOwn b h.path (log_of h) x i) saw (subst (λ p. IsOwn b p (log_of h) seen i) at (own_as b path l (log_of h) seen i begun deeds is)))
+-- a log is a handle's, but for how many more actions it has room
+pub record IsLogOf (l : LogFacts) (h : Held) : Type 0 where
+  pub path : l.path ≡ h.path
+  pub begun : l.begun ≡ h.begun
+  pub deeds : l.deeds ≡ h.deeds
 
-pub disputed : {V : Type 0} (result : Result V Refusal) (b : BookFacts) (h : Held) (deed : Deed) (path : List ℕ) (l : LogFacts) (seen known : Option Outcome) → path ≡ h.path → l.begun ≡ h.begun
-    → l.deeds ≡ h.deeds → seen ≡ known
-    → IfErr result (λ r. r ≡ Strange → (i : ℕ) → IsOwn b path l seen i → IsDisputed b path (shown_by l).state seen (kind_of deed) i)
+own_to : (b : BookFacts) (h : Held) (l : LogFacts) (seen known : Option Outcome) (i : ℕ) → IsLogOf l h → seen ≡ known → IsOwn b l seen i → IsOwn b (log_of h) known i
+own_to b h l seen known i its saw own = subst (λ x. IsOwn b (log_of h) x i) saw (own_as b l (log_of h) seen i its.path its.begun its.deeds own)
+
+own_from : (b : BookFacts) (h : Held) (l : LogFacts) (seen known : Option Outcome) (i : ℕ) → IsLogOf l h → seen ≡ known → IsOwn b (log_of h) known i → IsOwn b l seen i
+own_from b h l seen known i its saw own = subst (λ x. IsOwn b l x i) (sym saw) (own_as b (log_of h) l known i (sym its.path) (sym its.begun) (sym its.deeds) own)
+
+pub state_as : (h : Held) (l : LogFacts) → IsLogOf l h → (shown_by l).state ≡ state_of h
+state_as h l its = ap (λ z. (shown_after_all z l.deeds).state) its.begun ∙ ap (λ ds. (shown_after_all h.begun ds).state) its.deeds
+
+pub owned : {V : Type 0} (result : Result V Refusal) (b : BookFacts) (h : Held) (l : LogFacts) (seen known : Option Outcome) → IsLogOf l h
+    → seen ≡ known → IfErr result (λ r. r ≢ Strange → (i : ℕ) × IsOwn b l seen i) → IfErr result (λ r. r ≢ Strange → HasOwn b h known)
+owned (Ok v) b h l seen known its saw own = tt
+owned (Err r) b h l seen known its saw own = λ not_strange.
+    let (i, is) = own not_strange in
+    (i, own_to b h l seen known i its saw is)
+
+pub disputed : {V : Type 0} (result : Result V Refusal) (b : BookFacts) (h : Held) (deed : Deed) (l : LogFacts) (seen known : Option Outcome) → IsLogOf l h → seen ≡ known
+    → IfErr result (λ r. r ≡ Strange → (i : ℕ) → IsOwn b l seen i → IsDisputed b l.path (shown_by l).state seen (kind_of deed) i)
     → IfErr result (λ r. r ≡ Strange → Disputes b h known deed)
-disputed (Ok v) b h deed path l seen known at begun deeds saw strange = tt
-disputed (Err r) b h deed path l seen known at begun deeds saw strange = λ is i own.
-    let theirs : IsOwn b path (log_of h) seen i = subst (λ x. IsOwn b path (log_of h) x i) (sym saw) (subst (λ p. IsOwn b p (log_of h) known i) (sym at) own) in
-    let said : IsDisputed b path (shown_by l).state seen (kind_of deed) i = strange is i (own_as b path (log_of h) l seen i (sym begun) (sym deeds) theirs) in
-    let state : (shown_by l).state ≡ state_of h = ap (λ z. (shown_after_all z l.deeds).state) begun ∙ ap (λ ds. (shown_after_all h.begun ds).state) deeds in
+disputed (Ok v) b h deed l seen known its saw strange = tt
+disputed (Err r) b h deed l seen known its saw strange = λ is i own.
+    let said : IsDisputed b l.path (shown_by l).state seen (kind_of deed) i = strange is i (own_from b h l seen known i its saw own) in
     subst (λ x. IsDisputed b h.path (state_of h) x (kind_of deed) i) saw
-    (subst (λ s. IsDisputed b h.path s seen (kind_of deed) i) state (subst (λ p. IsDisputed b p (shown_by l).state seen (kind_of deed) i) at said))
+    (subst (λ s. IsDisputed b h.path s seen (kind_of deed) i) (state_as h l its) (subst (λ p. IsDisputed b p (shown_by l).state seen (kind_of deed) i) its.path said))
+
+-- of what ends a node `Strange` is answered only where the book hasn't the handle's own
+pub lacked : {V : Type 0} (result : Result V Refusal) (b : BookFacts) (h : Held) (l : LogFacts) (seen known : Option Outcome) → IsLogOf l h → seen ≡ known
+    → IfErr result (λ r. r ≡ Strange → (i : ℕ) → IsOwn b l seen i → ⊥) → IfErr result (λ r. r ≡ Strange → HasOwn b h known → ⊥)
+lacked (Ok v) b h l seen known its saw strange = tt
+lacked (Err r) b h l seen known its saw strange = λ is has.
+    let (i, own) = has in
+    strange is i (own_from b h l seen known i its saw own)
+
+-- what was entered on a log's node was on the handle's own
+pub has_acted : {V : Type 0} (result : Result V Refusal) (b c : BookFacts) (h : Held) (deed : Deed) (l : LogFacts) (seen known : Option Outcome) → IsLogOf l h → seen ≡ known
+    → OnOk result (HasEntered b c l seen deed) → OnOk result (HasActed b c h known deed)
+has_acted (Ok v) b c h deed l seen known its saw entered =
+    let (i, own, is) = entered in
+    (i, own_to b h l seen known i its saw own, is)
+has_acted (Err r) b c h deed l seen known its saw entered = tt
 
 -- a hold's book has the handle's own node, so some book has
-pub in_book : (b : BookFacts) (h : Held) (path : List ℕ) (l : LogFacts) (seen known : Option Outcome) (i : ℕ) → path ≡ h.path → l.begun ≡ h.begun → l.deeds ≡ h.deeds → seen ≡ known
-    → IfSome h.known (λ o. known ≡ Some o) → IsBook b → IsOwn b path l seen i → IsInBook h
-in_book b h path l seen known i at begun deeds saw knew legal own = record {
+pub in_book : (b : BookFacts) (h : Held) (l : LogFacts) (seen known : Option Outcome) (i : ℕ) → IsLogOf l h → seen ≡ known
+    → IfSome h.known (λ o. known ≡ Some o) → IsBook b → IsOwn b l seen i → IsInBook h
+in_book b h l seen known i its saw knew legal own = record {
   seen = known;
   knew = knew;
   book = b;
   legal = legal;
-  own = (i, subst (λ x. IsOwn b h.path (log_of h) x i) saw (subst (λ p. IsOwn b p (log_of h) seen i) at (own_as b path l (log_of h) seen i begun deeds own)));
+  own = (i, own_to b h l seen known i its saw own);
 }
 
-pub there : {V : Type 0} (result : Result V Refusal) (b c : BookFacts) (h : Held) (deed : Deed) (path : List ℕ) (l : LogFacts) (seen known : Option Outcome) → path ≡ h.path → l.begun ≡ h.begun
-    → l.deeds ≡ h.deeds → seen ≡ known → IfSome h.known (λ o. known ≡ Some o) → IsBook b → OnOk result (HasEntered b c path l seen deed)
-    → IfErr result (λ r. r ≢ Strange → (i : ℕ) × IsOwn b path l seen i) → MatchResult result (λ _. IsInBook h) (RefusesInBook h)
-there (Ok v) b c h deed path l seen known at begun deeds saw knew legal entered own =
+pub there : {V : Type 0} (result : Result V Refusal) (b c : BookFacts) (h : Held) (deed : Deed) (l : LogFacts) (seen known : Option Outcome) → IsLogOf l h
+    → seen ≡ known → IfSome h.known (λ o. known ≡ Some o) → IsBook b → OnOk result (HasEntered b c l seen deed)
+    → IfErr result (λ r. r ≢ Strange → (i : ℕ) × IsOwn b l seen i) → MatchResult result (λ _. IsInBook h) (RefusesInBook h)
+there (Ok v) b c h deed l seen known its saw knew legal entered own =
     let (i, is, _) = entered in
-    in_book b h path l seen known i at begun deeds saw knew legal is
-there (Err r) b c h deed path l seen known at begun deeds saw knew legal entered own = λ not_strange _.
+    in_book b h l seen known i its saw knew legal is
+there (Err r) b c h deed l seen known its saw knew legal entered own = λ not_strange _.
     let (i, is) = own not_strange in
-    in_book b h path l seen known i at begun deeds saw knew legal is
+    in_book b h l seen known i its saw knew legal is
+
+-- the path of the child that an action makes, by the log before it
+pub next_of : {V : Type 0} (entered : Result V Refusal) (before : V → LogFacts) (h : Held) (l : LogFacts) → IsLogOf l h → IfOk entered (λ e. before e ≡ l)
+    → IfOk entered (λ e. next_path (before e) ≡ h.path ++ (state_of h).children ∷ [])
+next_of (Ok v) before h l its is =
+    ap next_path is ∙ (ap (λ p. p ++ (shown_by l).state.children ∷ []) its.path ∙ ap (λ (s : NodeState). h.path ++ s.children ∷ []) (state_as h l its))
+next_of (Err r) before h l its is = tt

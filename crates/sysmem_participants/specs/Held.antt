@@ -92,11 +92,11 @@ AnswersAtEnd h deed r = r ≢ Strange
 
 -- the log of a handle; for how many more actions it has room is left out
 abbrev pub log_of : Held → LogFacts
-log_of h = record { begun = h.begun; deeds = h.deeds; places = 0 }
+log_of h = record { path = h.path; begun = h.begun; deeds = h.deeds; places = 0 }
 
 -- a book has the node that is a handle's own, by what the handle saw in its cell
 abbrev pub HasOwn : BookFacts → Held → Option Outcome → Type 0
-HasOwn b h seen = (node : ℕ) × IsOwn b h.path (log_of h) seen node
+HasOwn b h seen = (node : ℕ) × IsOwn b (log_of h) seen node
 
 -- some legal book has that node, by something that the handle may have seen in its cell: what it
 -- knew, if it knew a verdict; that the book is the one under the lock isn't said
@@ -114,18 +114,13 @@ RefusesInBook h r = r ≢ Strange → r ≢ NoMemory → IsInBook h
 
 -- a book has on that node one action more than before, and nothing else
 abbrev pub HasActed : BookFacts → BookFacts → Held → Option Outcome → Deed → Type 0
-HasActed old new h seen deed = HasEntered old new h.path (log_of h) seen deed
+HasActed old new h seen deed = HasEntered old new (log_of h) seen deed
 
 -- a handle that saw this in its cell and a book disagree on an action: the book has no node that is
 -- the handle's own, or its decision left that node out, which is a member by what the handle saw
 abbrev pub Disputes : BookFacts → Held → Option Outcome → Deed → Type 0
-Disputes b h seen deed = (node : ℕ) → IsOwn b h.path (log_of h) seen node
+Disputes b h seen deed = (node : ℕ) → IsOwn b (log_of h) seen node
     → IsDisputed b h.path (state_of h) seen (kind_of deed) node
-
--- a handle that saw this in its cell and a book disagree: the book has no node that is the handle's
--- own
-abbrev pub IsStrangeTo : BookFacts → Held → Option Outcome → Type 0
-IsStrangeTo b h seen = (node : ℕ) → IsOwn b h.path (log_of h) seen node → ⊥
 
 -- the same but for what it knows of the cell
 abbrev pub IsSameBut : Held → Held → Type 0

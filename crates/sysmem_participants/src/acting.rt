@@ -1,14 +1,13 @@
 //! The actions after which a handle is still there.
 
-ghost use Rattle.std.specs.Prelude.{◌≡◌, ◌≢◌, ◌<◌, ◌≤◌, ◌+◌, ◌++◌, ℕ, [], ◌∷◌, None, false, true, is_some, length, option_map, Err, Some, IfErr, IfOk, IfSome, MatchResult, OnErr, OnOk};
+ghost use Rattle.std.specs.Prelude.{◌≡◌, ◌≢◌, ◌≤◌, ◌+◌, ◌++◌, ℕ, [], ◌∷◌, None, false, true, is_some, length, option_map, Err, Some, IfErr, IfOk, IfSome, MatchResult, OnErr, OnOk};
 ghost use Rattle.std.specs.Arc.{arc_value};
 ghost use Rattle.once_cell.specs.Once.{cell_name};
-ghost use Rattle.sysmem_participants.specs.Held.{Answers, Disputes, HasActed, HasOwn, IsInBook, MayEnter, RefusesInBook, acted, child_of};
+ghost use Rattle.sysmem_participants.specs.Held.{Answers, Disputes, HasActed, HasOwn, IsInBook, MayEnter, RefusesInBook, acted, child_of, state_of};
 ghost use Rattle.sysmem_alloc.specs.Book.{IsBook};
 ghost use Rattle.sysmem_room.specs.Agreeing.{IsOwn};
-ghost use Rattle.sysmem_room.specs.Counting.{nodes_by};
 ghost use Rattle.sysmem_room.specs.Entering.{HasEntered};
-ghost use Rattle.sysmem_room.specs.Log.{shown_by};
+ghost use Rattle.sysmem_room.specs.Log.{begun_by, next_path, shown_by};
 ghost use Rattle.sysmem_room.specs.Refusals.{IsAnswer, IsDisputed, due};
 ghost use Rattle.sysmem_tree.specs.ActionKind.{attaches_token, binds, creates_child, creates_group, deed_of, duplicates, ends_node, has_all_children, kind_of, sets};
 ghost use Rattle.sysmem_tree.specs.Table.{makes_root};
@@ -19,10 +18,10 @@ use crate::seat::{Prepared, Seat};
 use crate::shared::{Rules, Shared};
 use once_cell::race::{Note, OnceBox};
 use std::alloc::{AllocError, Global};
-use std::sync::ledger::{Ledger, Share};
+use std::sync::ledger::Ledger;
 use std::sync::{Arc, Wait};
 use std::thread::Threads;
-use sysmem_room::{FreshCell, Log, Outcome};
+use sysmem_room::{Entered, FreshCell, Log, Outcome};
 use sysmem_sanitise::Constraints;
 use sysmem_search::Gate;
 use sysmem_tree::{Action, NodeKind, Refusal};
@@ -38,59 +37,57 @@ fn shared_again(asked: &Option<Arc<Constraints>>) -> Result<Option<Arc<Constrain
     }
 }
 
-/// Enters an action and logs it, and decides where that is this thread's turn. Beside that the book
-/// as the action found and left it: what is logged is what was entered there.
-fn enter<L: Ledger, G: Gate + Drop + Sync, R: Threads + Wait + Sync>(
+/// Enters an action, in the book and in the log, and decides where that is this thread's turn.
+/// Beside that the book as the action found and left it.
+pub(crate) fn enter<L: Ledger, G: Gate + Drop + Sync, R: Threads + Wait + Sync>(
     rt: &R,
     shared: &Shared<L>,
     rules: &Rules<G>,
-    path: &[u32],
-    log: &mut Log,
+    log: &mut Log<L>,
     known: Option<&Outcome>,
     action: Action,
     copy: Action,
     fresh: Option<FreshCell>,
-    mine: &mut Share<L>,
-) -> (Result<Share<L>, Refusal>, Hold<L>)
-    requires mine { 0 < mine.old.parts }
-    requires room { length log.old.deeds + 2 ≤ log.old.places }
+) -> (Result<Entered<L>, Refusal>, Hold<L>)
     requires same { deed_of copy ≡ deed_of action }
+    requires room { ends_node (kind_of (deed_of action)) ≡ false
+        → length log.old.deeds + 2 ≤ log.old.places }
     requires fresh { is_some fresh ≡ makes_root (kind_of (deed_of action)) }
-    ensures entered { OnOk result.0 (HasEntered result.1.found result.1.left path.now log.old
+    ensures entered { OnOk result.0 (HasEntered result.1.found result.1.left log.old
         (option_map (λ o. o.now) known.entry) (deed_of action)) }
     ensures strange { IfErr result.0 (λ refusal. refusal ≡ Refusal.Strange → (node : ℕ)
-        → IsOwn result.1.found path.now log.old (option_map (λ o. o.now) known.entry) node
-        → IsDisputed result.1.found path.now (shown_by log.old).state
+        → IsOwn result.1.found log.old (option_map (λ o. o.now) known.entry) node
+        → IsDisputed result.1.found log.old.path (shown_by log.old).state
         (option_map (λ o. o.now) known.entry) (kind_of (deed_of action)) node) }
     ensures legal { IsBook result.1.found }
     ensures own { IfErr result.0 (λ refusal. refusal ≢ Refusal.Strange → (node : ℕ)
-        × IsOwn result.1.found path.now log.old (option_map (λ o. o.now) known.entry) node) }
-    ensures unchanged { OnErr result.0 (result.1.left ≡ result.1.found) }
-    ensures foreseen { OnOk result.0 (due (option_map (λ o. o.now) known.entry) path.now
+        × IsOwn result.1.found log.old (option_map (λ o. o.now) known.entry) node) }
+    ensures unchanged { OnErr result.0 ((result.1.left ≡ result.1.found) × (log.new ≡ log.old)) }
+    ensures foreseen { OnOk result.0 (due (option_map (λ o. o.now) known.entry) log.old.path
         (shown_by log.old).state (kind_of (deed_of action)) ≡ None) }
     ensures answers { IfErr result.0 (λ refusal. refusal ≢ Refusal.Strange
-        → IsAnswer (due (option_map (λ o. o.now) known.entry) path.now
+        → IsAnswer (due (option_map (λ o. o.now) known.entry) log.old.path
         (shown_by log.old).state (kind_of (deed_of action)))
         (option_map (λ o. o.now) known.entry) (kind_of (deed_of action)) refusal) }
-    ensures parts { mine.new.parts ≡ mine.old.parts }
-    ensures counted { OnOk result.0 (mine.new.amount ≡ mine.old.amount + 1) }
-    ensures uncounted { OnErr result.0 (mine.new.amount ≡ mine.old.amount) }
+    ensures path { log.new.path ≡ log.old.path }
     ensures begun { log.new.begun ≡ log.old.begun }
     ensures logged { OnOk result.0 (log.new.deeds ≡ log.old.deeds ++ deed_of action ∷ []) }
-    ensures unlogged { OnErr result.0 (log.new.deeds ≡ log.old.deeds) }
-    ensures given { IfOk result.0 (λ share. share.parts ≡ nodes_by (kind_of (deed_of action))) }
-    ensures empty { IfOk result.0 (λ share. share.amount ≡ 0) }
+    ensures before { IfOk result.0 (λ entered. entered.before ≡ log.old) }
+    ensures kind { IfOk result.0 (λ entered. entered.kind ≡ kind_of (deed_of action)) }
 {
-    let (entered, hold) = in_hold(rt, shared, path, log, known, action, fresh, mine);
-    let (done, turn) = match entered {
-        Ok(entered) => entered,
+    let ends = action.kind().ends_node();
+    let (done, hold) = in_hold(rt, shared, log, known, action, copy, fresh);
+    let (entered, turn) = match done {
+        Ok(done) => done,
         Err(refusal) => return (Err(refusal), hold),
     };
-    log.push(copy);
+    if ends {
+        shared.changed.notify_all();
+    }
     if let Some(turn) = turn {
         let _none_waits = decide(rt, shared, rules, turn);
     }
-    (Ok(done.share), hold)
+    (Ok(entered), hold)
 }
 
 /// A cell for a domain that is to be made, and one more owner of it for the handle of its root.
@@ -101,15 +98,14 @@ pub(crate) fn fresh_cell(alloc: Global) -> Result<(FreshCell, Arc<OnceBox<Outcom
 }
 
 impl<L: Ledger, G: Gate + Drop> Prepared<L, G> {
-    /// What the handle of the further node holds, with its share.
-    fn seated(self, share: Share<L>) -> Seat<L, G>
-        requires part { share.parts ≡ 1 }
-        requires uncounted { share.amount ≡ 0 }
-        requires empty { self.log.deeds ≡ [] }
-        requires is_open { self.log.begun.state.is_open ≡ true }
+    /// What the handle of the further node holds, once it is made.
+    fn seated(self, entered: Entered<L>) -> Seat<L, G>
+        requires path { self.fresh.path ≡ next_path entered.before }
+        requires begun { begun_by entered.kind ≡ Some self.fresh.begun }
+        requires is_open { self.fresh.begun.state.is_open ≡ true }
         ensures { result ≡ record {
-          path = self.path.items;
-          begun = self.log.begun;
+          path = self.fresh.path;
+          begun = self.fresh.begun;
           deeds = [];
           cell = cell_name (arc_value self.cell);
           known = None;
@@ -119,17 +115,14 @@ impl<L: Ledger, G: Gate + Drop> Prepared<L, G> {
         let Prepared {
             shared,
             rules,
-            path,
-            log,
+            fresh,
             cell,
         } = self;
         let note = cell.note();
         Seat {
             shared,
             rules,
-            path,
-            log,
-            share,
+            log: entered.into_log(fresh),
             cell,
             note,
         }
@@ -137,16 +130,16 @@ impl<L: Ledger, G: Gate + Drop> Prepared<L, G> {
 }
 
 impl<L: Ledger, G: Gate + Drop + Sync> Seat<L, G> {
-    /// Enters an action that leaves the handle there: what the node gets of the count that it
-    /// makes. `copy` is the same action, for the log. Beside that the book as the action found and
-    /// left it, and what it saw in the cell before; without these the answer is `NoMemory`.
+    /// Enters an action that leaves the handle there. `copy` is the same action, for the log. Beside
+    /// that the book as the action found and left it, and what it saw in the cell before; without
+    /// these the answer is `NoMemory`.
     fn step<R: Threads + Wait + Sync>(
         &mut self,
         rt: &R,
         action: Action,
         copy: Action,
         fresh: Option<FreshCell>,
-    ) -> (Result<Share<L>, Refusal>, Option<(Hold<L>, Note<Outcome>)>)
+    ) -> (Result<Entered<L>, Refusal>, Option<(Hold<L>, Note<Outcome>)>)
         requires same { deed_of copy ≡ deed_of action }
         requires fresh { is_some fresh ≡ makes_root (kind_of (deed_of action)) }
         requires stays { ends_node (kind_of (deed_of action)) ≡ false }
@@ -154,9 +147,9 @@ impl<L: Ledger, G: Gate + Drop + Sync> Seat<L, G> {
         ensures unchanged { OnErr result.0 (self.new ≡ self.old) }
         ensures foreseen { OnOk result.0 (MayEnter self.old (deed_of action)) }
         ensures answers { IfErr result.0 (Answers self.old (deed_of action)) }
-        ensures given { IfOk result.0 (λ share.
-            share.parts ≡ nodes_by (kind_of (deed_of action))) }
-        ensures empty { IfOk result.0 (λ share. share.amount ≡ 0) }
+        ensures next { IfOk result.0 (λ entered. next_path entered.before
+            ≡ self.old.path ++ (state_of self.old).children ∷ []) }
+        ensures kind { IfOk result.0 (λ entered. entered.kind ≡ kind_of (deed_of action)) }
         ensures starved { is_some result.1 ≡ false → result.0 ≡ Err Refusal.NoMemory }
         ensures saw { IfSome result.1 (λ look. (look.1.cell ≡ self.old.cell)
             × IfSome self.old.known (λ known. look.1.known ≡ Some known)) }
@@ -179,13 +172,11 @@ impl<L: Ledger, G: Gate + Drop + Sync> Seat<L, G> {
             rt,
             &self.shared,
             &self.rules,
-            &self.path,
             &mut self.log,
             known,
             action,
             copy,
             fresh,
-            &mut self.share,
         );
         (entered, Some((hold, seen)))
     }
@@ -208,7 +199,7 @@ impl<L: Ledger, G: Gate + Drop + Sync> Seat<L, G> {
         };
         let (done, _look) = self.step(rt, Action::Duplicate, Action::Duplicate, None);
         match done {
-            Ok(share) => Ok(child.seated(share)),
+            Ok(entered) => Ok(child.seated(entered)),
             Err(refusal) => Err(refusal),
         }
     }
@@ -231,7 +222,7 @@ impl<L: Ledger, G: Gate + Drop + Sync> Seat<L, G> {
         };
         let (done, _look) = self.step(rt, Action::CreateGroup, Action::CreateGroup, None);
         match done {
-            Ok(share) => Ok(child.seated(share)),
+            Ok(entered) => Ok(child.seated(entered)),
             Err(refusal) => Err(refusal),
         }
     }
@@ -254,7 +245,7 @@ impl<L: Ledger, G: Gate + Drop + Sync> Seat<L, G> {
         };
         let (done, _look) = self.step(rt, Action::CreateChild, Action::CreateChild, None);
         match done {
-            Ok(share) => Ok(child.seated(share)),
+            Ok(entered) => Ok(child.seated(entered)),
             Err(refusal) => Err(refusal),
         }
     }
@@ -281,7 +272,7 @@ impl<L: Ledger, G: Gate + Drop + Sync> Seat<L, G> {
         child.cell = cell;
         let (done, _look) = self.step(rt, Action::AttachToken, Action::AttachToken, Some(fresh));
         match done {
-            Ok(share) => Ok(child.seated(share)),
+            Ok(entered) => Ok(child.seated(entered)),
             Err(refusal) => Err(refusal),
         }
     }
@@ -296,7 +287,7 @@ impl<L: Ledger, G: Gate + Drop + Sync> Seat<L, G> {
     {
         let (done, _look) = self.step(rt, Action::Bind, Action::Bind, None);
         match done {
-            Ok(_share) => Ok(()),
+            Ok(_entered) => Ok(()),
             Err(refusal) => Err(refusal),
         }
     }
@@ -319,7 +310,7 @@ impl<L: Ledger, G: Gate + Drop + Sync> Seat<L, G> {
             None,
         );
         match done {
-            Ok(_share) => Ok(()),
+            Ok(_entered) => Ok(()),
             Err(refusal) => Err(refusal),
         }
     }
@@ -347,7 +338,7 @@ impl<L: Ledger, G: Gate + Drop + Sync> Seat<L, G> {
             None,
         );
         match done {
-            Ok(_share) => Ok(()),
+            Ok(_entered) => Ok(()),
             Err(refusal) => Err(refusal),
         }
     }

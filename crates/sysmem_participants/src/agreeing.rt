@@ -47,7 +47,7 @@ fn agreement_of<L: Ledger>(book: &Book, node: NodeId, stub: &mut Stub<L>) -> Agr
     ensures verdict { (result.verdict ≡ true) ↔ IsKnown book.now node stub.new.known }
     ensures read { IsRead stub.old stub.new }
 {
-    let calls = has_actions(book, node, &stub.actions);
+    let calls = has_actions(book, node, stub.log.actions());
     let known = stub.cell.get_as(&mut stub.note);
     let verdict = has_verdict(book, node, known);
     Agreement { calls, verdict }
@@ -119,7 +119,7 @@ pub fn stubs_agree<L: Ledger>(book: &Book, stubs: &mut [Stub<L>]) -> Result<Audi
     };
     for index in 0..stubs.len() {
         let stub = &mut stubs[index];
-        let Some(node) = book.tree().node_at(&stub.path) else {
+        let Some(node) = book.tree().node_at(stub.log.path()) else {
             return Err(AuditFault::Stubs);
         };
         marks[book.tree().number_of(node) as usize] = true;

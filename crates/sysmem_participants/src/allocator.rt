@@ -9,15 +9,14 @@ ghost use Rattle.sysmem_search.specs.declared.wide.TheConstants.{MOST_WORKERS};
 use crate::seat::Seat;
 use crate::shared::{Rules, Shared};
 use crate::token::Token;
-use smallvec::SmallVec;
 use std::alloc::{AllocError, Global};
 use std::marker::Model;
 use std::sync::ledger::{Blank, Ledger};
 use std::sync::{Arc, Condvar, Mutex};
-use sysmem_room::{Log, Room};
+use sysmem_room::Room;
 use sysmem_sanitise::Platform;
 use sysmem_search::Gate;
-use sysmem_tree::{NodeKind, Refusal};
+use sysmem_tree::Refusal;
 
 /// Makes collections for one platform; its gate is told of the searches.
 #[derive(Drop)]
@@ -47,7 +46,6 @@ fn opened<L: Ledger, G: Gate + Drop + Sync>(
     let alloc = rules.alloc;
     let platform = rules.platform.copy()?;
     let own = rules.platform.copy()?;
-    let log = Log::new(alloc, NodeKind::Token, true)?;
     let rules = Arc::try_clone(rules)?;
     let opened = Room::open(alloc, blank, platform)?;
     let room = Mutex::new(opened.room);
@@ -62,9 +60,7 @@ fn opened<L: Ledger, G: Gate + Drop + Sync>(
     Ok(Seat {
         shared,
         rules,
-        path: SmallVec::new(alloc),
-        log,
-        share: opened.share,
+        log: opened.log,
         cell: opened.cell,
         note,
     })

@@ -1,7 +1,7 @@
 //! The actions that spend a handle.
 
-ghost use Rattle.std.specs.Prelude.{◌≡◌, ◌≢◌, ◌<◌, ◌+◌, ◌++◌, ℕ, [], ◌∷◌, None, Some, false, true, map, option_map, IfErr, IfOk, IfSome, MatchOption, MatchResult, OnErr, OnOk};
-ghost use Rattle.sysmem_participants.specs.Held.{AnswersAtEnd, HasActed, HasOwn, IsInBook, IsStrangeTo, MayEnter, RefusesInBook, acted, left_of, state_of};
+ghost use Rattle.std.specs.Prelude.{◌≡◌, ◌≢◌, ◌++◌, ℕ, [], ◌∷◌, None, Some, false, true, map, option_map, IfErr, IfOk, IfSome, MatchOption, MatchResult, OnErr, OnOk};
+ghost use Rattle.sysmem_participants.specs.Held.{AnswersAtEnd, HasActed, HasOwn, IsInBook, MayEnter, RefusesInBook, acted, left_of, state_of};
 ghost use Rattle.sysmem_alloc.specs.Book.{IsBook};
 ghost use Rattle.sysmem_room.specs.Agreeing.{IsOwn};
 ghost use Rattle.sysmem_room.specs.Entering.{HasEntered};
@@ -10,14 +10,14 @@ ghost use Rattle.sysmem_room.specs.Refusals.{due};
 ghost use Rattle.sysmem_tree.specs.ActionKind.{closes, deed_of, ends_node, kind_of, releases};
 ghost use Rattle.sysmem_tree.specs.Table.{makes_root};
 
-use crate::deciding::decide;
-use crate::holding::{Hold, in_hold};
+use crate::acting::enter;
+use crate::holding::Hold;
 use crate::seat::Seat;
 use crate::shared::{Rules, Shared};
 use crate::stub::Stub;
 use once_cell::race::Note;
 use std::sync::Wait;
-use std::sync::ledger::{Ledger, Share};
+use std::sync::ledger::Ledger;
 use std::thread::Threads;
 use sysmem_room::{Log, Outcome};
 use sysmem_search::Gate;
@@ -37,55 +37,43 @@ fn at_end(refusal: Refusal) -> Refusal
     }
 }
 
-/// Enters the last action on a node in one hold and logs it, and decides where that is this
-/// thread's turn: all actions, what is logged being what was entered; or the log as it was, and why
-/// not. Beside that the book as the action found and left it.
+/// Enters the last action on a node, in the book and in the log, and decides where that is this
+/// thread's turn. Beside that the book as the action found and left it.
 fn end<L: Ledger, G: Gate + Drop + Sync, R: Threads + Wait + Sync>(
     rt: &R,
     shared: &Shared<L>,
     rules: &Rules<G>,
-    path: &[u32],
-    log: Log,
+    log: &mut Log<L>,
     known: Option<&Outcome>,
     action: Action,
     copy: Action,
-    mine: &mut Share<L>,
-) -> (Result<Vec<Action>, (Log, Refusal)>, Hold<L>)
-    requires mine { 0 < mine.old.parts }
+) -> (Result<(), Refusal>, Hold<L>)
     requires same { deed_of copy ≡ deed_of action }
     requires rootless { makes_root (kind_of (deed_of action)) ≡ false }
     requires ends { ends_node (kind_of (deed_of action)) ≡ true }
-    ensures entered { OnOk result.0 (HasEntered result.1.found result.1.left path.now log
+    ensures entered { OnOk result.0 (HasEntered result.1.found result.1.left log.old
         (option_map (λ o. o.now) known.entry) (deed_of action)) }
-    ensures logged { IfOk result.0 (λ actions.
-        map deed_of actions.items ≡ log.deeds ++ deed_of action ∷ []) }
-    ensures back { IfErr result.0 (λ refused. refused.0 ≡ log) }
-    ensures strange { IfErr result.0 (λ refused. refused.1 ≡ Refusal.Strange → (node : ℕ)
-        → IsOwn result.1.found path.now log (option_map (λ o. o.now) known.entry) node → ⊥) }
+    ensures path { log.new.path ≡ log.old.path }
+    ensures begun { log.new.begun ≡ log.old.begun }
+    ensures logged { OnOk result.0 (log.new.deeds ≡ log.old.deeds ++ deed_of action ∷ []) }
+    ensures strange { IfErr result.0 (λ refusal. refusal ≡ Refusal.Strange → (node : ℕ)
+        → IsOwn result.1.found log.old (option_map (λ o. o.now) known.entry) node → ⊥) }
     ensures legal { IsBook result.1.found }
-    ensures own { IfErr result.0 (λ refused. refused.1 ≢ Refusal.Strange → (node : ℕ)
-        × IsOwn result.1.found path.now log (option_map (λ o. o.now) known.entry) node) }
-    ensures unchanged { OnErr result.0 (result.1.left ≡ result.1.found) }
-    ensures foreseen { OnOk result.0 (due (option_map (λ o. o.now) known.entry) path.now
-        (shown_by log).state (kind_of (deed_of action)) ≡ None) }
-    ensures answers { IfErr result.0 (λ refused. refused.1 ≢ Refusal.Strange
-        → (refused.1 ≡ Refusal.WrongState)
-        × (due (option_map (λ o. o.now) known.entry) path.now (shown_by log).state
+    ensures own { IfErr result.0 (λ refusal. refusal ≢ Refusal.Strange → (node : ℕ)
+        × IsOwn result.1.found log.old (option_map (λ o. o.now) known.entry) node) }
+    ensures unchanged { OnErr result.0 ((result.1.left ≡ result.1.found) × (log.new ≡ log.old)) }
+    ensures foreseen { OnOk result.0 (due (option_map (λ o. o.now) known.entry) log.old.path
+        (shown_by log.old).state (kind_of (deed_of action)) ≡ None) }
+    ensures answers { IfErr result.0 (λ refusal. refusal ≢ Refusal.Strange
+        → (refusal ≡ Refusal.WrongState)
+        × (due (option_map (λ o. o.now) known.entry) log.old.path (shown_by log.old).state
         (kind_of (deed_of action)) ≡ Some Refusal.WrongState)) }
-    ensures parts { mine.new.parts ≡ mine.old.parts }
-    ensures counted { OnOk result.0 (mine.new.amount ≡ mine.old.amount + 1) }
-    ensures uncounted { OnErr result.0 (mine.new.amount ≡ mine.old.amount) }
 {
-    let (entered, hold) = in_hold(rt, shared, path, &log, known, action, None, mine);
-    let turn = match entered {
-        Ok((_ended, turn)) => turn,
-        Err(refusal) => return (Err((log, at_end(refusal))), hold),
-    };
-    shared.changed.notify_all();
-    if let Some(turn) = turn {
-        let _none_waits = decide(rt, shared, rules, turn);
+    let (entered, hold) = enter(rt, shared, rules, log, known, action, copy, None);
+    match entered {
+        Ok(_entered) => (Ok(()), hold),
+        Err(refusal) => (Err(at_end(refusal)), hold),
     }
-    (Ok(log.ended(copy)), hold)
 }
 
 impl<L: Ledger, G: Gate + Drop> Seat<L, G> {
@@ -96,18 +84,13 @@ impl<L: Ledger, G: Gate + Drop> Seat<L, G> {
         let Seat {
             shared,
             rules: _rules,
-            path,
             log,
-            share,
             cell,
             note,
         } = self;
-        let actions = log.into_actions();
         Stub {
             shared,
-            path,
-            actions,
-            share,
+            log,
             cell,
             note,
         }
@@ -145,43 +128,35 @@ impl<L: Ledger, G: Gate + Drop + Sync> Seat<L, G> {
         ensures own { IfErr result.0 (λ refused. refused.1 ≢ Refusal.Strange
             → HasOwn result.1.found self result.2.known) }
         ensures strange { IfErr result.0 (λ refused. refused.1 ≡ Refusal.Strange
-            → IsStrangeTo result.1.found self result.2.known) }
+            → (HasOwn result.1.found self result.2.known → ⊥)) }
         ensures there { MatchResult result.0 (λ _. IsInBook self)
             (λ refused. RefusesInBook self refused.1) }
     {
         let Seat {
             shared,
             rules,
-            path,
-            log,
-            mut share,
+            mut log,
             cell,
             mut note,
         } = self;
         let mut seen = note.again();
         let known = cell.get_as(&mut seen);
-        let (ended, hold) = end(
-            rt, &shared, &rules, &path, log, known, action, copy, &mut share,
-        );
+        let (ended, hold) = end(rt, &shared, &rules, &mut log, known, action, copy);
         match ended {
-            Ok(actions) => {
+            Ok(()) => {
                 let stub = Stub {
                     shared,
-                    path,
-                    actions,
-                    share,
+                    log,
                     cell,
                     note,
                 };
                 (Ok(stub), hold, seen)
             }
-            Err((log, refusal)) => {
+            Err(refusal) => {
                 let seat = Seat {
                     shared,
                     rules,
-                    path,
                     log,
-                    share,
                     cell,
                     note,
                 };
@@ -208,10 +183,11 @@ impl<L: Ledger, G: Gate + Drop + Sync> Seat<L, G> {
             × IfSome self.known (λ known. result.2.known ≡ Some known) }
         ensures taken { OnOk result.0
             (HasActed result.1.found result.1.left self result.2.known releases) }
+        ensures as_found { OnErr result.0 (result.1.left ≡ result.1.found) }
         ensures own { IfErr result.0 (λ refused. refused.1 ≢ Refusal.Strange
             → HasOwn result.1.found self result.2.known) }
         ensures strange { IfErr result.0 (λ refused. refused.1 ≡ Refusal.Strange
-            → IsStrangeTo result.1.found self result.2.known) }
+            → (HasOwn result.1.found self result.2.known → ⊥)) }
         ensures there { MatchResult result.0 (λ _. IsInBook self)
             (λ refused. RefusesInBook self refused.1) }
     {
@@ -232,8 +208,10 @@ impl<L: Ledger, G: Gate + Drop + Sync> Seat<L, G> {
             × IfSome self.known (λ known. result.3.known ≡ Some known) }
         ensures taken { MatchOption result.1
             (HasActed result.2.found result.2.left self result.3.known closes) (λ _. Unit {0}) }
+        ensures as_found { MatchOption result.1 (Unit {0})
+            (λ _. result.2.left ≡ result.2.found) }
         ensures strange { IfSome result.1 (λ refusal. (refusal ≡ Refusal.Strange)
-            × IsStrangeTo result.2.found self result.3.known) }
+            × (HasOwn result.2.found self result.3.known → ⊥)) }
         ensures there { MatchOption result.1 (IsInBook self) (λ _. Unit {0}) }
     {
         let (spent, hold, seen) = self.spend(rt, Action::Close, Action::Close);

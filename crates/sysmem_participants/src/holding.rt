@@ -1,19 +1,17 @@
 //! One hold of a collection's lock, in which an action is entered.
 
-ghost use Rattle.std.specs.Prelude.{◌≡◌, ◌≢◌, ◌<◌, ◌+◌, ℕ, None, is_some, option_map, IfErr, IfOk, OnErr, OnOk};
+ghost use Rattle.std.specs.Prelude.{◌≡◌, ◌≢◌, ◌≤◌, ◌+◌, ◌++◌, ℕ, [], ◌∷◌, None, false, is_some, length, option_map, IfErr, IfOk, OnErr, OnOk};
 ghost use Rattle.sysmem_alloc.specs.Book.{IsBook};
 ghost use Rattle.sysmem_room.specs.Agreeing.{IsOwn};
-ghost use Rattle.sysmem_room.specs.Counting.{nodes_by};
 ghost use Rattle.sysmem_room.specs.Entering.{HasEntered, IsRefusedByBook};
 ghost use Rattle.sysmem_room.specs.Log.{shown_by};
 ghost use Rattle.sysmem_room.specs.Refusals.{IsAnswer, IsDisputed, due};
-ghost use Rattle.sysmem_tree.specs.ActionKind.{deed_of, kind_of};
+ghost use Rattle.sysmem_tree.specs.ActionKind.{deed_of, ends_node, kind_of};
 ghost use Rattle.sysmem_tree.specs.Table.{makes_root};
-ghost use Rattle.sysmem_tree.specs.declared.tree.TheConstants.{MOST_NODES};
 
 use crate::shared::Shared;
 use std::sync::Wait;
-use std::sync::ledger::{Ledger, Share};
+use std::sync::ledger::Ledger;
 use sysmem_room::{Entered, FreshCell, Log, Outcome, Seen, Turn};
 use sysmem_tree::{Action, Refusal};
 
@@ -25,53 +23,53 @@ pub(crate) struct Hold<L: Ledger> {
     pub(crate) left: Seen<L>,
 }
 
-/// Enters an action in one hold, and gives the turn to decide where that is this thread's. Beside
-/// that stands the book: an accepted action is one more on the node that is at the path and agrees
-/// with the log and what is known, and nothing else; and a refused one leaves it as it was.
+/// Enters an action in one hold, in the book and in the log, and gives the turn to decide where that
+/// is this thread's; `copy` is the same action, for the log. Beside that stands the book: an
+/// accepted action is one more on the node that is at the log's path and agrees with the log and
+/// what is known, and nothing else; and a refused one leaves it as it was.
 pub(crate) fn in_hold<L: Ledger, R: Wait>(
     rt: &R,
     shared: &Shared<L>,
-    path: &[u32],
-    log: &Log,
+    log: &mut Log<L>,
     known: Option<&Outcome>,
     action: Action,
+    copy: Action,
     fresh: Option<FreshCell>,
-    mine: &mut Share<L>,
 ) -> (Result<(Entered<L>, Option<Turn<L>>), Refusal>, Hold<L>)
-    requires mine { 0 < mine.old.parts }
+    requires same { deed_of copy ≡ deed_of action }
+    requires room { ends_node (kind_of (deed_of action)) ≡ false
+        → length log.old.deeds + 2 ≤ log.old.places }
     requires fresh { is_some fresh ≡ makes_root (kind_of (deed_of action)) }
     ensures legal { IsBook result.1.found }
-    ensures entered { OnOk result.0 (HasEntered result.1.found result.1.left path.now log.now
+    ensures entered { OnOk result.0 (HasEntered result.1.found result.1.left log.old
         (option_map (λ o. o.now) known.entry) (deed_of action)) }
-    ensures unchanged { OnErr result.0 (result.1.left ≡ result.1.found) }
+    ensures unchanged { OnErr result.0 ((result.1.left ≡ result.1.found) × (log.new ≡ log.old)) }
     ensures own { IfErr result.0 (λ refusal. refusal ≢ Refusal.Strange → (node : ℕ)
-        × IsOwn result.1.found path.now log.now (option_map (λ o. o.now) known.entry) node) }
+        × IsOwn result.1.found log.old (option_map (λ o. o.now) known.entry) node) }
     ensures strange { IfErr result.0 (λ refusal. refusal ≡ Refusal.Strange → (node : ℕ)
-        → IsOwn result.1.found path.now log.now (option_map (λ o. o.now) known.entry) node
-        → IsDisputed result.1.found path.now (shown_by log.now).state
+        → IsOwn result.1.found log.old (option_map (λ o. o.now) known.entry) node
+        → IsDisputed result.1.found log.old.path (shown_by log.old).state
         (option_map (λ o. o.now) known.entry) (kind_of (deed_of action)) node) }
     ensures told { IfErr result.0 (λ refusal. refusal ≢ Refusal.Strange
-        → due (option_map (λ o. o.now) known.entry) path.now (shown_by log.now).state
-        (kind_of (deed_of action)) ≡ None → IsRefusedByBook result.1.found path.now log.now
+        → due (option_map (λ o. o.now) known.entry) log.old.path (shown_by log.old).state
+        (kind_of (deed_of action)) ≡ None → IsRefusedByBook result.1.found log.old
         (option_map (λ o. o.now) known.entry) (deed_of action) refusal) }
-    ensures few { OnOk result.0 ((shown_by log.now).state.children < MOST_NODES) }
-    ensures foreseen { OnOk result.0 (due (option_map (λ o. o.now) known.entry) path.now
-        (shown_by log.now).state (kind_of (deed_of action)) ≡ None) }
+    ensures path { log.new.path ≡ log.old.path }
+    ensures begun { log.new.begun ≡ log.old.begun }
+    ensures logged { OnOk result.0 (log.new.deeds ≡ log.old.deeds ++ deed_of action ∷ []) }
+    ensures foreseen { OnOk result.0 (due (option_map (λ o. o.now) known.entry) log.old.path
+        (shown_by log.old).state (kind_of (deed_of action)) ≡ None) }
     ensures answers { IfErr result.0 (λ refusal. refusal ≢ Refusal.Strange
-        → IsAnswer (due (option_map (λ o. o.now) known.entry) path.now
-        (shown_by log.now).state (kind_of (deed_of action)))
+        → IsAnswer (due (option_map (λ o. o.now) known.entry) log.old.path
+        (shown_by log.old).state (kind_of (deed_of action)))
         (option_map (λ o. o.now) known.entry) (kind_of (deed_of action)) refusal) }
-    ensures parts { mine.new.parts ≡ mine.old.parts }
-    ensures counted { OnOk result.0 (mine.new.amount ≡ mine.old.amount + 1) }
-    ensures uncounted { OnErr result.0 (mine.new.amount ≡ mine.old.amount) }
-    ensures given { IfOk result.0 (λ done.
-        done.0.share.parts ≡ nodes_by (kind_of (deed_of action))) }
-    ensures empty { IfOk result.0 (λ done. done.0.share.amount ≡ 0) }
+    ensures before { IfOk result.0 (λ done. done.0.before ≡ log.old) }
+    ensures kind { IfOk result.0 (λ done. done.0.kind ≡ kind_of (deed_of action)) }
 {
     let mut room = shared.room.lock(rt);
     room.book().recall_legal();
     let found = room.seen();
-    match room.act(path, log, known, action, fresh, mine) {
+    match room.act(log, known, action, copy, fresh) {
         Ok(done) => {
             let left = room.seen();
             (Ok(done), Hold { found, left })

@@ -1,6 +1,6 @@
 //! What each kind of handle holds.
 
-ghost use Rattle.std.specs.Prelude.{◌≡◌, ◌≢◌, ◌<◌, ◌+◌, ◌++◌, [], ◌∷◌, None, Some, length, IfErr, IfOk, IfSome, MatchResult, ⊤};
+ghost use Rattle.std.specs.Prelude.{◌≡◌, ◌≢◌, ◌++◌, [], ◌∷◌, None, Some, IfErr, IfOk, IfSome, MatchResult, ⊤};
 ghost use Rattle.std.specs.Arc.{arc_value};
 ghost use Rattle.once_cell.specs.Once.{cell_name};
 ghost use Rattle.sysmem_participants.specs.Held.{IsSameBut, IsStillKnown, state_of};
@@ -12,12 +12,11 @@ use crate::telling::told;
 use crate::view::View;
 use crate::waiting::wait_until_set;
 use once_cell::race::{Note, OnceBox};
-use smallvec::SmallVec;
 use std::alloc::AllocError;
 use std::marker::Model;
-use std::sync::ledger::{Ledger, Share};
+use std::sync::ledger::Ledger;
 use std::sync::{Arc, Wait};
-use sysmem_room::{Log, Outcome};
+use sysmem_room::{FreshLog, Log, Outcome};
 use sysmem_search::Gate;
 use sysmem_tree::{NodeKind, Refusal};
 
@@ -25,11 +24,7 @@ use sysmem_tree::{NodeKind, Refusal};
 pub(crate) struct Seat<L: Ledger, G: Gate + Drop> {
     pub(crate) shared: Arc<Shared<L>>,
     pub(crate) rules: Arc<Rules<G>>,
-    /// One of up to four steps takes no memory.
-    pub(crate) path: SmallVec<u32, 4>,
-    pub(crate) log: Log,
-    /// One part of the ledger, for the number of actions in the log.
-    pub(crate) share: Share<L>,
+    pub(crate) log: Log<L>,
     /// Where the verdict of its domain is read.
     pub(crate) cell: Arc<OnceBox<Outcome>>,
     /// What it read there.
@@ -37,7 +32,7 @@ pub(crate) struct Seat<L: Ledger, G: Gate + Drop> {
 }
 
 impl<L: Ledger, G: Gate + Drop> Model for Seat<L, G> {
-    ghost use Rattle.std.specs.Prelude.{◌≡◌, length, true};
+    ghost use Rattle.std.specs.Prelude.{◌≡◌, true};
     ghost use Rattle.std.specs.Arc.{arc_value};
     ghost use Rattle.once_cell.specs.Once.{cell_name};
     ghost use Rattle.sysmem_participants.specs.Held.{Held};
@@ -46,7 +41,7 @@ impl<L: Ledger, G: Gate + Drop> Model for Seat<L, G> {
     ghost Value = { Held };
 
     ghost view = { λ s. record {
-      path = s.path.items;
+      path = s.log.path;
       begun = s.log.begun;
       deeds = s.log.deeds;
       cell = cell_name (arc_value s.cell);
@@ -54,9 +49,7 @@ impl<L: Ledger, G: Gate + Drop> Model for Seat<L, G> {
       platform = (arc_value s.shared).platform;
     } };
 
-    ghost invariant = { λ s. (s.share.parts ≡ 1)
-        × (s.share.amount ≡ length s.log.deeds)
-        × (s.note.cell ≡ cell_name (arc_value s.cell))
+    ghost invariant = { λ s. (s.note.cell ≡ cell_name (arc_value s.cell))
         × ((shown_by s.log).state.is_open ≡ true) };
 }
 
@@ -65,8 +58,7 @@ impl<L: Ledger, G: Gate + Drop> Model for Seat<L, G> {
 pub(crate) struct Prepared<L: Ledger, G: Gate + Drop> {
     pub(crate) shared: Arc<Shared<L>>,
     pub(crate) rules: Arc<Rules<G>>,
-    pub(crate) path: SmallVec<u32, 4>,
-    pub(crate) log: Log,
+    pub(crate) fresh: FreshLog,
     pub(crate) cell: Arc<OnceBox<Outcome>>,
 }
 
@@ -83,21 +75,17 @@ impl<L: Ledger, G: Gate + Drop> Seat<L, G> {
         is_domain_root: bool,
     ) -> Result<Prepared<L, G>, AllocError>
         ensures path { IfOk result (λ child.
-            child.path.items ≡ self.now.path ++ (state_of self.now).children ∷ []) }
-        ensures begun { IfOk result (λ child. child.log.begun ≡ begun_as begun is_domain_root) }
-        ensures empty { IfOk result (λ child. child.log.deeds ≡ []) }
+            child.fresh.path ≡ self.now.path ++ (state_of self.now).children ∷ []) }
+        ensures begun { IfOk result (λ child. child.fresh.begun ≡ begun_as begun is_domain_root) }
         ensures cell { IfOk result (λ child. cell_name (arc_value child.cell) ≡ self.now.cell) }
         ensures platform { IfOk result (λ child.
             (arc_value child.shared).platform ≡ self.now.platform) }
     {
-        let alloc = self.rules.alloc;
-        let mut path = SmallVec::from_slice(alloc, &self.path)?;
-        path.push(self.log.state().children)?;
+        let fresh = self.log.fresh_next(self.rules.alloc, begun, is_domain_root)?;
         Ok(Prepared {
             shared: Arc::try_clone(&self.shared)?,
             rules: Arc::try_clone(&self.rules)?,
-            path,
-            log: Log::new(alloc, begun, is_domain_root)?,
+            fresh,
             cell: Arc::try_clone(&self.cell)?,
         })
     }
@@ -119,7 +107,7 @@ impl<L: Ledger, G: Gate + Drop> Seat<L, G> {
         let Some(outcome) = self.cell.get_as(&mut self.note) else {
             return Err(Refusal::Pending);
         };
-        told(outcome, &self.shared.platform, &self.path, &self.log)
+        told(outcome, &self.shared.platform, &self.log)
     }
 
     /// What became of the domain, once something did.

@@ -4,20 +4,16 @@ ghost use Rattle.std.specs.Prelude.{◌≡◌, length};
 
 use crate::shared::Shared;
 use once_cell::race::{Note, OnceBox};
-use smallvec::SmallVec;
 use std::marker::Model;
 use std::sync::Arc;
 use std::sync::ledger::{Ledger, Share};
-use sysmem_room::Outcome;
-use sysmem_tree::Action;
+use sysmem_room::{Log, Outcome};
 
 /// What is left of a handle that was spent: its node's path, its accepted actions, its share of the
 /// ledger, its cell and what it knows of that, and the platform. An audit wants one for each node.
 pub struct Stub<L: Ledger> {
     pub(crate) shared: Arc<Shared<L>>,
-    pub(crate) path: SmallVec<u32, 4>,
-    pub(crate) actions: Vec<Action>,
-    pub(crate) share: Share<L>,
+    pub(crate) log: Log<L>,
     pub(crate) cell: Arc<OnceBox<Outcome>>,
     pub(crate) note: Note<Outcome>,
 }
@@ -26,9 +22,7 @@ impl<L: Ledger> Drop for Stub<L> {
     fn drop(self) {
         let Stub {
             shared: _,
-            path: _,
-            actions: _,
-            share: _,
+            log: _,
             cell: _,
             note: _,
         } = self;
@@ -36,25 +30,22 @@ impl<L: Ledger> Drop for Stub<L> {
 }
 
 impl<L: Ledger> Model for Stub<L> {
-    ghost use Rattle.std.specs.Prelude.{◌≡◌, length, map};
+    ghost use Rattle.std.specs.Prelude.{◌≡◌};
     ghost use Rattle.std.specs.Arc.{arc_value};
     ghost use Rattle.once_cell.specs.Once.{cell_name};
     ghost use Rattle.sysmem_participants.specs.Held.{Left};
-    ghost use Rattle.sysmem_tree.specs.ActionKind.{deed_of};
 
     ghost Value = { Left };
 
     ghost view = { λ s. record {
-      path = s.path.items;
-      deeds = map deed_of s.actions.items;
+      path = s.log.path;
+      deeds = s.log.deeds;
       cell = cell_name (arc_value s.cell);
       known = s.note.known;
       platform = (arc_value s.shared).platform;
     } };
 
-    ghost invariant = { λ s. (s.share.parts ≡ 1)
-        × (s.share.amount ≡ length (map deed_of s.actions.items))
-        × (s.note.cell ≡ cell_name (arc_value s.cell)) };
+    ghost invariant = { λ s. s.note.cell ≡ cell_name (arc_value s.cell) };
 }
 
 impl<L: Ledger> Stub<L> {
@@ -64,13 +55,11 @@ impl<L: Ledger> Stub<L> {
         ensures amount { result.amount ≡ length self.deeds }
     {
         let Stub {
-            share,
+            log,
             shared: _,
-            path: _,
-            actions: _,
             cell: _,
             note: _,
         } = self;
-        share
+        log.into_share()
     }
 }

@@ -29,7 +29,7 @@ use Rattle.sysmem_room.specs.declared.outcome.Outcome.{Outcome}
 use Rattle.sysmem_room.specs.declared.outcome.Outcome.TheVariants as outcomes
 use Rattle.sysmem_room.specs.Agreeing.{IsKnown, verdict_by}
 use Rattle.sysmem_room.specs.Log.{log_refusal}
-use Rattle.sysmem_room.specs.Refusals.{IsDisputed, IsUnforeseen, due, first_of, is_member, outcome_refusal, refusal_by}
+use Rattle.sysmem_room.specs.Refusals.{IsDisputed, IsUnforeseen, due, first_of, is_member, known_refusal, outcome_refusal, refusal_by}
 use Rattle.sysmem_room.proofs.Foreseeing.{log_allows, makes_one, refused_unforeseen}
 use Rattle.sysmem_room.proofs.Owning.{not_past}
 
@@ -65,6 +65,10 @@ unrefused platform s r outcomes.NoMemory path agrees none is = absurd (cc)
 both_none : (a b : Option Refusal) → first_of a b ≡ None → (a ≡ None) × (b ≡ None)
 both_none None b is = (refl, is)
 both_none (Some q) b is = absurd (cc)
+
+-- where nothing is due, nothing is by the log
+pub none_logged : (known : Option Outcome) (path : List ℕ) (s : NodeState) (kind : ActionKind) → due known path s kind ≡ None → log_refusal s kind ≡ None
+none_logged known path s kind none = (both_none (known_refusal known path kind) (log_refusal s kind) none).1
 
 -- which of its refusals a tree answers, where neither the domain's failure nor the node's state brings any
 held_back : {A : Type 0} (kind : ActionKind) (o : Outcome) (barred out allowed wants full : Bool) (x : A) (r : Refusal) → barred ≡ false → allowed ≡ true → wants ≡ false

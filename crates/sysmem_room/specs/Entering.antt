@@ -1,5 +1,5 @@
 -- What became of a handle's action in a book.
-use Rattle.std.specs.Prelude.{◌≡◌, ℕ, Err, List, Option}
+use Rattle.std.specs.Prelude.{◌≡◌, ℕ, Err, Option}
 use Rattle.sysmem_alloc.specs.Book.{BookFacts, entered}
 use Rattle.sysmem_alloc.specs.Entry.{Acted}
 use Rattle.sysmem_tree.specs.declared.refusal.Refusal.{Refusal}
@@ -10,12 +10,11 @@ use Rattle.sysmem_room.specs.Agreeing.{IsOwn}
 use Rattle.sysmem_room.specs.Log.{LogFacts}
 
 -- a book has on a handle's own node one action more than before, and nothing else
-abbrev pub HasEntered : BookFacts → BookFacts → List ℕ → LogFacts → Option Outcome → Deed → Type 0
-HasEntered old new path log known deed =
-    (i : ℕ) × IsOwn old path log known i × (new ≡ entered old (Acted i deed))
+abbrev pub HasEntered : BookFacts → BookFacts → LogFacts → Option Outcome → Deed → Type 0
+HasEntered old new log known deed =
+    (i : ℕ) × IsOwn old log known i × (new ≡ entered old (Acted i deed))
 
 -- a book refuses an action on a handle's own node for this
-abbrev pub IsRefusedByBook : BookFacts → List ℕ → LogFacts → Option Outcome → Deed → Refusal
-    → Type 0
-IsRefusedByBook b path log known deed refusal =
-    (i : ℕ) × IsOwn b path log known i × (applied b.state.tree i deed ≡ Err refusal)
+abbrev pub IsRefusedByBook : BookFacts → LogFacts → Option Outcome → Deed → Refusal → Type 0
+IsRefusedByBook b log known deed refusal =
+    (i : ℕ) × IsOwn b log known i × (applied b.state.tree i deed ≡ Err refusal)

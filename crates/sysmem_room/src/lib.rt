@@ -3,8 +3,8 @@
 //!
 //! ```
 //! let opened = Room::<L>::open(alloc, blank, platform)?;
-//! let (mut room, mut share) = (opened.room, opened.share);
-//! let (done, turn) = room.act(&path, &log, known, Action::Release, None, &mut share)?;
+//! let (mut room, mut log) = (opened.room, opened.log);
+//! let (_done, turn) = room.act(&mut log, known, Action::Release, Action::Release, None)?;
 //! if let Some(turn) = turn {
 //!     while let Some(frozen) = room.frozen(&turn) {
 //!         // a search and a proof, where nothing is locked
@@ -14,6 +14,7 @@
 //! ```
 #![tactic(auto)]
 
+mod account;
 mod agreeing;
 mod cell;
 mod log;
@@ -26,9 +27,9 @@ mod verdicts;
 
 pub use agreeing::has_actions;
 pub use cell::FreshCell;
-pub use log::Log;
+pub use log::{Entered, FreshLog, Log};
 pub use outcome::{Outcome, Ruling};
 pub use refusing::{due, is_member};
-pub use room::{Entered, Opened, Room, Turn};
+pub use room::{Opened, Room, Turn};
 pub use seen::Seen;
 pub use verdicts::has_verdict;

@@ -1,183 +1,170 @@
-//! What a handle knows of its node: how it was made, and the actions on it that were accepted.
+//! What a handle knows of its node, and its share of the count.
 
-ghost use Rattle.std.specs.Prelude.{◌≡◌, ◌≢◌, ◌<◌, ◌≤◌, ◌+◌, ◌++◌, ◌↔◌, [], ◌∷◌, length, map, option_map, replicate, IfOk, IfSome, IsTrue, OnOk};
+ghost use Rattle.std.specs.Prelude.{◌≡◌, ◌≤◌, ◌+◌, ◌↔◌, [], Some, length, map, IfOk, IsTrue, OnOk};
 ghost use Rattle.sysmem_proof.specs.Asked.{asks_at};
+ghost use Rattle.sysmem_room.specs.Log.{begun_as, begun_by, next_path, shown_by};
+ghost use Rattle.sysmem_tree.specs.ActionKind.{deed_of};
 ghost use Rattle.sysmem_tree.specs.Nodes.{HasNode};
-ghost use Rattle.sysmem_room.specs.Agreeing.{StandsAs};
-ghost use Rattle.sysmem_room.specs.Log.{begun_as, shown_by};
-ghost use Rattle.sysmem_tree.specs.ActionKind.{deed_of, duplicates};
-ghost use Rattle.sysmem_tree.specs.declared.tree.TheConstants.{MOST_NODES};
 
-use crate::agreeing::{has_set, lent};
+use crate::account::Account;
 use std::alloc::{AllocError, Global};
 use std::marker::Model;
-use sysmem_sanitise::Constraints;
+use std::snapshot::Snapshot;
+use std::sync::ledger::{Ledger, Share};
 use sysmem_tree::{Action, ActionKind, NodeId, NodeKind, NodeState, Tree};
 
-/// How a node was made, and the accepted actions on it, with room for one more.
-pub struct Log {
-    begun: NodeKind,
-    is_domain_root: bool,
-    /// What the actions make of the node.
-    state: NodeState,
-    actions: Vec<Action>,
-    /// How many of the actions come before the `Duplicate`s at the end.
-    others: usize,
+/// What the handle of a node knows of it: its path, how it was made, and the accepted actions on
+/// it; and its share of the count, which has as many. There is one for each node of a book, and it
+/// has all that was ever entered on the node: `Room::open` makes that of the root, an action that
+/// was entered that of the node that it made, and nothing but `Room::act` enters an action, in both
+/// the book and the log.
+pub struct Log<L: Ledger> {
+    pub(crate) account: Account,
+    /// One part of the ledger, for the number of actions.
+    pub(crate) share: Share<L>,
 }
 
-impl Drop for Log {
+impl<L: Ledger> Drop for Log<L> {
     fn drop(self) {
         let Log {
-            begun: _,
-            is_domain_root: _,
-            state: _,
-            actions: _,
-            others: _,
+            account: _,
+            share: _,
         } = self;
     }
 }
 
-impl Model for Log {
-    ghost use Rattle.std.specs.Prelude.{◌≡◌, ◌<◌, map};
-    ghost use Rattle.std.specs.Vec.{vec_capacity, vec_len};
-    ghost use Rattle.sysmem_room.specs.Log.{HasBeforeDuplicates, LogFacts, begun_as, shown_by};
-    ghost use Rattle.sysmem_tree.specs.ActionKind.{deed_of};
+impl<L: Ledger> Model for Log<L> {
+    ghost use Rattle.std.specs.Prelude.{◌≡◌, length};
+    ghost use Rattle.sysmem_room.specs.Log.{LogFacts};
 
     ghost Value = { LogFacts };
 
-    ghost view = { λ l. record {
-      begun = begun_as l.begun l.is_domain_root;
-      deeds = map deed_of l.actions.items;
-      places = vec_capacity l.actions;
-    } };
+    ghost view = { λ l. l.account };
 
-    ghost invariant = { λ l. (vec_len l.actions < vec_capacity l.actions)
-        × (l.state ≡ (shown_by (record {
-          begun = begun_as l.begun l.is_domain_root;
-          deeds = map deed_of l.actions.items;
-          places = vec_capacity l.actions;
-        })).state)
-        × HasBeforeDuplicates (map deed_of l.actions.items) l.others };
+    ghost invariant = { λ l. (l.share.parts ≡ 1) × (l.share.amount ≡ length l.account.deeds) };
 }
 
-/// How many of so many actions come before the `Duplicate`s at the end, where the last action is of
-/// this kind and so many came before those at the end of the others.
-fn others_after(others: usize, kind: ActionKind, many: usize) -> usize
-    ensures again { kind ≡ ActionKind.Duplicate → result ≡ others }
-    ensures other { kind ≢ ActionKind.Duplicate → result ≡ many }
-{
-    if kind == ActionKind::Duplicate {
-        others
-    } else {
-        many
+/// The memory for the log of a node that is to be made, taken before the lock.
+pub struct FreshLog {
+    account: Account,
+}
+
+impl Drop for FreshLog {
+    fn drop(self) {
+        let FreshLog { account: _ } = self;
     }
 }
 
-impl Log {
-    /// Of a node of this kind that was just made; `AllocError` where memory is refused.
-    pub fn new(alloc: Global, begun: NodeKind, is_domain_root: bool) -> Result<Log, AllocError>
-        ensures begun { IfOk result (λ log. log.begun ≡ begun_as begun is_domain_root) }
-        ensures empty { IfOk result (λ log. log.deeds ≡ []) }
+impl Model for FreshLog {
+    ghost use Rattle.std.specs.Prelude.{◌≡◌, []};
+    ghost use Rattle.sysmem_room.specs.Log.{LogFacts};
+
+    ghost Value = { LogFacts };
+
+    ghost view = { λ f. f.account };
+
+    ghost invariant = { λ f. f.account.deeds ≡ [] };
+}
+
+impl FreshLog {
+    /// What a log has beside its share.
+    fn into_account(self) -> Account
+        ensures same { result ≡ self }
+        ensures empty { result.deeds ≡ [] }
     {
-        let actions = Vec::with_capacity(alloc, 4)?;
-        Ok(Log {
-            begun,
-            is_domain_root,
-            state: NodeState::fresh(begun),
-            actions,
-            others: 0,
-        })
+        let FreshLog { account } = self;
+        account
+    }
+}
+
+/// An action that was entered, with the share of the node that it made; without parts, where it
+/// made none.
+#[derive(Drop)]
+pub struct Entered<L: Ledger> {
+    /// The log of the action's node before it, for clauses alone.
+    pub(crate) before: Snapshot<Account>,
+    pub(crate) kind: ActionKind,
+    pub(crate) share: Share<L>,
+}
+
+impl<L: Ledger> Model for Entered<L> {
+    ghost use Rattle.std.specs.Prelude.{◌≡◌};
+    ghost use Rattle.sysmem_room.specs.Counting.{nodes_by};
+    ghost use Rattle.sysmem_room.specs.Log.{EnteredFacts};
+
+    ghost Value = { EnteredFacts };
+
+    ghost view = { λ e. record { before = e.before.value; kind = e.kind } };
+
+    ghost invariant = { λ e. (e.share.parts ≡ nodes_by e.kind) × (e.share.amount ≡ 0) };
+}
+
+impl<L: Ledger> Entered<L> {
+    /// The log of the node that was made, in the memory that was taken for it.
+    pub fn into_log(self, fresh: FreshLog) -> Log<L>
+        requires path { fresh.path ≡ next_path self.before }
+        requires begun { begun_by self.kind ≡ Some fresh.begun }
+        ensures path { result.path ≡ fresh.path }
+        ensures begun { result.begun ≡ fresh.begun }
+        ensures empty { result.deeds ≡ [] }
+    {
+        let Entered {
+            share,
+            before: _,
+            kind: _,
+        } = self;
+        Log {
+            account: fresh.into_account(),
+            share,
+        }
+    }
+}
+
+impl<L: Ledger> Log<L> {
+    /// The node's path.
+    pub fn path(&self) -> &[u32]
+        ensures { result.now ≡ self.now.path }
+    {
+        self.account.path()
     }
 
     /// What the actions make of the node.
     pub fn state(&self) -> NodeState
         ensures { result ≡ (shown_by self.now).state }
     {
-        self.state
+        self.account.state()
     }
 
     /// The actions, the oldest first.
     pub fn actions(&self) -> &[Action]
         ensures { map deed_of result.now ≡ self.now.deeds }
     {
-        &self.actions
+        self.account.actions()
+    }
+
+    /// The memory for the log of the node's next child, if that is made so; `AllocError` where
+    /// memory is refused.
+    pub fn fresh_next(
+        &self,
+        alloc: Global,
+        begun: NodeKind,
+        is_domain_root: bool,
+    ) -> Result<FreshLog, AllocError>
+        ensures path { IfOk result (λ fresh. fresh.path ≡ next_path self.now) }
+        ensures begun { IfOk result (λ fresh. fresh.begun ≡ begun_as begun is_domain_root) }
+    {
+        let account = self.account.of_next(alloc, begun, is_domain_root)?;
+        Ok(FreshLog { account })
     }
 
     /// Makes room for one action beside the last; `AllocError` where memory is refused.
     pub fn reserve(&mut self) -> Result<(), AllocError>
+        ensures path { self.new.path ≡ self.old.path }
         ensures begun { self.new.begun ≡ self.old.begun }
         ensures same { self.new.deeds ≡ self.old.deeds }
         ensures room { OnOk result (length self.new.deeds + 2 ≤ self.new.places) }
     {
-        self.actions.reserve(2)
-    }
-
-    /// Enters an action, where there is room for one beside the last.
-    pub fn push(&mut self, action: Action)
-        requires room { length self.old.deeds + 2 ≤ self.old.places }
-        requires few { (shown_by self.old).state.children < MOST_NODES }
-        ensures begun { self.new.begun ≡ self.old.begun }
-        ensures entered { self.new.deeds ≡ self.old.deeds ++ deed_of action ∷ [] }
-    {
-        let kind = action.kind();
-        self.state.act(kind);
-        self.actions.push_reserved(action);
-        let others = others_after(self.others, kind, self.actions.len());
-        self.others = others;
-    }
-
-    /// The actions before the `Duplicate`s at the end, if there are so many of these.
-    #[tactic(auto, using(crate::proofs::Logs::before_end))]
-    pub(crate) fn before(&self, many: usize) -> Option<&[Action]>
-        ensures { IfSome result (λ others. self.now.deeds
-            ≡ map deed_of others.now ++ replicate many duplicates) }
-    {
-        if self.actions.len() - self.others == many {
-            Some(&self.actions[..self.others])
-        } else {
-            None
-        }
-    }
-
-    /// All actions, the last one included. It takes no memory.
-    pub fn ended(self, action: Action) -> Vec<Action>
-        ensures { map deed_of result.items ≡ self.deeds ++ deed_of action ∷ [] }
-    {
-        let Log {
-            mut actions,
-            begun: _,
-            is_domain_root: _,
-            state: _,
-            others: _,
-        } = self;
-        actions.push_reserved(action);
-        actions
-    }
-
-    /// All actions, the oldest first.
-    pub fn into_actions(self) -> Vec<Action>
-        ensures { map deed_of result.items ≡ self.deeds }
-    {
-        let Log {
-            actions,
-            begun: _,
-            is_domain_root: _,
-            state: _,
-            others: _,
-        } = self;
-        actions
-    }
-
-    /// Whether a node was made as this log's, and stands as the actions make it.
-    pub(crate) fn stands_as(&self, tree: &Tree, node: NodeId) -> bool
-        requires { HasNode tree.now.nodes node }
-        ensures { IsTrue result ↔ StandsAs tree.now.nodes self.now node }
-    {
-        if tree.state(node) != self.state {
-            return false;
-        }
-        let is_root = tree.root_of(tree.domain_of(node)) == node;
-        is_root == self.is_domain_root
+        self.account.reserve()
     }
 
     /// Whether a node has the constraints that the actions set.
@@ -185,19 +172,15 @@ impl Log {
         requires { HasNode tree.now.nodes node }
         ensures { IsTrue result ↔ (asks_at tree.now.nodes node ≡ (shown_by self.now).constraints) }
     {
-        has_set(tree, node, self.asked())
+        self.account.asks_as(tree, node)
     }
 
-    /// The constraints that the actions set, if they set any.
-    fn asked(&self) -> Option<&Constraints>
-        ensures { option_map (λ one. one.now) result ≡ (shown_by self.now).constraints }
+    /// Its share alone.
+    pub fn into_share(self) -> Share<L>
+        ensures parts { result.parts ≡ 1 }
+        ensures amount { result.amount ≡ length self.deeds }
     {
-        let mut asked = None;
-        for action in &self.actions {
-            if let Action::SetConstraints(own) = action {
-                asked = lent(own);
-            }
-        }
-        asked
+        let Log { account: _, share } = self;
+        share
     }
 }

@@ -1,6 +1,6 @@
 //! What lies under a collection's lock.
 
-ghost use Rattle.std.specs.Prelude.{◌≡◌, ◌≢◌, ◌<◌, ◌≤◌, ◌+◌, ◌↔◌, ℕ, List, Ok, Err, Some, None, true, false, length, option_map, is_some, IfErr, IfOk, IfSome, IsTrue, OnErr, OnOk};
+ghost use Rattle.std.specs.Prelude.{◌≡◌, ◌≢◌, ◌<◌, ◌≤◌, ◌+◌, ◌++◌, ◌↔◌, ℕ, List, [], ◌∷◌, Ok, Err, Some, None, true, false, length, option_map, is_some, IfErr, IfOk, IfSome, IsTrue, OnErr, OnOk};
 ghost use Rattle.std.specs.Arc.{arc_value};
 ghost use Rattle.sysmem_alloc.specs.Book.{entered, new_book};
 ghost use Rattle.sysmem_alloc.specs.Entry.{Acted, Decided};
@@ -9,33 +9,36 @@ ghost use Rattle.sysmem_alloc.specs.State.{next_ready};
 ghost use Rattle.sysmem_proof.specs.Claim.{IsTrueClaim};
 ghost use Rattle.sysmem_room.specs.Agreeing.{IsAsKnown, IsOwn, book_log};
 ghost use Rattle.sysmem_room.specs.Counting.{actions_in, all_parts, nodes_by};
-ghost use Rattle.sysmem_room.specs.Entering.{IsRefusedByBook};
+ghost use Rattle.sysmem_room.specs.Entering.{HasEntered, IsRefusedByBook};
 ghost use Rattle.sysmem_room.specs.Lacking.{without_memory};
-ghost use Rattle.sysmem_room.specs.Log.{shown_by};
+ghost use Rattle.sysmem_room.specs.Log.{begun_as, shown_by};
 ghost use Rattle.sysmem_room.specs.Refusals.{IsAnswer, IsDisputed, due};
-ghost use Rattle.sysmem_tree.specs.ActionKind.{deed_of, kind_of};
+ghost use Rattle.sysmem_tree.specs.ActionKind.{deed_of, ends_node, kind_of};
 ghost use Rattle.sysmem_tree.specs.Nodes.{HasNode};
 ghost use Rattle.sysmem_tree.specs.Table.{makes_root};
 ghost use Rattle.sysmem_tree.specs.Tree.{applied};
 
+use crate::account::Account;
 use crate::agreeing::{has_actions, has_placed};
 use crate::cell::{DomainCell, FreshCell, keep, publish_action, publish_decision};
-use crate::log::Log;
+use crate::log::{Entered, Log};
 use crate::outcome::{Outcome, Ruling};
 use crate::places::Places;
 use crate::refusing::{due, unforeseen};
 use crate::seen::Seen;
 use crate::verdicts::has_verdict;
 use once_cell::race::OnceBox;
+use smallvec::SmallVec;
 use std::alloc::{AllocError, Global};
 use std::marker::{Model, PhantomData};
+use std::snapshot::Snapshot;
 use std::sync::Arc;
 use std::sync::ledger::{Blank, Book as Counted, Ledger, Share};
 use sysmem_alloc::laws::{few_entries, legal_agrees};
 use sysmem_alloc::{Book, Frozen};
 use sysmem_proof::Claim;
 use sysmem_sanitise::Platform;
-use sysmem_tree::{Action, ActionKind, DomainId, Event, MOST_NODES, NodeId, Refusal};
+use sysmem_tree::{Action, ActionKind, DomainId, Event, MOST_NODES, NodeId, NodeKind, Refusal};
 
 /// A collection's book, the count of its actions, and the cells of its domains. Whoever has the
 /// lock finds a legal book, and as many actions counted as its history has.
@@ -91,19 +94,10 @@ impl<L: Ledger> Model for Room<L> {
 pub struct Opened<L: Ledger> {
     /// What lies under its lock.
     pub room: Room<L>,
-    /// The root's share of the count.
-    pub share: Share<L>,
+    /// What the root's handle knows of it.
+    pub log: Log<L>,
     /// The cell of the initial domain.
     pub cell: Arc<OnceBox<Outcome>>,
-}
-
-/// An action that was entered.
-#[derive(Drop)]
-pub struct Entered<L: Ledger> {
-    /// The node that was made, or else the node acted on.
-    pub node: NodeId,
-    /// The share of the node that was made; without parts, where none was.
-    pub share: Share<L>,
 }
 
 /// The turn to take a collection's decisions. `Room::act` alone gives one, with an action that was
@@ -133,13 +127,15 @@ impl<L: Ledger> Room<L> {
         requires ledger { blank.parts ≡ L.parts }
         requires parts { blank.parts ≡ all_parts }
         ensures book { IfOk result (λ opened. opened.room ≡ new_book platform) }
-        ensures share { IfOk result (λ opened. opened.share.parts ≡ 1) }
-        ensures uncounted { IfOk result (λ opened. opened.share.amount ≡ 0) }
+        ensures path { IfOk result (λ opened. opened.log.path ≡ []) }
+        ensures begun { IfOk result (λ opened. opened.log.begun ≡ begun_as NodeKind.Token true) }
+        ensures empty { IfOk result (λ opened. opened.log.deeds ≡ []) }
     {
         let fresh = FreshCell::new(alloc)?;
         let cell = fresh.shared()?;
         let mut cells = Vec::with_capacity(alloc, MOST_NODES)?;
         let places = Box::new(alloc, Places::new())?;
+        let account = Account::new(alloc, SmallVec::new(alloc), NodeKind::Token, true)?;
         let book = Book::new(alloc, platform)?;
         cells.push_reserved(fresh.kept());
         let (counted, mut spare) = blank.open();
@@ -152,7 +148,8 @@ impl<L: Ledger> Room<L> {
             cells,
             is_deciding: false,
         };
-        Ok(Opened { room, share, cell })
+        let log = Log { account, share };
+        Ok(Opened { room, log, cell })
     }
 
     /// The book.
@@ -170,31 +167,32 @@ impl<L: Ledger> Room<L> {
     }
 
     /// Enters an action, counts it in the share of who acts, and publishes the failures that it
-    /// brings; or answers the tree's first refusal, and then nothing has changed. A node that is
-    /// made gets a part of the count, and where it is the root of a domain, the domain gets the
-    /// fresh cell. It takes no memory.
+    /// brings: the node that was made, or else the node acted on, and the share of the node that
+    /// was made, without parts where none was. Or answers the tree's first refusal, and then
+    /// nothing has changed. Where the node is the root of a domain, the domain gets the fresh cell.
+    /// It takes no memory.
     pub(crate) fn enter(
         &mut self,
         event: Event,
         fresh: Option<FreshCell>,
         mine: &mut Share<L>,
-    ) -> Result<Entered<L>, Refusal>
+    ) -> Result<(NodeId, Share<L>), Refusal>
         requires mine { 0 < mine.old.parts }
         requires fresh { is_some fresh ≡ makes_root (kind_of (deed_of event.action)) }
         ensures entered { OnOk result (self.new
             ≡ entered self.old (Acted event.node (deed_of event.action))) }
         ensures accepted { IfOk result (λ done.
             applied self.old.state.tree event.node (deed_of event.action)
-            ≡ Ok (record { tree = self.new.state.tree; node = done.node })) }
+            ≡ Ok (record { tree = self.new.state.tree; node = done.0 })) }
         ensures refused { IfErr result (λ refusal.
             applied self.old.state.tree event.node (deed_of event.action) ≡ Err refusal) }
         ensures unchanged { OnErr result (self.new ≡ self.old) }
         ensures parts { mine.new.parts ≡ mine.old.parts }
         ensures counted { OnOk result (mine.new.amount ≡ mine.old.amount + 1) }
         ensures uncounted { OnErr result (mine.new.amount ≡ mine.old.amount) }
-        ensures given { IfOk result (λ done. done.share.parts
+        ensures given { IfOk result (λ done. done.1.parts
             ≡ nodes_by (kind_of (deed_of event.action))) }
-        ensures empty { IfOk result (λ done. done.share.amount ≡ 0) }
+        ensures empty { IfOk result (λ done. done.1.amount ≡ 0) }
     {
         few_entries();
         let acted = event.node;
@@ -210,23 +208,20 @@ impl<L: Ledger> Room<L> {
         let share = self.spare.split_off(parts, 0);
         keep(&mut self.cells, fresh);
         publish_action(&mut self.cells, tree, kind);
-        Ok(Entered {
-            node: done.node,
-            share,
-        })
+        Ok((done.node, share))
     }
 
     /// The node at the path of a log, if it was made as the log says, and the book has the log's
     /// actions on it and the verdict that is known of its domain.
-    fn node_of(&self, path: &[u32], log: &Log, known: Option<&Outcome>) -> Option<NodeId>
-        ensures own { IfSome result (IsOwn self.now path.now log.now
+    fn node_of(&self, account: &Account, known: Option<&Outcome>) -> Option<NodeId>
+        ensures own { IfSome result (IsOwn self.now account.now
             (option_map (λ o. o.now) known.entry)) }
         ensures there { IfSome result (HasNode self.now.state.tree.nodes) }
-        ensures none { result ≡ None → (node : ℕ) → IsOwn self.now path.now log.now
+        ensures none { result ≡ None → (node : ℕ) → IsOwn self.now account.now
             (option_map (λ o. o.now) known.entry) node → ⊥ }
     {
-        let node = self.book.tree().node_at(path)?;
-        if self.is_own(node, log, known) {
+        let node = self.book.tree().node_at(account.path())?;
+        if self.is_own(node, account, known) {
             Some(node)
         } else {
             None
@@ -235,33 +230,33 @@ impl<L: Ledger> Room<L> {
 
     /// Whether a node was made as a log says, and the book has the log's actions on it and the
     /// verdict that is known of its domain.
-    fn is_own(&self, node: NodeId, log: &Log, known: Option<&Outcome>) -> bool
+    fn is_own(&self, node: NodeId, account: &Account, known: Option<&Outcome>) -> bool
         requires { HasNode self.now.state.tree.nodes node }
-        ensures { IsTrue result ↔ IsAsKnown self.now log.now
+        ensures { IsTrue result ↔ IsAsKnown self.now account.now
             (option_map (λ o. o.now) known.entry) node }
     {
-        self.has_log(node, log)
-            && log.stands_as(self.book.tree(), node)
+        self.has_log(node, account)
+            && account.stands_as(self.book.tree(), node)
             && has_verdict(&self.book, node, known)
     }
 
     /// Whether the book has just the actions of a log on a node. Where it has, its places tell so;
     /// else the whole history is read.
-    fn has_log(&self, node: NodeId, log: &Log) -> bool
+    fn has_log(&self, node: NodeId, account: &Account) -> bool
         requires { HasNode self.now.state.tree.nodes node }
-        ensures { IsTrue result ↔ (book_log self.now.history node ≡ log.now.deeds) }
+        ensures { IsTrue result ↔ (book_log self.now.history node ≡ account.now.deeds) }
     {
-        self.places_tell(node, log) || has_actions(&self.book, node, log.actions())
+        self.places_tell(node, account) || has_actions(&self.book, node, account.actions())
     }
 
     /// Whether the book has just the actions of a log on a node, by its places: the `Duplicate`s at
     /// the end are counted, and the actions before them compared.
-    fn places_tell(&self, node: NodeId, log: &Log) -> bool
+    fn places_tell(&self, node: NodeId, account: &Account) -> bool
         requires { HasNode self.now.state.tree.nodes node }
-        ensures { IsTrue result → book_log self.now.history node ≡ log.now.deeds }
+        ensures { IsTrue result → book_log self.now.history node ≡ account.now.deeds }
     {
         let number = self.book.tree().number_of(node);
-        let Some(others) = log.before(self.places.duplicates(number)) else {
+        let Some(others) = account.before(self.places.duplicates(number)) else {
             return false;
         };
         has_placed(
@@ -273,71 +268,78 @@ impl<L: Ledger> Room<L> {
         )
     }
 
-    /// Enters the action of a handle, by its path, its log and what it knows of its domain's
-    /// verdict, as `enter` does. It is refused with `Strange` where the book has no node at the
-    /// path that was made as the log says, other actions there than the log, or another verdict
-    /// than the one that is known; else with what is due by what the handle knows; else with what
-    /// the book refuses it for, which the handle can't foresee, or, unless it ends the node, with
-    /// `Strange` where the handle's verdict has its node as a member, and the book left it out.
-    /// Beside what was entered stands the turn to take the decisions, if a domain waits for one and
-    /// nobody takes them.
+    /// Enters the action of a handle, by its log and what it knows of its domain's verdict, in the
+    /// book and in the log; `copy` is the same action, for the log. It is refused with `Strange`
+    /// where the book has no node at the log's path that was made as the log says, other actions
+    /// there than the log, or another verdict than the one that is known; else with what is due by
+    /// what the handle knows; else with what the book refuses it for, which the handle can't
+    /// foresee, or, unless it ends the node, with `Strange` where the handle's verdict has its node
+    /// as a member, and the book left it out. Then nothing has changed. Beside what was entered
+    /// stands the turn to take the decisions, if a domain waits for one and nobody takes them.
     pub fn act(
         &mut self,
-        path: &[u32],
-        log: &Log,
+        log: &mut Log<L>,
         known: Option<&Outcome>,
         action: Action,
+        copy: Action,
         fresh: Option<FreshCell>,
-        mine: &mut Share<L>,
     ) -> Result<(Entered<L>, Option<Turn<L>>), Refusal>
-        requires mine { 0 < mine.old.parts }
+        requires same { deed_of copy ≡ deed_of action }
+        requires room { ends_node (kind_of (deed_of action)) ≡ false
+            → length log.old.deeds + 2 ≤ log.old.places }
         requires fresh { is_some fresh ≡ makes_root (kind_of (deed_of action)) }
-        ensures entered { OnOk result ((node : ℕ)
-            × IsOwn self.old path.now log.now (option_map (λ o. o.now) known.entry) node
-            × (self.new ≡ entered self.old (Acted node (deed_of action)))) }
-        ensures accepted { IfOk result (λ done. (node : ℕ)
-            × IsOwn self.old path.now log.now (option_map (λ o. o.now) known.entry) node
-            × (applied self.old.state.tree node (deed_of action)
-            ≡ Ok (record { tree = self.new.state.tree; node = done.0.node }))) }
+        ensures entered { OnOk result (HasEntered self.old self.new log.old
+            (option_map (λ o. o.now) known.entry) (deed_of action)) }
+        ensures accepted { OnOk result ((node : ℕ)
+            × IsOwn self.old log.old (option_map (λ o. o.now) known.entry) node
+            × ((made : ℕ) × (applied self.old.state.tree node (deed_of action)
+            ≡ Ok (record { tree = self.new.state.tree; node = made })))) }
         ensures own { IfErr result (λ refusal. refusal ≢ Refusal.Strange → (node : ℕ)
-            × IsOwn self.old path.now log.now (option_map (λ o. o.now) known.entry) node) }
+            × IsOwn self.old log.old (option_map (λ o. o.now) known.entry) node) }
         ensures strange { IfErr result (λ refusal. refusal ≡ Refusal.Strange → (node : ℕ)
-            → IsOwn self.old path.now log.now (option_map (λ o. o.now) known.entry) node
-            → IsDisputed self.old path.now (shown_by log.now).state
+            → IsOwn self.old log.old (option_map (λ o. o.now) known.entry) node
+            → IsDisputed self.old log.old.path (shown_by log.old).state
             (option_map (λ o. o.now) known.entry) (kind_of (deed_of action)) node) }
-        ensures unchanged { OnErr result (self.new ≡ self.old) }
-        ensures few { OnOk result ((shown_by log.now).state.children < MOST_NODES) }
-        ensures foreseen { OnOk result (due (option_map (λ o. o.now) known.entry) path.now
-            (shown_by log.now).state (kind_of (deed_of action)) ≡ None) }
+        ensures unchanged { OnErr result ((self.new ≡ self.old) × (log.new ≡ log.old)) }
+        ensures path { log.new.path ≡ log.old.path }
+        ensures begun { log.new.begun ≡ log.old.begun }
+        ensures logged { OnOk result (log.new.deeds ≡ log.old.deeds ++ deed_of action ∷ []) }
+        ensures foreseen { OnOk result (due (option_map (λ o. o.now) known.entry) log.old.path
+            (shown_by log.old).state (kind_of (deed_of action)) ≡ None) }
         ensures answers { IfErr result (λ refusal. refusal ≢ Refusal.Strange
-            → IsAnswer (due (option_map (λ o. o.now) known.entry) path.now
-            (shown_by log.now).state (kind_of (deed_of action)))
+            → IsAnswer (due (option_map (λ o. o.now) known.entry) log.old.path
+            (shown_by log.old).state (kind_of (deed_of action)))
             (option_map (λ o. o.now) known.entry) (kind_of (deed_of action)) refusal) }
         ensures told { IfErr result (λ refusal. refusal ≢ Refusal.Strange
-            → due (option_map (λ o. o.now) known.entry) path.now (shown_by log.now).state
-            (kind_of (deed_of action)) ≡ None → IsRefusedByBook self.old path.now log.now
+            → due (option_map (λ o. o.now) known.entry) log.old.path (shown_by log.old).state
+            (kind_of (deed_of action)) ≡ None → IsRefusedByBook self.old log.old
             (option_map (λ o. o.now) known.entry) (deed_of action) refusal) }
-        ensures parts { mine.new.parts ≡ mine.old.parts }
-        ensures counted { OnOk result (mine.new.amount ≡ mine.old.amount + 1) }
-        ensures uncounted { OnErr result (mine.new.amount ≡ mine.old.amount) }
-        ensures given { IfOk result (λ done. done.0.share.parts
-            ≡ nodes_by (kind_of (deed_of action))) }
-        ensures empty { IfOk result (λ done. done.0.share.amount ≡ 0) }
+        ensures before { IfOk result (λ done. done.0.before ≡ log.old) }
+        ensures kind { IfOk result (λ done. done.0.kind ≡ kind_of (deed_of action)) }
         ensures turn { IfOk result (λ done. is_some done.1 ≡ true
             → is_some (next_ready self.new.state) ≡ true) }
     {
-        let Some(node) = self.node_of(path, log, known) else {
+        let Some(node) = self.node_of(&log.account, known) else {
             return Err(Refusal::Strange);
         };
         let kind = action.kind();
-        if let Some(refusal) = due(known, path, log.state(), kind) {
+        if let Some(refusal) = due(known, log.account.path(), log.account.state(), kind) {
             return Err(refusal);
         }
         self.book.tree().recall_sound();
         self.book.recall_legal();
         legal_agrees();
-        match self.enter(Event { node, action }, fresh, mine) {
-            Ok(done) => Ok((done, self.begin())),
+        let before = Snapshot::of(&log.account);
+        match self.enter(Event { node, action }, fresh, &mut log.share) {
+            Ok((_node, share)) => {
+                log.account.push(copy);
+                let entered = Entered {
+                    before,
+                    kind,
+                    share,
+                };
+                Ok((entered, self.begin()))
+            }
             Err(refusal) => Err(unforeseen(known, kind, refusal)),
         }
     }
@@ -357,8 +359,8 @@ impl<L: Ledger> Room<L> {
     }
 
     /// What the domain that is next is decided on; `None` where no domain waits, and then the turn
-    /// is to be let go. A domain for which memory is refused is entered and published as decided without
-    /// memory, and the next one is taken.
+    /// is to be let go. A domain for which memory is refused is entered and published as decided
+    /// without memory, and the next one is taken.
     pub fn frozen(&mut self, _turn: &Turn<L>) -> Option<Frozen>
         ensures frozen { result ≡ frozen_of self.new }
         ensures lacking { (domains : List ℕ) × (self.new ≡ without_memory self.old domains) }

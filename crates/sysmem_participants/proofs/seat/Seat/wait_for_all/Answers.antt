@@ -9,7 +9,7 @@ pub returns : goal.returns
 returns g c =
     let after_waiting : Held =
     record {
-      path = c.self.inside.path.items;
+      path = c.self.inside.log.path;
       begun = c.self.inside.log.begun;
       deeds = c.self.inside.log.deeds;
       cell = cell_name (arc_value c.self.inside.cell);

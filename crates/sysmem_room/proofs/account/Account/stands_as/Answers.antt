@@ -2,7 +2,7 @@ use Rattle.std.proofs.Common.{◌≡◌, ◌==◌, ◌∙◌, ap, rules, slice_g
 use Rattle.std.specs.Cmp.{booleans_Decides}
 use Rattle.sysmem_room.specs.Log.{LogFacts, shown_by}
 use Rattle.sysmem_room.proofs.Owning.{as_logged, as_rooted, rooted_as}
-use Rattle.sysmem_room.proofs.log.Log.stands_as.Goals as goal
+use Rattle.sysmem_room.proofs.account.Account.stands_as.Goals as goal
 
 pub returns : goal.returns
 returns c =

@@ -3,7 +3,7 @@ use Rattle.sysmem_tree.specs.ActionKind.{deed_of}
 use Rattle.sysmem_tree.specs.Step.{shown_after_all}
 use Rattle.sysmem_room.specs.Log.{LogFacts, begun_as, shown_by}
 use Rattle.sysmem_room.proofs.Asking.{asked_done}
-use Rattle.sysmem_room.proofs.log.Log.asked.Goals as goal
+use Rattle.sysmem_room.proofs.account.Account.asked.Goals as goal
 
 pub returns : goal.returns
 returns c =
