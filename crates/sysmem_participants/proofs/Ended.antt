@@ -114,8 +114,8 @@ open_after z [] d stays opened = stays_open (kind_of d) z.state stays opened
 open_after z (x ∷ ds) d stays opened = open_after (shown_after x z) ds d stays opened
 
 -- so a log that gets it, if it is accepted, has its node open still
-pub open_still : {V A : Type 0} (entered : Result V Refusal) (old new : LogFacts) (d : Deed) → ends_node (kind_of d) ≡ false → new.begun ≡ old.begun
+pub open_still : {V : Type 0} (A : Type 0) (entered : Result V Refusal) (old new : LogFacts) (d : Deed) → ends_node (kind_of d) ≡ false → new.begun ≡ old.begun
     → OnOk entered (new.deeds ≡ old.deeds ++ d ∷ []) → OnErr entered (A × (new ≡ old)) → (shown_by old).state.is_open ≡ true → (shown_by new).state.is_open ≡ true
-open_still (Ok v) old new d stays begun logged unlogged opened =
+open_still A (Ok v) old new d stays begun logged unlogged opened =
     subst (λ z. (shown_after_all z new.deeds).state.is_open ≡ true) (sym begun) (subst (λ ds. (shown_after_all old.begun ds).state.is_open ≡ true) (sym logged) (open_after old.begun old.deeds d stays opened))
-open_still (Err r) old new d stays begun logged unlogged opened = subst (λ (l : LogFacts). (shown_by l).state.is_open ≡ true) (sym unlogged.1) opened
+open_still A (Err r) old new d stays begun logged unlogged opened = subst (λ (l : LogFacts). (shown_by l).state.is_open ≡ true) (sym unlogged.1) opened

@@ -12,7 +12,7 @@ pub invariant_of-self-2 : goal.invariant_of-self-2
 invariant_of-self-2 g c =
     let opened : (shown_by c.reserve.new.self).state.is_open ≡ true = search rules in (
       search rules,
-      open_still c.enter-entered.result.0 c.reserve.new.self c.enter-entered.new.log (deed_of c.args.action) c.requires.stays c.enter-entered.ensures.begun c.enter-entered.ensures.logged c.enter-entered.ensures.unchanged opened,
+      open_still _ c.enter-entered.result.0 c.reserve.new.self c.enter-entered.new.log (deed_of c.args.action) c.requires.stays c.enter-entered.ensures.begun c.enter-entered.ensures.logged c.enter-entered.ensures.unchanged opened,
     )
 
 pub returns-clause-foreseen : goal.returns-clause-foreseen
