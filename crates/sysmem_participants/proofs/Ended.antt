@@ -1,5 +1,5 @@
 -- What an action that ends its node is refused for: the state that the log makes of its node, and else that handle and book disagree.
-use Rattle.std.proofs.Common.{◌≡◌, ◌≢◌, ◌∙◌, ℕ, Bool, true, false, not, List, [], ◌∷◌, ◌++◌, Option, Some, None, Result, Ok, Err, refl, sym, ap, subst}
+use Rattle.std.proofs.Common.{◌≡◌, ◌≢◌, ◌∙◌, ℕ, Bool, true, false, not, List, [], ◌∷◌, ◌++◌, Option, Some, None, Result, Ok, Err, refl, sym, subst}
 use Rattle.std.specs.Prelude.{OnErr, OnOk, is_some, if◌then◌else◌}
 use Rattle.std.proofs.lemmas.Option.{same_Some}
 use Rattle.sysmem_alloc.specs.Book.{BookFacts}
@@ -48,7 +48,7 @@ by_log s kind q none is = by (allows kind s) (wants_child kind s) none is where
   by false w none is = sym (same_Some refusals.WrongState q is)
 
 -- by no verdict is it refused
-due_by_log : (known : Option Outcome) (path : List ℕ) (s : NodeState) (kind : ActionKind) → ends_node kind ≡ true → due known path s kind ≡ log_refusal s kind
+pub due_by_log : (known : Option Outcome) (path : List ℕ) (s : NodeState) (kind : ActionKind) → ends_node kind ≡ true → due known path s kind ≡ log_refusal s kind
 due_by_log None path s kind ends = refl
 due_by_log (Some o) path s kind ends = by (ends_node kind) ends where
   by : (b : Bool) → b ≡ true → first_of (if b then None else outcome_refusal o path) (log_refusal s kind) ≡ log_refusal s kind

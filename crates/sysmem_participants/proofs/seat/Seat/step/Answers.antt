@@ -1,7 +1,7 @@
 -- What is due by what the call sees in the cell, said by what the handle knew.
-use Rattle.std.proofs.Common.{◌≡◌, ◌∙◌, Some, ap, true, rules}
+use Rattle.std.proofs.Common.{◌≡◌, Some, true, rules}
 use Rattle.std.specs.Prelude.{IfSome, option_map}
-use Rattle.sysmem_room.specs.Log.{next_path, shown_by}
+use Rattle.sysmem_room.specs.Log.{shown_by}
 use Rattle.sysmem_tree.specs.ActionKind.{deed_of}
 use Rattle.sysmem_participants.proofs.Answering.{answers_by_known, enters_by_known, read_known}
 use Rattle.sysmem_participants.proofs.Ended.{open_still}
