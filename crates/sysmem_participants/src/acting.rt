@@ -139,7 +139,10 @@ impl<L: Ledger, G: Gate + Drop + Sync> Seat<L, G> {
         action: Action,
         copy: Action,
         fresh: Option<FreshCell>,
-    ) -> (Result<Entered<L>, Refusal>, Option<(Hold<L>, Note<Outcome>)>)
+    ) -> (
+        Result<Entered<L>, Refusal>,
+        Option<(Hold<L>, Note<Outcome>)>,
+    )
         requires same { deed_of copy ≡ deed_of action }
         requires fresh { is_some fresh ≡ makes_root (kind_of (deed_of action)) }
         requires stays { ends_node (kind_of (deed_of action)) ≡ false }

@@ -81,7 +81,9 @@ impl<L: Ledger, G: Gate + Drop> Seat<L, G> {
         ensures platform { IfOk result (λ child.
             (arc_value child.shared).platform ≡ self.now.platform) }
     {
-        let fresh = self.log.fresh_next(self.rules.alloc, begun, is_domain_root)?;
+        let fresh = self
+            .log
+            .fresh_next(self.rules.alloc, begun, is_domain_root)?;
         Ok(Prepared {
             shared: Arc::try_clone(&self.shared)?,
             rules: Arc::try_clone(&self.rules)?,
