@@ -34,9 +34,11 @@ noted known k new o same h = subst (λ z. IfSome z (λ x. new ≡ Some x)) same 
 own_as : (b : BookFacts) (l m : LogFacts) (seen : Option Outcome) (i : ℕ) → l.path ≡ m.path → l.begun ≡ m.begun → l.deeds ≡ m.deeds → IsOwn b l seen i → IsOwn b m seen i
 own_as b l m seen i path begun deeds own = record {
   agrees = subst (λ p. AgreesAt b p m.deeds seen i) path (subst (λ ds. AgreesAt b l.path ds seen i) deeds own.agrees);
-  state = subst (λ ds. IfSome (slice_get b.state.tree.nodes i) (λ (n : NodeFacts). n.state ≡ (shown_after_all m.begun ds).state)) deeds
-      (subst (λ z. IfSome (slice_get b.state.tree.nodes i) (λ (n : NodeFacts). n.state ≡ (shown_after_all z l.deeds).state)) begun own.state);
-  root = subst (λ z. IfSome (slice_get b.state.tree.nodes i) (λ (n : NodeFacts). (n.domain == i) ≡ z.is_domain_root)) begun own.root;
+  stands = record {
+    state = subst (λ ds. IfSome (slice_get b.state.tree.nodes i) (λ (n : NodeFacts). n.state ≡ (shown_after_all m.begun ds).state)) deeds
+        (subst (λ z. IfSome (slice_get b.state.tree.nodes i) (λ (n : NodeFacts). n.state ≡ (shown_after_all z l.deeds).state)) begun own.stands.state);
+    root = subst (λ z. IfSome (slice_get b.state.tree.nodes i) (λ (n : NodeFacts). (n.domain == i) ≡ z.is_domain_root)) begun own.stands.root;
+  };
 }
 
 -- a log is a handle's, but for how many more actions it has room

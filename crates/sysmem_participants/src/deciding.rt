@@ -1,6 +1,6 @@
 //! Decisions, taken while no one holds the lock.
 
-ghost use Rattle.std.specs.Prelude.{◌≡◌, ◌≤◌, None, IfOk};
+ghost use Rattle.std.specs.Prelude.{◌≡◌, ◌≤◌, None, option_map, IfOk};
 ghost use Rattle.std.specs.Arc.{arc_value};
 ghost use Rattle.sysmem_alloc.specs.Frozen.{frozen_of};
 ghost use Rattle.sysmem_alloc.specs.State.{next_ready};
@@ -80,13 +80,14 @@ fn claim_of<G: Gate + Sync, R: Threads + Sync>(
     Ok(Claim { verdict, proof })
 }
 
-/// What the domain that is next is decided on, in one hold, and the book as it is left then.
+/// What the domain that is next is decided on, with the turn, in one hold, and the book as it is
+/// left then.
 fn next_of<L: Ledger, R: Wait>(
     rt: &R,
     shared: &Shared<L>,
-    turn: &Turn<L>,
-) -> (Option<Frozen>, Seen<L>)
-    ensures frozen { result.0 ≡ frozen_of result.1 }
+    turn: Turn<L>,
+) -> (Option<(Frozen, Turn<L>)>, Seen<L>)
+    ensures frozen { option_map (λ next. next.0) result.0 ≡ frozen_of result.1 }
     ensures none { result.0 ≡ None → next_ready result.1.state ≡ None }
 {
     let mut room = shared.room.lock(rt);
@@ -106,12 +107,14 @@ pub(crate) fn decide<L: Ledger, G: Gate + Drop + Sync, R: Threads + Wait + Sync>
 ) -> Seen<L>
     ensures { next_ready result.state ≡ None }
 {
+    let mut turn = turn;
     for _ in rt.forever() {
-        let (next, seen) = next_of(rt, shared, &turn);
+        let (next, seen) = next_of(rt, shared, turn);
         shared.changed.notify_all();
-        let Some(frozen) = next else {
+        let Some((frozen, still)) = next else {
             return seen;
         };
+        turn = still;
         match claimed(rt, rules, &frozen) {
             Ok((claim, copy)) => {
                 let _entered = shared.room.lock(rt).conclude(&turn, frozen, claim, copy);

@@ -1,6 +1,6 @@
 //! The actions that spend a handle.
 
-ghost use Rattle.std.specs.Prelude.{◌≡◌, ◌≢◌, ◌++◌, ℕ, [], ◌∷◌, None, Some, false, true, map, option_map, IfErr, IfOk, IfSome, MatchOption, MatchResult, OnErr, OnOk};
+ghost use Rattle.std.specs.Prelude.{◌≡◌, ◌≢◌, ◌++◌, ℕ, [], ◌∷◌, None, Some, false, true, option_map, IfErr, IfOk, IfSome, MatchOption, MatchResult, OnErr, OnOk};
 ghost use Rattle.sysmem_participants.specs.Held.{AnswersAtEnd, HasActed, HasOwn, IsInBook, MayEnter, RefusesInBook, acted, left_of, state_of};
 ghost use Rattle.sysmem_alloc.specs.Book.{IsBook};
 ghost use Rattle.sysmem_room.specs.Agreeing.{IsOwn};
@@ -90,7 +90,7 @@ impl<L: Ledger, G: Gate + Drop> Seat<L, G> {
         } = self;
         Stub {
             shared,
-            log,
+            log: log.spent(),
             cell,
             note,
         }
@@ -146,7 +146,7 @@ impl<L: Ledger, G: Gate + Drop + Sync> Seat<L, G> {
             Ok(()) => {
                 let stub = Stub {
                     shared,
-                    log,
+                    log: log.spent(),
                     cell,
                     note,
                 };

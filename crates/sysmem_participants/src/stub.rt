@@ -7,13 +7,13 @@ use once_cell::race::{Note, OnceBox};
 use std::marker::Model;
 use std::sync::Arc;
 use std::sync::ledger::{Ledger, Share};
-use sysmem_room::{Log, Outcome};
+use sysmem_room::{Outcome, SpentLog};
 
 /// What is left of a handle that was spent: its node's path, its accepted actions, its share of the
 /// ledger, its cell and what it knows of that, and the platform. An audit wants one for each node.
 pub struct Stub<L: Ledger> {
     pub(crate) shared: Arc<Shared<L>>,
-    pub(crate) log: Log<L>,
+    pub(crate) log: SpentLog<L>,
     pub(crate) cell: Arc<OnceBox<Outcome>>,
     pub(crate) note: Note<Outcome>,
 }

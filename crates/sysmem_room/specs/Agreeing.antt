@@ -63,6 +63,4 @@ pub record IsAsKnown (b : BookFacts) (log : LogFacts) (known : Option Outcome)
 -- the handle's log says
 pub record IsOwn (b : BookFacts) (log : LogFacts) (known : Option Outcome) (i : ℕ) : Type 0 where
   pub agrees : AgreesAt b log.path log.deeds known i
-  pub state : IfSome (slice_get b.state.tree.nodes i) (λ n. n.state ≡ (shown_by log).state)
-  pub root : IfSome (slice_get b.state.tree.nodes i)
-      (λ n. (n.domain == i) ≡ log.begun.is_domain_root)
+  pub stands : StandsAs b.state.tree.nodes log i

@@ -15,8 +15,8 @@ use std::marker::Model;
 use sysmem_sanitise::Constraints;
 use sysmem_tree::{Action, ActionKind, NodeId, NodeKind, NodeState, Tree};
 
-/// A node's path, how it was made, and the accepted actions on it, with room for one more as long
-/// as the node is open.
+/// A log without its share, as it is before its node is made: the node's path, how it was made, and
+/// the accepted actions on it, with room for one more as long as the node is open.
 pub(crate) struct Account {
     /// One of up to four steps takes no memory.
     path: SmallVec<u32, 4>,
@@ -140,7 +140,8 @@ impl Account {
         &self.actions
     }
 
-    /// Makes room for one action beside the last; `AllocError` where memory is refused.
+    /// Makes room for one action beside the one that ends the node; `AllocError` where memory is
+    /// refused.
     pub(crate) fn reserve(&mut self) -> Result<(), AllocError>
         ensures path { self.new.path ≡ self.old.path }
         ensures begun { self.new.begun ≡ self.old.begun }
@@ -150,8 +151,8 @@ impl Account {
         self.actions.reserve(2)
     }
 
-    /// Enters an action that the node allows, where there is room for one beside the last, or the
-    /// action ends the node.
+    /// Enters an action where the node is open, and there is room for one beside the one that ends
+    /// it, or the action does.
     pub(crate) fn push(&mut self, action: Action)
         requires is_open { (shown_by self.old).state.is_open ≡ true }
         requires room { ends_node (kind_of (deed_of action)) ≡ false

@@ -1,15 +1,16 @@
 //! What lies under the lock of a collection that threads share: its book, the count of its actions,
-//! and the cells in which the outcomes of its domains are published. No call waits.
+//! and the cells in which the outcomes of its domains are published; and the logs by which handles
+//! act on it. No call waits.
 //!
 //! ```
 //! let opened = Room::<L>::open(alloc, blank, platform)?;
 //! let (mut room, mut log) = (opened.room, opened.log);
 //! let (_done, turn) = room.act(&mut log, known, Action::Release, Action::Release, None)?;
-//! if let Some(turn) = turn {
-//!     while let Some(frozen) = room.frozen(&turn) {
-//!         // a search and a proof, where nothing is locked
-//!         room.conclude(&turn, frozen, claim, copy);
-//!     }
+//! if let Some(turn) = turn
+//!     && let Some((frozen, turn)) = room.frozen(turn)
+//! {
+//!     // a search and a proof, where nothing is locked
+//!     room.conclude(&turn, frozen, claim, copy);
 //! }
 //! ```
 #![tactic(auto)]
@@ -27,7 +28,7 @@ mod verdicts;
 
 pub use agreeing::has_actions;
 pub use cell::FreshCell;
-pub use log::{Entered, FreshLog, Log};
+pub use log::{Entered, FreshLog, Log, SpentLog};
 pub use outcome::{Outcome, Ruling};
 pub use refusing::{due, is_member};
 pub use room::{Opened, Room, Turn};

@@ -14,10 +14,10 @@ use std::sync::ledger::{Ledger, Share};
 use sysmem_tree::{Action, ActionKind, NodeId, NodeKind, NodeState, Tree};
 
 /// What the handle of a node knows of it: its path, how it was made, and the accepted actions on
-/// it; and its share of the count, which has as many. There is one for each node of a book, and it
-/// has all that was ever entered on the node: `Room::open` makes that of the root, an action that
-/// was entered that of the node that it made, and nothing but `Room::act` enters an action, in both
-/// the book and the log.
+/// it; and its share of the count, which has as many. A node of a book has at most one, which has
+/// all that was ever entered on it: `Room::open` makes that of the root, an action that was entered
+/// that of the node that it made, and nothing but `Room::act` enters an action, in both the book
+/// and the log. A book is a ledger's only one.
 pub struct Log<L: Ledger> {
     pub(crate) account: Account,
     /// One part of the ledger, for the number of actions.
@@ -157,7 +157,8 @@ impl<L: Ledger> Log<L> {
         Ok(FreshLog { account })
     }
 
-    /// Makes room for one action beside the last; `AllocError` where memory is refused.
+    /// Makes room for one action beside the one that ends the node; `AllocError` where memory is
+    /// refused.
     pub fn reserve(&mut self) -> Result<(), AllocError>
         ensures path { self.new.path ≡ self.old.path }
         ensures begun { self.new.begun ≡ self.old.begun }
@@ -175,12 +176,63 @@ impl<L: Ledger> Log<L> {
         self.account.asks_as(tree, node)
     }
 
+    /// Once its handle is spent.
+    pub fn spent(self) -> SpentLog<L>
+        ensures { result ≡ self }
+    {
+        SpentLog { log: self }
+    }
+
     /// Its share alone.
-    pub fn into_share(self) -> Share<L>
+    fn into_share(self) -> Share<L>
         ensures parts { result.parts ≡ 1 }
         ensures amount { result.amount ≡ length self.deeds }
     {
         let Log { account: _, share } = self;
         share
+    }
+}
+
+/// The log of a handle that is spent, for an audit: nothing is entered by it any more.
+pub struct SpentLog<L: Ledger> {
+    log: Log<L>,
+}
+
+impl<L: Ledger> Drop for SpentLog<L> {
+    fn drop(self) {
+        let SpentLog { log: _ } = self;
+    }
+}
+
+impl<L: Ledger> Model for SpentLog<L> {
+    ghost use Rattle.sysmem_room.specs.Log.{LogFacts};
+
+    ghost Value = { LogFacts };
+
+    ghost view = { λ s. s.log };
+}
+
+impl<L: Ledger> SpentLog<L> {
+    /// The node's path.
+    pub fn path(&self) -> &[u32]
+        ensures { result.now ≡ self.now.path }
+    {
+        self.log.path()
+    }
+
+    /// The actions, the oldest first.
+    pub fn actions(&self) -> &[Action]
+        ensures { map deed_of result.now ≡ self.now.deeds }
+    {
+        self.log.actions()
+    }
+
+    /// Its share alone.
+    pub fn into_share(self) -> Share<L>
+        ensures parts { result.parts ≡ 1 }
+        ensures amount { result.amount ≡ length self.deeds }
+    {
+        let SpentLog { log } = self;
+        log.into_share()
     }
 }

@@ -101,8 +101,8 @@ pub struct Opened<L: Ledger> {
 }
 
 /// The turn to take a collection's decisions. `Room::act` alone gives one, with an action that was
-/// entered: a refused one brings no decision. It takes no bytes, and isn't to be used any more once
-/// `frozen` finds no domain that waits.
+/// entered: a refused one brings no decision. It takes no bytes, and ends where `frozen` finds no
+/// domain that waits.
 #[derive(Drop)]
 pub struct Turn<L: Ledger> {
     ledger: PhantomData<L>,
@@ -358,18 +358,20 @@ impl<L: Ledger> Room<L> {
         })
     }
 
-    /// What the domain that is next is decided on; `None` where no domain waits, and then the turn
-    /// is to be let go. A domain for which memory is refused is entered and published as decided
-    /// without memory, and the next one is taken.
-    pub fn frozen(&mut self, _turn: &Turn<L>) -> Option<Frozen>
-        ensures frozen { result ≡ frozen_of self.new }
+    /// What the domain that is next is decided on, with the turn; `None` where no domain waits, and
+    /// then the turn has ended. A domain for which memory is refused is entered and published as
+    /// decided without memory, and the next one is taken.
+    pub fn frozen(&mut self, turn: Turn<L>) -> Option<(Frozen, Turn<L>)>
+        ensures frozen { option_map (λ next. next.0) result ≡ frozen_of self.new }
         ensures lacking { (domains : List ℕ) × (self.new ≡ without_memory self.old domains) }
     {
-        let found = self.next_frozen();
-        if found.is_none() {
-            self.is_deciding = false;
+        match self.next_frozen() {
+            Some(found) => Some((found, turn)),
+            None => {
+                self.is_deciding = false;
+                None
+            }
         }
-        found
     }
 
     /// What the domain that is next is decided on, where there is memory for it.

@@ -29,13 +29,13 @@ returns-in-Err-clause-strange g c = λ strange node own.
     let legal : IsBook c.args.self.now = subst IsBook c.self.view_is c.recall_legal.ensures in
     let its : IsOwn c.args.self.now c.args.log.now known c.in-Some.node = subst (λ (l : LogFacts). IsOwn c.args.self.now l known c.in-Some.node) c.log.view_is c.in-Some.ensures.own in
     strange_disputes c.args.self.now c.args.log.now.path state deed c.in-Err.refusal c.unforeseen.result known c.in-Some.node node (agrees_of c.legal_agrees.ensures c.args.self.now legal)
-    c.in-Some.ensures.there its.state its.agrees.verdict its.agrees.at own.agrees.at none_due refused
+    c.in-Some.ensures.there its.stands.state its.agrees.verdict its.agrees.at own.agrees.at none_due refused
     (λ late. c.unforeseen.ensures.same (subst (λ k. IsUnforeseen known k c.in-Err.refusal) (sym c.kind-kind.ensures) late)) strange
 
 pub push-requires-clause-few : goal.push-requires-clause-few
 push-requires-clause-few g c =
     let tree : IsTree c.args.self.now.state.tree.nodes = search rules in
-    few_logged c.args.self.now.state.tree.nodes c.in-Some.node (shown_by c.log.inside.account).state tree c.in-Some.ensures.there c.in-Some.ensures.own.state
+    few_logged c.args.self.now.state.tree.nodes c.in-Some.node (shown_by c.log.inside.account).state tree c.in-Some.ensures.there c.in-Some.ensures.own.stands.state
 
 pub push-requires-clause-is_open : goal.push-requires-clause-is_open
 push-requires-clause-is_open g c =

@@ -1,0 +1,22 @@
+//! Changes of participants' constraints that make an empty decision one that chooses, each found by
+//! trying it: of one participant's, or two participants' exchanged; and several together, the
+//! fewest found, each as small as it can be.
+//!
+//! ```
+//! let does_one = tell_changes(&mut items, group, 0, &edits)?;
+//! if !does_one {
+//!     tell_together(&mut items, group, &edits)?;
+//! }
+//! print!(rt; "{}", text_of(rt.alloc(), &items.into_list())?)?;
+//! ```
+#![tactic(auto)]
+
+mod changes;
+mod exchanges;
+mod known;
+mod parts;
+mod together;
+mod walk;
+
+pub use changes::tell_changes;
+pub use together::tell_together;
