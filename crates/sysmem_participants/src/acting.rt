@@ -84,8 +84,11 @@ pub(crate) fn enter<L: Ledger, G: Gate + Drop + Sync, R: Threads + Wait + Sync>(
     if ends {
         shared.changed.notify_all();
     }
-    if let Some(turn) = turn {
-        let _none_waits = decide(rt, shared, rules, turn);
+    match turn {
+        Some(turn) => {
+            let _none_waits = decide(rt, shared, rules, turn);
+        }
+        None => {}
     }
     (Ok(entered), hold)
 }

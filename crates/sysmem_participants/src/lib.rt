@@ -2,20 +2,19 @@
 //! and an audit of them all at the end.
 //!
 //! ```
-//! let allocator = Allocator::new(alloc, platform, NoGate)?;
-//! let mut root = allocator.allocate_shared::<L>(blank)?;
+//! // of a collection's root token, and with a list of stubs that has room
 //! let camera = root.duplicate(&rt);
 //! match root.release(&rt) {
-//!     Ok(stub) => stubs.push(stub)?,
-//!     Err((root, refusal)) => stubs.push(root.close(&rt).0)?,
+//!     Ok(stub) => stubs.push_reserved(stub),
+//!     Err((root, refusal)) => stubs.push_reserved(root.close(&rt).0),
 //! }
 //! // on the camera's thread, with the token of `camera`
 //! match camera.bind(&rt) {
 //!     Ok(mut camera) => {
 //!         let told = negotiate(&rt, &mut camera, constraints);
-//!         stubs.push(camera.close(&rt).0)?;
+//!         stubs.push_reserved(camera.close(&rt).0);
 //!     }
-//!     Err((camera, refusal)) => stubs.push(camera.close(&rt).0)?,
+//!     Err((camera, refusal)) => stubs.push_reserved(camera.close(&rt).0),
 //! }
 //! // negotiate: it borrows the handle, so it can use `?`
 //! collection.set_constraints(&rt, Some(constraints))?;

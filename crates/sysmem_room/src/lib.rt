@@ -6,11 +6,13 @@
 //! let opened = Room::<L>::open(alloc, blank, platform)?;
 //! let (mut room, mut log) = (opened.room, opened.log);
 //! let (_done, turn) = room.act(&mut log, known, Action::Release, Action::Release, None)?;
-//! if let Some(turn) = turn
-//!     && let Some((frozen, turn)) = room.frozen(turn)
-//! {
-//!     // a search and a proof, where nothing is locked
-//!     room.conclude(&turn, frozen, claim, copy);
+//! // whoever got a turn, until `frozen` finds no domain that waits
+//! match room.frozen(turn) {
+//!     Some((frozen, turn)) => {
+//!         // a search and a proof, where nothing is locked
+//!         room.conclude(&turn, frozen, claim, copy);
+//!     }
+//!     None => {}
 //! }
 //! ```
 #![tactic(auto)]

@@ -17,7 +17,7 @@ use sysmem_tree::{Action, ActionKind, NodeId, NodeKind, NodeState, Tree};
 /// it; and its share of the count, which has as many. A node of a book has at most one, which has
 /// all that was ever entered on it: `Room::open` makes that of the root, an action that was entered
 /// that of the node that it made, and nothing but `Room::act` enters an action, in both the book
-/// and the log. A book is a ledger's only one.
+/// and the log. There is one room, and so one book, for a ledger.
 pub struct Log<L: Ledger> {
     pub(crate) account: Account,
     /// One part of the ledger, for the number of actions.

@@ -101,9 +101,8 @@ pub struct Opened<L: Ledger> {
 }
 
 /// The turn to take a collection's decisions. `Room::act` alone gives one, with an action that was
-/// entered: a refused one brings no decision. It takes no bytes, and ends where `frozen` finds no
-/// domain that waits.
-#[derive(Drop)]
+/// entered: a refused one brings no decision. It takes no bytes, and can't be let go: it ends where
+/// `frozen` finds no domain that waits.
 pub struct Turn<L: Ledger> {
     ledger: PhantomData<L>,
 }
@@ -368,6 +367,7 @@ impl<L: Ledger> Room<L> {
         match self.next_frozen() {
             Some(found) => Some((found, turn)),
             None => {
+                let Turn { ledger: _ } = turn;
                 self.is_deciding = false;
                 None
             }
