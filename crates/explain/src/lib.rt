@@ -1,9 +1,12 @@
 //! What a script means, in words: where it has a fault, why calls were refused, who is awaited,
-//! what decided each value of a choice, and who is in the way where nothing is chosen.
+//! what decided each value of a choice, and who is in the way where nothing is chosen. As text, as
+//! a page, and for programs as objects of JSON.
 //!
 //! ```
 //! let explanation = explain(rt.alloc(), "camera.json", bytes)?;
 //! print!(rt; "{}", text_of(rt.alloc(), &explanation.items)?)?;
+//! print!(rt; "{}", objects_of(rt.alloc(), "camera.json", bytes, &explanation)?)?;
+//! let outcome = explain_to_page(rt.alloc(), "camera.json", &mut reader, &mut writer, &mut page)?;
 //! ```
 #![tactic(auto)]
 
@@ -11,9 +14,13 @@ mod corrected;
 mod domains;
 mod entries;
 mod explaining;
+mod json;
 mod lines;
+mod page;
 mod written;
 
 pub use explaining::{Explanation, Outcome, explain};
 pub use explanation_text::{Item, Kind, text_of};
+pub use json::{explain_as_json, explain_as_json_to_page, objects_of};
+pub use page::{explain_to_page, explained_ending};
 pub use written::explain_file;

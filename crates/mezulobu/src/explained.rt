@@ -5,8 +5,7 @@ ghost use Rattle.serde_json.specs.View.{view};
 ghost use Rattle.mezulobu.specs.Explains.{ExplanationSays, HasFault, IsFaultOf};
 
 use crate::told::Told;
-use explain::{Outcome, explain, text_of};
-use explanation_json::objects_of;
+use explain::{Outcome, explain, objects_of, text_of};
 use script_reading::{ParseFault, ScriptFault, parse_script, read_script};
 use serde_json::Value;
 use std::alloc::{AllocError, Global};

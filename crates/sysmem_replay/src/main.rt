@@ -14,9 +14,10 @@ mod refusal;
 use byte_transfer::{Counted, Sink, Source};
 use clap::Error;
 pub use command_line::{Job, Refusal, read_words};
-pub use explain::{Outcome, explain_file};
-pub use explanation_json::{explain_as_json, explain_as_json_to_page};
-pub use explanation_page::{explain_to_page, explained_ending};
+pub use explain::{
+    Outcome, explain_as_json, explain_as_json_to_page, explain_file, explain_to_page,
+    explained_ending,
+};
 use refusal::refusal_ending;
 pub use report_json::{run_as_json, run_as_json_with_proof};
 pub use script_check::check_file;

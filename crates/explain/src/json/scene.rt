@@ -1,0 +1,100 @@
+//! What is known of the script whose explanation is told.
+
+use crate::json::object::Object;
+use record_faults::Document;
+use serde_json::Value;
+use std::alloc::{AllocError, Global};
+use story_parts::{Domain, Story, refused_calls};
+use sysmem_sanitise::Platform;
+
+/// What a script's calls did, on its platform.
+#[derive(Clone, Copy)]
+pub(crate) struct Played<'a, 'b> {
+    pub(crate) story: &'b Story<'a>,
+    pub(crate) platform: &'b Platform,
+}
+
+/// A script's text, and what its calls did, if it isn't refused.
+#[derive(Clone, Copy)]
+pub(crate) struct Scene<'a, 'b> {
+    pub(crate) document: Document<'a>,
+    pub(crate) played: Option<Played<'a, 'b>>,
+}
+
+impl Scene<'_, '_> {
+    /// The node of a name, by number.
+    pub(crate) fn node_named(&self, name: &str) -> Option<usize> {
+        for (number, node) in self.played?.story.nodes.iter().enumerate() {
+            if node.name == name {
+                return Some(number);
+            }
+        }
+        None
+    }
+
+    /// The node at a path, by number.
+    pub(crate) fn node_at(&self, path: &str) -> Option<usize> {
+        for (number, node) in self.played?.story.nodes.iter().enumerate() {
+            if node.path.as_str() == path {
+                return Some(number);
+            }
+        }
+        None
+    }
+
+    /// How many calls there are.
+    pub(crate) fn calls(&self) -> usize {
+        match self.played {
+            Some(played) => played.story.calls.len(),
+            None => 0,
+        }
+    }
+
+    /// How many of them were refused.
+    pub(crate) fn refused(&self) -> usize {
+        match self.played {
+            Some(played) => refused_calls(played.story),
+            None => 0,
+        }
+    }
+
+    /// Puts a node's name and path into an object, the path at this key.
+    pub(crate) fn put_node(
+        &self,
+        object: &mut Object,
+        key: &str,
+        node: usize,
+    ) -> Result<(), AllocError> {
+        let Some(played) = self.played else {
+            return Ok(());
+        };
+        object.say("name", played.story.name(node))?;
+        object.say(key, played.story.path(node))
+    }
+
+    /// A node's name and path.
+    pub(crate) fn node_value(&self, alloc: Global, node: usize) -> Result<Value, AllocError> {
+        let mut object = Object::new(alloc);
+        self.put_node(&mut object, "path", node)?;
+        Ok(object.into_value())
+    }
+
+    /// What became of each domain: `{"domain":"/","name":"root","verdict":"empty"}`.
+    pub(crate) fn domains(&self, alloc: Global) -> Result<Vec<Value>, AllocError> {
+        let mut values = Vec::new(alloc);
+        let Some(played) = self.played else {
+            return Ok(values);
+        };
+        for domain in &played.story.domains {
+            values.push(self.domain_value(alloc, domain)?)?;
+        }
+        Ok(values)
+    }
+
+    fn domain_value(&self, alloc: Global, domain: &Domain<'_>) -> Result<Value, AllocError> {
+        let mut object = Object::new(alloc);
+        self.put_node(&mut object, "domain", domain.root)?;
+        object.say("verdict", domain.verdict())?;
+        Ok(object.into_value())
+    }
+}

@@ -1,0 +1,145 @@
+//! The lines of an explanation, item by item.
+
+ghost use Rattle.std.specs.Prelude.{IfOk};
+ghost use Rattle.std.specs.String.{string_bytes};
+ghost use Rattle.explain.specs.Lines.{IsLineOf};
+
+use crate::json::changes::{change_value, is_change};
+use crate::json::item_object::{put_form, put_item};
+use crate::json::object::Object;
+use crate::json::scene::Scene;
+use explanation_text::{Item, Kind};
+use report_json::decision_object;
+use serde_json::Value;
+use std::alloc::{AllocError, Global};
+use std::mem;
+
+/// What is kept from item to item.
+#[derive(Drop)]
+pub(crate) struct Telling<'a, 'b> {
+    scene: Scene<'a, 'b>,
+    /// The root of the domain whose section it is, by number.
+    root: Option<usize>,
+    /// How deep the item stands that tells of calls made otherwise, if the words below it tell what
+    /// these would do.
+    then: Option<usize>,
+    /// The changes that no decision followed yet.
+    changes: Vec<Value>,
+}
+
+impl<'a, 'b> Telling<'a, 'b> {
+    pub(crate) fn new(alloc: Global, scene: Scene<'a, 'b>) -> Telling<'a, 'b> {
+        Telling {
+            scene,
+            root: None,
+            then: None,
+            changes: Vec::new(alloc),
+        }
+    }
+
+    /// The line of the next item.
+    pub(crate) fn line(&mut self, item: &Item) -> Result<String, AllocError>
+        ensures { IfOk result (λ line. IsLineOf (string_bytes item.now.text) (string_bytes line)) }
+    {
+        let object = self.object(item)?;
+        let line = object.into_line(&item.text)?;
+        Ok(line)
+    }
+
+    /// What the line says beside the text.
+    fn object(&mut self, item: &Item) -> Result<Object, AllocError> {
+        let alloc = *item.text.allocator();
+        let mut object = Object::new(alloc);
+        if self.is_below_then(item) {
+            put_form(&mut object, item)?;
+        } else {
+            put_item(&mut object, &self.scene, item)?;
+        }
+        match item.kind {
+            Kind::Title => self.begin(&mut object, item)?,
+            Kind::Decision => self.decide(&mut object, item)?,
+            Kind::Words => self.keep(item)?,
+            _ => {}
+        }
+        if let Some(root) = self.root {
+            self.put_domain(&mut object, root, item.kind == Kind::Title)?;
+        }
+        Ok(object)
+    }
+
+    /// Whether these are words on what calls would do that are made otherwise: the numbers and
+    /// names in them are of another script.
+    fn is_below_then(&mut self, item: &Item) -> bool {
+        match self.then {
+            Some(depth) if item.depth > depth && item.kind == Kind::Words => true,
+            _ => {
+                self.then = if item.label == "then" {
+                    Some(item.depth)
+                } else {
+                    None
+                };
+                false
+            }
+        }
+    }
+
+    /// Begins a section: `domain / (root): empty, after call 7 (set_constraints encoder)`.
+    fn begin(&mut self, object: &mut Object, item: &Item) -> Result<(), AllocError> {
+        self.root = None;
+        self.changes.clear();
+        let Some(named) = item.text.as_str().strip_prefix("domain ") else {
+            return Ok(());
+        };
+        let (path, more) = named.split_once(' ').unwrap_or((named, ""));
+        self.root = self.scene.node_at(path);
+        let (_, told) = more.split_once("): ").unwrap_or(("", ""));
+        let (verdict, _) = told.split_once(',').unwrap_or((told, ""));
+        object.say("verdict", verdict)
+    }
+
+    /// Puts whose section it is, in its title with the name.
+    fn put_domain(
+        &self,
+        object: &mut Object,
+        root: usize,
+        is_title: bool,
+    ) -> Result<(), AllocError> {
+        if is_title {
+            return self.scene.put_node(object, "domain", root);
+        }
+        match self.scene.played {
+            Some(played) => object.say("domain", played.story.path(root)),
+            None => Ok(()),
+        }
+    }
+
+    /// Keeps a change until its decision comes; with those before it, if they are made together.
+    fn keep(&mut self, item: &Item) -> Result<(), AllocError> {
+        if item.label != "and" {
+            self.changes.clear();
+        }
+        if !is_change(item.label) {
+            return Ok(());
+        }
+        let value = change_value(*item.text.allocator(), &self.scene, &item.text)?;
+        self.changes.push(value)?;
+        Ok(())
+    }
+
+    /// Puts a decision, and the changes with which it would come.
+    fn decide(&mut self, object: &mut Object, item: &Item) -> Result<(), AllocError> {
+        let alloc = object.alloc();
+        let changes = mem::replace(&mut self.changes, Vec::new(alloc));
+        object.list("changes", changes)?;
+        let (Some(root), Some(played)) = (self.root, self.scene.played) else {
+            return Ok(());
+        };
+        let path = played.story.path(root);
+        let name = played.story.name(root);
+        let told = decision_object(alloc, played.platform, path, Some(name), &item.text)?;
+        match Value::from_str(alloc, &told) {
+            Ok(decision) => object.put("decision", decision),
+            Err(_) => Err(AllocError),
+        }
+    }
+}

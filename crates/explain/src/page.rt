@@ -1,0 +1,9 @@
+//! A script's explanation, written as text and as a page, and how it ends the program.
+
+mod ending;
+mod paged;
+mod proofs;
+mod written;
+
+pub use ending::explained_ending;
+pub use written::explain_to_page;

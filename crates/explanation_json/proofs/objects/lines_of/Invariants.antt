@@ -1,8 +1,0 @@
--- A line for each item so far.
-use Rattle.std.proofs.Common.{take}
-use Rattle.std.specs.String.{string_bytes}
-use Rattle.explanation_json.specs.Lines.{AreLinesOf, item_texts}
-use Rattle.explanation_json.proofs.objects.lines_of.Given as goal
-
-abbrev pub invariant-loop-index : goal.invariant-loop-index
-invariant-loop-index l = AreLinesOf (item_texts (take l.index l.items)) (string_bytes l.text)
