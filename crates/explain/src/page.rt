@@ -1,5 +1,6 @@
 //! A script's explanation, written as text and as a page, and how it ends the program.
 
+mod drawing;
 mod ending;
 mod paged;
 mod proofs;

@@ -1,5 +1,6 @@
 //! The page of a script, whose calls are made once more for it.
 
+use crate::page::drawing::drawing_of;
 use crate::page::proofs::proofs_of;
 use explanation_markup::page_of;
 use explanation_text::Item;
@@ -7,7 +8,6 @@ use script_reading::{ParseFault, Script, parse_script, read_script};
 use script_story::{Effort, Setting, story_of};
 use serde_json::Value;
 use std::alloc::{AllocError, Global};
-use story_drawing::drawing_of;
 use story_parts::Story;
 use sysmem_sanitise::Platform;
 

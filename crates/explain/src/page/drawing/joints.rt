@@ -1,7 +1,7 @@
 //! The nodes of a collection as the joints of a tree.
 
-use crate::hindering::in_the_way_of;
-use crate::states::{standing_of, state_of};
+use crate::page::drawing::hindering::in_the_way_of;
+use crate::page::drawing::states::{standing_of, state_of};
 use explanation_markup::{Drawing, Joint, Shape};
 use std::alloc::{AllocError, Global};
 use story_parts::Story;

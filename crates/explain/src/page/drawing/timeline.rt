@@ -1,13 +1,13 @@
 //! The calls by actor, and the decisions where they came.
 
-use crate::joints::add_joints;
+use crate::page::drawing::joints::add_joints;
 use explanation_markup::{Drawing, Line, Standing};
 use std::alloc::{AllocError, Global};
 use story_parts::{Domain, Made, Story};
 use sysmem_sanitise::Platform;
 
 /// What a page shows of a story, but for what proves its decisions.
-pub fn drawing_of<'b>(
+pub(crate) fn drawing_of<'b>(
     alloc: Global,
     platform: &Platform,
     story: &'b Story<'_>,
