@@ -39,7 +39,8 @@ OF_PROGRAM := names reports json_reports refusals records values every_selection
 	json_explanations
 
 .PHONY: built-test $(OF_TEXT) $(OF_PROGRAM:%=tests/%)
-built-test: $(OF_TEXT) $(OF_PROGRAM:%=tests/%) lib-test
+# The longest first.
+built-test: lib-test $(OF_TEXT) $(OF_PROGRAM:%=tests/%)
 
 $(OF_TEXT):
 	$@ --check
