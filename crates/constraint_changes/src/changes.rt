@@ -3,21 +3,19 @@
 ghost use Rattle.std.specs.Prelude.{map};
 ghost use Rattle.std.specs.String.{string_bytes};
 ghost use Rattle.script_reading.specs.Seen.{call_seen};
-ghost use Rattle.constraint_trials.specs.Edited.{IsPromised};
+ghost use Rattle.constraint_changes.specs.Edited.{IsPromised};
 
 use crate::exchanges::try_exchanges;
-use constraint_edits::{Edit, changes, edited, is_absurd};
-use constraint_trials::{
+use crate::trials::{
     Change, Found, Group, Party, Stated, Trial, are_sized, can_help, change_leaves_none,
     entries_behind, has_groups, is_worth, leaves_none, parties_of, put_choice,
 };
-use domain_reasons::{choices_in, room_needed};
+use constraint_edits::{Edit, changes, edited, is_absurd};
 use explanation_text::{Items, Kind};
-use script_story::Effort;
+use script_story::{Deed, Effort, Story, asked_in, choices_in, room_needed};
+use settings_reasons::Asked;
 use std::alloc::{AllocError, Global};
 use std::slice::from_ref;
-use story_parts::{Deed, Story, asked_in};
-use value_sources::Asked;
 
 /// How many changes are told.
 const MOST: usize = 5;

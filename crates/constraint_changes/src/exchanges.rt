@@ -3,16 +3,14 @@
 ghost use Rattle.std.specs.Prelude.{map, IfOk, IfSome};
 ghost use Rattle.std.specs.String.{string_bytes};
 ghost use Rattle.script_reading.specs.Seen.{call_seen};
-ghost use Rattle.constraint_trials.specs.Edited.{IsPromisedSo};
+ghost use Rattle.constraint_changes.specs.Edited.{IsPromisedSo};
 
 use crate::changes::Search;
-use constraint_trials::{Group, Stated, chosen_with, leaves_none, put_choice, put_line, restated};
-use domain_reasons::{are_exchanged, choices_in};
-use script_story::Setting;
+use crate::trials::{Group, Stated, chosen_with, leaves_none, put_choice, put_line, restated};
+use script_story::{Deed, Setting, Story, are_exchanged, asked_in, choices_in};
 use serde_json::Value;
+use settings_reasons::Asked;
 use std::alloc::{AllocError, Global};
-use story_parts::{Deed, Story, asked_in};
-use value_sources::Asked;
 
 /// How many pairs of participants are tried.
 const MOST: usize = 24;

@@ -1,6 +1,6 @@
 //! Changes of participants' constraints that make an empty decision one that chooses, each found by
-//! trying it: of one participant's, or two participants' exchanged; and several together, the
-//! fewest found, each as small as it can be.
+//! trying it with a run of the changed script: of one participant's, or two participants'
+//! exchanged; and several together, the fewest found, each as small as it can be.
 //!
 //! ```
 //! let does_one = tell_changes(&mut items, group, 0, &edits)?;
@@ -16,7 +16,9 @@ mod exchanges;
 mod known;
 mod parts;
 mod together;
+mod trials;
 mod walk;
 
 pub use changes::tell_changes;
 pub use together::tell_together;
+pub use trials::{Group, Trial, entry_place, line_at, put_choice, takes};

@@ -3,24 +3,23 @@
 ghost use Rattle.std.specs.Prelude.{map, IfOk, IfSome};
 ghost use Rattle.std.specs.String.{string_bytes};
 ghost use Rattle.script_reading.specs.Seen.{call_seen};
-ghost use Rattle.constraint_trials.specs.Edited.{IsPromisedSo};
+ghost use Rattle.constraint_changes.specs.Edited.{IsPromisedSo};
 
 use crate::known::{Known, Shelf};
 use crate::parts::{
     Part, after, all_but, asked_with, has_own, own_of, set_amount, takes_cpu, with_cpu,
 };
-use crate::walk::Walk;
-use constraint_edits::{Amount, Edit, Halving, changes, is_absurd};
-use constraint_trials::{
+use crate::trials::{
     Group, MOST_HALVINGS, Party, Read, Stated, are_sized, chosen_with, is_worth, leave_none,
     parties_of, put_choice, put_line, restated,
 };
-use domain_reasons::choices_in;
+use crate::walk::Walk;
+use constraint_edits::{Amount, Edit, Halving, changes, is_absurd};
 use explanation_text::Items;
+use script_story::{Deed, choices_in};
 use serde_json::Value;
+use settings_reasons::Asked;
 use std::alloc::{AllocError, Global};
-use story_parts::Deed;
-use value_sources::Asked;
 
 /// How many changes are made at once at most.
 const MOST: usize = 96;

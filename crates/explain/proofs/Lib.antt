@@ -1,2 +1,3 @@
 mod Ends
 mod More
+mod Spelling

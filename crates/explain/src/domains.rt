@@ -1,19 +1,16 @@
 //! What became of each domain, why, and what would help.
 
 use crate::entries::tell_unused;
-use constraint_changes::{tell_changes, tell_together};
+use constraint_changes::{Group, tell_changes, tell_together};
 use constraint_edits::edits_on;
-use constraint_trials::Group;
-use domain_reasons::tell_domain;
 use explanation_text::Items;
 use other_outcomes::{
     tell_ended_later, tell_heaps, tell_later_children, tell_later_pairs, tell_platform, tell_then,
     tell_without,
 };
-use record_faults::Document;
-use script_story::Setting;
+use script_faults::Document;
+use script_story::{Setting, Story, asked_in, tell_domain};
 use std::alloc::AllocError;
-use story_parts::{Story, asked_in};
 
 /// Tells each domain, in the order of the report.
 pub(crate) fn tell_domains(

@@ -4,22 +4,18 @@
 ghost use Rattle.std.specs.Prelude.{map};
 ghost use Rattle.std.specs.String.{string_bytes};
 ghost use Rattle.script_reading.specs.Seen.{call_seen};
-ghost use Rattle.constraint_trials.specs.Edited.{IsPromised};
+ghost use Rattle.constraint_changes.specs.Edited.{IsPromised};
 
+use constraint_changes::{Trial, entry_place, line_at, put_choice, takes};
 use constraint_edits::{Edit, edited};
-use constraint_trials::{Trial, entry_place, line_at, put_choice, takes};
-use domain_reasons::choices_in;
-use explanation_text::{Items, Kind};
-use json_places::Step;
-use record_faults::{Document, Part};
-use script_story::Setting;
+use explanation_text::{Items, Kind, Step};
+use script_faults::{Document, Part};
+use script_story::{Deed, Setting, Story, asked_in, choices_in};
 use serde_json::Value;
-use settings_reasons::{holder_of, unused_entries};
+use settings_reasons::{Asked, holder_of, unused_entries};
 use std::alloc::{AllocError, Global};
 use std::fmt::Write;
-use story_parts::{Deed, Story, asked_in};
 use sysmem_formats::{Modifier, Pair, PixelFormat};
-use value_sources::Asked;
 
 /// How many are told of one participant.
 const MOST: usize = 3;

@@ -3,17 +3,13 @@
 use crate::corrected::{meant_in, tell_corrected};
 use crate::domains::tell_domains;
 use crate::lines::with_lines;
-use domain_reasons::answer_of;
-use explanation_text::{Item, Items, Kind};
-use json_places::{Span, column_of, line_of, repeated_keys};
+use explanation_text::{Item, Items, Kind, Span, column_of, line_of, repeated_keys};
 use other_outcomes::tell_moved;
-use record_faults::Document;
-use script_faults::{tell_fault, tell_no_json};
+use script_faults::{Document, tell_fault, tell_no_json};
 use script_reading::{ParseFault, Script, ScriptFault, parse_script, read_script};
-use script_story::{Effort, Setting, story_of};
+use script_story::{Effort, Setting, Story, answer_of, refused_calls, story_of, tell_refused};
 use serde_json::Value;
 use std::alloc::{AllocError, Global};
-use story_parts::{Story, refused_calls, tell_refused};
 
 /// How many keys that are given twice are shown.
 const MOST_KEYS: usize = 6;

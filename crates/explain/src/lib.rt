@@ -16,6 +16,7 @@ mod entries;
 mod explaining;
 mod json;
 mod lines;
+mod markup;
 mod page;
 mod written;
 

@@ -1,11 +1,10 @@
 //! Where the fields stand in the script's text that the section of an empty domain names.
 
-use explanation_text::{Item, Kind};
-use json_places::{Step, line_of};
-use record_faults::{Document, Part};
+use explanation_text::{Item, Kind, Step, line_of};
+use script_faults::{Document, Part};
+use script_story::{Deed, Story, put_domain};
 use std::alloc::{AllocError, Global};
 use std::fmt::Write;
-use story_parts::{Deed, Story, put_domain};
 
 /// How many participants' fields are told.
 const MOST: usize = 6;

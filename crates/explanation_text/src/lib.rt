@@ -1,20 +1,28 @@
 //! What is told, as a list of items, and its text: lines of words, and lines of a source with
-//! carets below a part of them.
+//! carets below a part of them; and where the values of a JSON text stand in it.
 //!
 //! ```
 //! let mut items = Items::new(rt.alloc());
 //! items.say(1, "who", String::from_str(rt.alloc(), "camera /0 and display /1")?)?;
 //! print!(rt; "{}", text_of(rt.alloc(), &items.into_list())?)?;
+//! if let Some(span) = span_of(rt.alloc(), bytes, &[Step::Key("calls"), Step::Item(3)], &value)? {
+//!     println!(rt; "line {}", line_of(bytes, span.start))?;
+//! }
 //! ```
 #![tactic(auto)]
 
 mod items;
 mod near;
+mod places;
 mod printing;
 mod snippet;
 pub mod wording;
 
 pub use items::{Item, Items, Kind, are_same};
 pub use near::nearest;
+pub use places::{
+    Expected, Span, Step, Stop, begins_character, characters, column_of, end_of_line, key_span_of,
+    line_of, repeated_keys, span_of, start_of_line, stop_of, value_at,
+};
 pub use printing::text_of;
 pub use snippet::{Mark, show};

@@ -1,10 +1,10 @@
 //! A line of a text with carets below a part of it.
 
 use crate::items::{Items, Kind};
-use crate::wording::{put_repeated, put_visible, width_of};
-use json_places::{
+use crate::places::{
     Span, begins_character, characters, column_of, end_of_line, line_of, start_of_line,
 };
+use crate::wording::{put_repeated, put_visible, width_of};
 use std::alloc::{AllocError, Global};
 
 /// How many characters of a line are shown.

@@ -1,4 +1,5 @@
 mod Corners
+mod HeapList
 mod Images
 mod Lists
 mod Writable

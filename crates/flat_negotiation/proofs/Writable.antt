@@ -14,9 +14,9 @@ use Rattle.sysmem_merge.specs.Best.{IsBest}
 use Rattle.sysmem_merge.specs.declared.settings.Settings.{Settings}
 use Rattle.negotiation_inputs.specs.Participant.{Participant}
 use Rattle.negotiation_inputs.specs.Platform.{PlatformFacts, offers_of}
-use Rattle.flat_parts.specs.Pairs.{IsPairSaid}
-use Rattle.flat_parts.specs.declared.flat.FlatPair.{FlatPair}
-use Rattle.flat_parts.specs.declared.flat.FlatPlatform.{FlatPlatform}
+use Rattle.flat_negotiation.specs.Pairs.{IsPairSaid}
+use Rattle.flat_negotiation.specs.declared.parts.flat.FlatPair.{FlatPair}
+use Rattle.flat_negotiation.specs.declared.parts.flat.FlatPlatform.{FlatPlatform}
 use Rattle.flat_negotiation.specs.Said.{IsPlatformSaid}
 use Rattle.flat_negotiation.specs.Written.{CanBeWritten, HoldsOffer}
 

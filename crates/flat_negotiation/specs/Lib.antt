@@ -1,8 +1,16 @@
 pub mod Blame
+pub mod Colours
+pub mod Entries
+pub mod Heaps
+pub mod Layout
 pub mod Nearness
 pub mod Own
+pub mod Pairs
 pub mod Refusals
 pub mod Said
+pub mod Stated
 pub mod Takes
+pub mod Unsaid
 pub mod Unsettled
+pub mod Wishes
 pub mod Written

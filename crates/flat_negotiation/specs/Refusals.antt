@@ -9,7 +9,7 @@ use Rattle.sysmem_formats.specs.declared.offer.Offer.TheVariants as offer
 use Rattle.sysmem_merge.specs.declared.reason.Reason.{Reason}
 use Rattle.sysmem_merge.specs.declared.reason.Reason.TheVariants.{Count, NoPlace, NoOffer}
 use Rattle.sysmem_merge.specs.declared.settings.Settings.{Settings}
-use Rattle.flat_parts.specs.Colours.{colour_bit}
+use Rattle.flat_negotiation.specs.Colours.{colour_bit}
 use Rattle.flat_negotiation.specs.declared.flat.FlatRefusal.{FlatRefusal}
 use Rattle.flat_negotiation.specs.declared.unsettled.Refusal.{Refusal}
 use Rattle.flat_negotiation.specs.declared.unsettled.Unsettled.{Unsettled}

@@ -9,15 +9,15 @@ use Rattle.sysmem_image.specs.declared.entry.Entry.{Entry}
 use Rattle.negotiation_inputs.specs.Amiss.{PlatformAmiss, ParticipantAmiss}
 use Rattle.negotiation_inputs.specs.Participant.{IsParticipant, Participant}
 use Rattle.negotiation_inputs.specs.Platform.{IsPlatform, PlatformFacts}
-use Rattle.flat_parts.specs.declared.flat.FlatParticipant.{FlatParticipant}
-use Rattle.flat_parts.specs.declared.flat.FlatPlatform.{FlatPlatform}
-use Rattle.flat_parts.specs.declared.unsaid.Amiss.{Amiss}
-use Rattle.flat_parts.specs.Colours.{ColourUnsaid, IsColourSaid}
-use Rattle.flat_parts.specs.Entries.{EntryUnsaid, IsEntrySaid}
-use Rattle.flat_parts.specs.Heaps.{heaps_said}
-use Rattle.flat_parts.specs.Pairs.{IsPairSaid, PairUnsaid}
-use Rattle.flat_parts.specs.Unsaid.{IsAmiss}
-use Rattle.flat_parts.specs.Wishes.{counts_said, memory_said}
+use Rattle.flat_negotiation.specs.declared.parts.flat.FlatParticipant.{FlatParticipant}
+use Rattle.flat_negotiation.specs.declared.parts.flat.FlatPlatform.{FlatPlatform}
+use Rattle.flat_negotiation.specs.declared.parts.unsaid.Amiss.{Amiss}
+use Rattle.flat_negotiation.specs.Colours.{ColourUnsaid, IsColourSaid}
+use Rattle.flat_negotiation.specs.Entries.{EntryUnsaid, IsEntrySaid}
+use Rattle.flat_negotiation.specs.Heaps.{heaps_said}
+use Rattle.flat_negotiation.specs.Pairs.{IsPairSaid, PairUnsaid}
+use Rattle.flat_negotiation.specs.Unsaid.{IsAmiss}
+use Rattle.flat_negotiation.specs.Wishes.{counts_said, memory_said}
 
 -- the platform has the heaps, pairs and colour spaces of the struct, and may have them
 pub record IsPlatformSaid (flat : FlatPlatform) (platform : PlatformFacts) : Type 0 where

@@ -6,8 +6,8 @@ use Rattle.negotiation_inputs.specs.Participant.{Participant}
 use Rattle.negotiation_inputs.specs.Platform.{PlatformFacts}
 use Rattle.sysmem_merge.specs.Best.{IsBest}
 use Rattle.sysmem_merge.specs.declared.settings.Settings.{Settings}
-use Rattle.flat_parts.specs.declared.flat.FlatParticipant.{FlatParticipant}
-use Rattle.flat_parts.specs.declared.flat.FlatPlatform.{FlatPlatform}
+use Rattle.flat_negotiation.specs.declared.parts.flat.FlatParticipant.{FlatParticipant}
+use Rattle.flat_negotiation.specs.declared.parts.flat.FlatPlatform.{FlatPlatform}
 use Rattle.flat_negotiation.specs.declared.unsettled.Refusal.{Refusal}
 use Rattle.flat_negotiation.specs.declared.unsettled.Unsettled.{Unsettled}
 use Rattle.flat_negotiation.specs.declared.unsettled.Unsettled.TheVariants as why

@@ -11,8 +11,8 @@ use Rattle.sysmem_memory.specs.declared.domain.CoherencyDomain.{CoherencyDomain}
 use Rattle.sysmem_memory.specs.declared.domain.CoherencyDomain.TheVariants.{Cpu, Ram, Inaccessible}
 use Rattle.sysmem_merge.specs.Fit.{IsSoundFit, fit_of}
 use Rattle.sysmem_merge.specs.declared.settings.Settings.{Settings}
-use Rattle.flat_parts.specs.Colours.{colour_bit}
-use Rattle.flat_parts.specs.Layout.{IsPairLayout, no_layout}
+use Rattle.flat_negotiation.specs.Colours.{colour_bit}
+use Rattle.flat_negotiation.specs.Layout.{IsPairLayout, no_layout}
 use Rattle.flat_negotiation.specs.declared.flat.FlatImage.{FlatImage}
 use Rattle.flat_negotiation.specs.declared.flat.FlatSettings.{FlatSettings}
 

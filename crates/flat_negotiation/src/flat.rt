@@ -1,6 +1,6 @@
 //! What a C program is told.
 
-use flat_parts::FlatLayout;
+use crate::parts::FlatLayout;
 
 /// An image: its DRM codes, the bit of its colour space, its sides in pixels, and where it lies.
 /// All of it is 0 where there is no image.

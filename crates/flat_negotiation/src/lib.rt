@@ -1,10 +1,11 @@
 //! A list of participants without groups, from the structs of a C program: the best settings for
-//! all of them, or who is in the way.
+//! all of them, or who is in the way; and the layout of an image.
 #![tactic(auto)]
 
 mod blaming;
 mod flat;
 mod negotiating;
+mod parts;
 mod refusal;
 mod said;
 mod settling;
@@ -14,6 +15,10 @@ mod written;
 
 pub use flat::{FlatImage, FlatRefusal, FlatSettings};
 pub use negotiating::negotiate;
+pub use parts::{
+    Amiss, FlatEntry, FlatHeap, FlatLayout, FlatPair, FlatParticipant, FlatPlane, FlatPlatform,
+    FlatSize, layout_of,
+};
 pub use refusal::refusal_of;
 pub use unsettled::{Refusal, Stop, Unsettled};
 pub use written::settings_of;

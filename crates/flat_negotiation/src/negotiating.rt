@@ -4,10 +4,10 @@ ghost use Rattle.std.specs.Prelude.{IfErr, IfOk};
 ghost use Rattle.flat_negotiation.specs.Unsettled.{AreSettled, AreUnsettled};
 ghost use Rattle.flat_negotiation.specs.Written.{CanBeWritten};
 
+use crate::parts::{FlatParticipant, FlatPlatform, Unsaid};
 use crate::said::{participants_of, platform_of};
 use crate::settling::settled;
 use crate::unsettled::Unsettled;
-use flat_parts::{FlatParticipant, FlatPlatform, Unsaid};
 use std::alloc::Global;
 use sysmem_merge::Settings;
 

@@ -6,9 +6,9 @@ ghost use Rattle.drm_images.specs.Codes.{fourcc};
 ghost use Rattle.flat_negotiation.specs.Refusals.{field_number, flat_refusal, kind_of, refusal_with, unmet_refusal, with_offer, with_shared};
 
 use crate::flat::FlatRefusal;
+use crate::parts::{code_of, colour_bit, modifier_code};
 use crate::unsettled::{Refusal, Unsettled};
 use crate::written::domain_code;
-use flat_parts::{code_of, colour_bit, modifier_code};
 use sysmem_counts::Field;
 use sysmem_formats::{Offer, PixelFormat};
 use sysmem_merge::{Reason, Settings};

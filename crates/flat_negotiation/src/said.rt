@@ -2,15 +2,15 @@
 
 ghost use Rattle.std.specs.Prelude.{◌≡◌, ◌++◌, ◌∷◌, [], IfErr, IfOk, OnOk};
 ghost use Rattle.std.specs.List.{AllZip};
-ghost use Rattle.flat_parts.specs.Unsaid.{IfAmiss};
+ghost use Rattle.flat_negotiation.specs.Unsaid.{IfAmiss};
 ghost use Rattle.flat_negotiation.specs.Said.{IsParticipantAmiss, IsParticipantSaid, IsPlatformAmiss, IsPlatformSaid};
 ghost use Rattle.flat_negotiation.specs.Unsettled.{IsStructAmiss};
 
-use crate::unsettled::Unsettled;
-use flat_parts::{
+use crate::parts::{
     Amiss, FlatParticipant, FlatPlatform, Unsaid, colours_of, counts_of, entries_of, heaps_of,
     memory_of, pairs_of, usage_of,
 };
+use crate::unsettled::Unsettled;
 use negotiation_inputs::{Constraints, Platform};
 use std::alloc::{AllocError, Global};
 

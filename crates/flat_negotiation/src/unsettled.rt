@@ -2,7 +2,7 @@
 
 ghost use Rattle.std.specs.Prelude.{◌≡◌};
 
-use flat_parts::Amiss;
+use crate::parts::Amiss;
 use std::alloc::AllocError;
 use sysmem_counts::Field;
 use sysmem_formats::Offer;

@@ -6,7 +6,7 @@ ghost use Rattle.drm_images.specs.Planes.{bytes_of};
 ghost use Rattle.flat_negotiation.specs.Written.{CanBeWritten, HasImage, HoldsOffer, IsImageWritten, IsLaid, IsOfferWritten, IsWritten, domain_code, no_image};
 
 use crate::flat::{FlatImage, FlatSettings};
-use flat_parts::{code_of, colour_bit, layout_in, modifier_code, no_layout};
+use crate::parts::{code_of, colour_bit, layout_in, modifier_code, no_layout};
 use sysmem_formats::{ColourSpace, Offer, Pair};
 use sysmem_image::laws::no_corner;
 use sysmem_image::{Corner, corner};

@@ -1,7 +1,7 @@
 -- How calls end, by whether a text has room.
 use Rattle.std.proofs.Common.{◌≡◌, refl, ℕ, ◌<◌, ◌⊎◌, List, length, subst, sym}
-use Rattle.flat_parts.specs.declared.flat.FlatParticipant.{FlatParticipant}
-use Rattle.flat_parts.specs.declared.flat.FlatPlatform.{FlatPlatform}
+use Rattle.flat_negotiation.specs.declared.parts.flat.FlatParticipant.{FlatParticipant}
+use Rattle.flat_negotiation.specs.declared.parts.flat.FlatPlatform.{FlatPlatform}
 use Rattle.flat_negotiation.specs.declared.flat.FlatRefusal.{FlatRefusal}
 use Rattle.flat_negotiation.specs.declared.flat.FlatSettings.{FlatSettings}
 use Rattle.flat_negotiation.specs.declared.unsettled.Unsettled.{Unsettled}

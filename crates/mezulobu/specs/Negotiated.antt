@@ -1,8 +1,8 @@
 -- How a negotiation of structs ends.
 use Rattle.std.specs.Prelude.{◌≡◌, ℕ, List}
 use Rattle.sysmem_merge.specs.declared.settings.Settings.{Settings}
-use Rattle.flat_parts.specs.declared.flat.FlatParticipant.{FlatParticipant}
-use Rattle.flat_parts.specs.declared.flat.FlatPlatform.{FlatPlatform}
+use Rattle.flat_negotiation.specs.declared.parts.flat.FlatParticipant.{FlatParticipant}
+use Rattle.flat_negotiation.specs.declared.parts.flat.FlatPlatform.{FlatPlatform}
 use Rattle.flat_negotiation.specs.declared.flat.FlatRefusal.{FlatRefusal}
 use Rattle.flat_negotiation.specs.declared.flat.FlatSettings.{FlatSettings}
 use Rattle.flat_negotiation.specs.declared.unsettled.Unsettled.{Unsettled}

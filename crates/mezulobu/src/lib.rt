@@ -12,7 +12,7 @@ mod words;
 
 ghost use Rattle.std.specs.Prelude.{◌≡◌, ◌⊎◌, ℕ, List};
 ghost use Rattle.mezulobu.specs.Ends.{Ends, EndsBoth};
-ghost use Rattle.flat_parts.specs.Layout.{IsLayout, IsNoLayout};
+ghost use Rattle.flat_negotiation.specs.Layout.{IsLayout, IsNoLayout};
 ghost use Rattle.mezulobu.specs.Explains.{ExplanationSays};
 ghost use Rattle.mezulobu.specs.Negotiated.{Negotiates, status_of};
 ghost use Rattle.mezulobu.specs.Says.{CheckSays, ProvedRunSays, RunSays};
@@ -20,8 +20,10 @@ ghost use Rattle.mezulobu.specs.Says.{CheckSays, ProvedRunSays, RunSays};
 use crate::buffer::{hand_out, hand_out_both};
 use crate::explained::explanation_told;
 use crate::told::{check_told, proved_run_told, run_told};
-use flat_negotiation::{FlatRefusal, FlatSettings, Unsettled, negotiate, refusal_of, settings_of};
-use flat_parts::{FlatLayout, FlatParticipant, FlatPlatform, layout_of};
+use flat_negotiation::{
+    FlatLayout, FlatParticipant, FlatPlatform, FlatRefusal, FlatSettings, Unsettled, layout_of,
+    negotiate, refusal_of, settings_of,
+};
 use std::alloc::Global;
 
 const DONE: u32 = 0;

@@ -7,9 +7,8 @@ ghost use Rattle.other_outcomes.specs.Exchanged.{IsPromisedExchanged, on_other};
 use crate::pending::place_of;
 use explanation_text::{Items, Kind};
 use script_reading::Call;
-use script_story::Setting;
+use script_story::{Made, Setting, Story, first_word};
 use std::alloc::{AllocError, Global};
-use story_parts::{Made, Story, first_word};
 
 /// How many children are tried.
 const MOST: usize = 2;

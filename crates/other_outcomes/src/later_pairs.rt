@@ -2,10 +2,9 @@
 
 use crate::platforms::{heaps_of, outcome_on};
 use explanation_text::{Items, Kind};
-use script_story::Setting;
+use script_story::{Setting, Story, asked_in};
 use settings_reasons::listed_before;
 use std::alloc::{AllocError, Global};
-use story_parts::{Story, asked_in};
 use sysmem_formats::{Offer, Pair};
 use sysmem_sanitise::Platform;
 

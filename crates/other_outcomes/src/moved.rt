@@ -5,15 +5,13 @@ ghost use Rattle.std.specs.String.{string_bytes};
 ghost use Rattle.script_reading.specs.declared.call.Call.{Call as Called};
 ghost use Rattle.other_outcomes.specs.Moved.{IsMoved, IsPromisedMoved, moving};
 
-use domain_reasons::tell_in_short;
 use explanation_text::{Items, Kind};
 use script_reading::{Call, ParseFault, read_script};
 use script_replay::Replayed;
-use script_story::{Setting, story_of};
+use script_story::{Move, Setting, Story, moves_in, story_of, tell_in_short};
 use serde_json::Value;
 use std::alloc::{AllocError, Global};
 use std::fmt::Write;
-use story_parts::{Move, Story, moves_in};
 
 /// Tells what would be refused and pending next, and what each domain would be, once the calls that
 /// stand too early are moved.

@@ -1,10 +1,9 @@
 //! The faults of a script's calls, in words.
 
 use crate::keys::{CALLS, KNOWN};
+use crate::record::{CONSTRAINTS, Document, Part, first_unknown, is_one_of, key_of, wrong_kind};
 use explanation_text::wording::{put_few, put_joined};
-use explanation_text::{Items, nearest};
-use json_places::Step;
-use record_faults::{CONSTRAINTS, Document, Part, first_unknown, is_one_of, key_of, wrong_kind};
+use explanation_text::{Items, Step, nearest};
 use script_reading::ScriptFault;
 use serde_json::Value;
 use std::alloc::{AllocError, Global};

@@ -1,4 +1,5 @@
-//! Where the faults of a script stand in its text, and what would be right, in words.
+//! Where the faults of a script, and of a record in it, stand in its text, and what would be right,
+//! in words.
 //!
 //! ```
 //! let mut items = Items::new(rt.alloc());
@@ -9,9 +10,10 @@
 
 mod call_fault;
 mod keys;
+mod record;
 mod script_fault;
 
 pub use call_fault::actor_of;
 pub use explanation_text::{Item, Items, Kind, Mark, are_same, show, text_of, wording};
-pub use record_faults::{Document, tell_record_fault};
+pub use record::{Document, Part, tell_record_fault};
 pub use script_fault::{tell_fault, tell_no_json};

@@ -2,9 +2,8 @@
 
 use crate::call_fault::tell_call_fault;
 use crate::keys::SCRIPT;
-use explanation_text::{Items, Kind, Mark, nearest, show};
-use json_places::{Span, Step, stop_of};
-use record_faults::{Document, Part, first_unknown, key_of, tell_record_fault, wrong_kind};
+use crate::record::{Document, Part, first_unknown, key_of, tell_record_fault, wrong_kind};
+use explanation_text::{Items, Kind, Mark, Span, Step, nearest, show, stop_of};
 use script_reading::{LONGEST, ScriptFault};
 use serde_json::Value;
 use std::alloc::{AllocError, Global};

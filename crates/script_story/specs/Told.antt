@@ -4,10 +4,10 @@ use Rattle.std.specs.Str.Lines.{lines}
 use Rattle.sysmem_sanitise.specs.Platform.{PlatformFacts}
 use Rattle.script_reading.specs.Script.{CallFacts}
 use Rattle.script_replay.specs.Report.{Certified, IsReport}
-use Rattle.story_parts.specs.Paths.{path_at}
-use Rattle.story_parts.specs.declared.story.Domain.{Domain}
-use Rattle.story_parts.specs.declared.story.Node.{Node}
-use Rattle.story_parts.specs.declared.story.Story.{Story}
+use Rattle.script_story.specs.Paths.{path_at}
+use Rattle.script_story.specs.declared.story.Domain.{Domain}
+use Rattle.script_story.specs.declared.story.Node.{Node}
+use Rattle.script_story.specs.declared.story.Story.{Story}
 
 -- the line, without its end, that says this of the domain at a path
 abbrev pub line_on : List ℕ → List ℕ → List ℕ

@@ -7,6 +7,7 @@ ghost use Rattle.script_story.specs.Told.{AreTold, IsOn};
 ghost use Rattle.sysmem_tree.specs.Domain.{HasDomain};
 ghost use Rattle.sysmem_tree.specs.Nodes.{HasNode};
 
+use crate::story::{Deeds, Domain, Made, Node, Story, first_word};
 use crate::words::{is_domain_line, reply_in, said_on};
 use certificate_text::push_path;
 use script_faults::actor_of;
@@ -14,7 +15,6 @@ use script_reading::Call;
 use script_replay::Replayed;
 use serde_json::Value;
 use std::alloc::{AllocError, Global};
-use story_parts::{Deeds, Domain, Made, Node, Story, first_word};
 use sysmem_alloc::Book;
 use sysmem_merge::Settings;
 use sysmem_tree::{DomainId, NodeId, Tree};

@@ -5,8 +5,8 @@
 ghost use Rattle.std.specs.Prelude.{◌≡◌, ◌<◌, ◌↔◌, List, Option, Some, None, length, nat_le, if◌then◌else◌};
 ghost use Rattle.flat_negotiation.specs.Unsettled.{AreUnsettled};
 ghost use Rattle.flat_negotiation.specs.declared.unsettled.Unsettled.TheVariants as why;
-ghost use Rattle.flat_parts.specs.declared.flat.FlatParticipant.{FlatParticipant};
-ghost use Rattle.flat_parts.specs.declared.flat.FlatPlatform.{FlatPlatform};
+ghost use Rattle.flat_negotiation.specs.declared.parts.flat.FlatParticipant.{FlatParticipant};
+ghost use Rattle.flat_negotiation.specs.declared.parts.flat.FlatPlatform.{FlatPlatform};
 ghost use Rattle.negotiation_inputs.specs.declared.constraints.TheConstants.{MOST_ENTRIES, MOST_MULTIPLE};
 ghost use Rattle.negotiation_inputs.specs.declared.heaps.TheConstants.{LONGEST_HEAP_TYPE};
 ghost use Rattle.script_reading.specs.Script.{few_calls, items_len};
@@ -16,7 +16,7 @@ ghost use Rattle.sysmem_memory.specs.declared.bounds.TheConstants.{MOST_HEAPS};
 ghost use Rattle.sysmem_merge.specs.declared.sum.TheConstants.{MOST_ADDED};
 ghost use Rattle.sysmem_search.specs.declared.wide.TheConstants.{MOST_WORKERS};
 ghost use Rattle.sysmem_tree.specs.declared.tree.TheConstants.{MOST_NODES};
-ghost use Rattle.value_sources.specs.declared.counting.TheConstants.{MOST_COUNTED};
+ghost use Rattle.settings_reasons.specs.declared.sources.counting.TheConstants.{MOST_COUNTED};
 ghost use Rattle.verdict_claims.specs.declared.verdict.TheConstants.{MOST_SELECTIONS};
 
 /// What participants and platforms may state at most.

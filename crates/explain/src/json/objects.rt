@@ -10,7 +10,7 @@ use crate::json::scene::{Played, Scene};
 use crate::json::telling::Telling;
 use crate::json::values::count_value;
 use explanation_text::Item;
-use record_faults::Document;
+use script_faults::Document;
 use script_reading::{ParseFault, Script, parse_script, read_script};
 use script_story::{Effort, Setting, story_of};
 use serde_json::Value;

@@ -1,10 +1,10 @@
 //! What is known of the script whose explanation is told.
 
 use crate::json::object::Object;
-use record_faults::Document;
+use script_faults::Document;
+use script_story::{Domain, Story, refused_calls};
 use serde_json::Value;
 use std::alloc::{AllocError, Global};
-use story_parts::{Domain, Story, refused_calls};
 use sysmem_sanitise::Platform;
 
 /// What a script's calls did, on its platform.

@@ -1,14 +1,13 @@
 //! The page of a script, whose calls are made once more for it.
 
+use crate::markup::page_of;
 use crate::page::drawing::drawing_of;
 use crate::page::proofs::proofs_of;
-use explanation_markup::page_of;
 use explanation_text::Item;
 use script_reading::{ParseFault, Script, parse_script, read_script};
-use script_story::{Effort, Setting, story_of};
+use script_story::{Effort, Setting, Story, story_of};
 use serde_json::Value;
 use std::alloc::{AllocError, Global};
-use story_parts::Story;
 use sysmem_sanitise::Platform;
 
 /// The page of a script's items; of one that is refused without the tree and the calls.

@@ -3,9 +3,9 @@
 use byte_transfer::Counted;
 use explanation_text::wording::put_count;
 use script_run::{Ended, run_with_proof};
+use script_story::{Story, put_domain};
 use serde_json::Value;
 use std::alloc::{AllocError, Global};
-use story_parts::{Story, put_domain};
 
 /// How many conflicts there are, and lines in them.
 #[derive(Clone, Copy, Default)]

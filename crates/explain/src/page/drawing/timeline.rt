@@ -1,9 +1,9 @@
 //! The calls by actor, and the decisions where they came.
 
+use crate::markup::{Drawing, Line, Standing};
 use crate::page::drawing::joints::add_joints;
-use explanation_markup::{Drawing, Line, Standing};
+use script_story::{Domain, Made, Story};
 use std::alloc::{AllocError, Global};
-use story_parts::{Domain, Made, Story};
 use sysmem_sanitise::Platform;
 
 /// What a page shows of a story, but for what proves its decisions.

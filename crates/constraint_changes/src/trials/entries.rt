@@ -1,0 +1,121 @@
+//! Entries of a participant's record that stand behind others.
+
+use serde_json::Value;
+use settings_reasons::Asked;
+use std::alloc::{AllocError, Global};
+use sysmem_counts::Field;
+use sysmem_formats::Pair;
+use sysmem_image::Entry;
+use sysmem_sanitise::Platform;
+
+const ENTRIES: &str = "image_format_constraints";
+
+const FURTHER: &str = "pixel_format_and_modifiers";
+
+/// Which entry of a record a pair belongs to, from 0, and how many pairs that has.
+#[derive(Clone, Copy)]
+pub struct EntryPlace {
+    pub item: usize,
+    pub pairs: usize,
+}
+
+/// The entry of a record to which the pair of an index belongs: an entry has its own pair, if it
+/// names one, and then further ones.
+pub fn entry_place(stated: Option<&Value>, index: usize) -> EntryPlace {
+    let mut before = 0usize;
+    if let Some(entries) = stated_entries(stated) {
+        for (item, entry) in entries.iter().enumerate() {
+            let pairs = pairs_of(entry);
+            before = before.saturating_add(pairs);
+            if index < before {
+                return EntryPlace { item, pairs };
+            }
+        }
+    }
+    EntryPlace {
+        item: index,
+        pairs: 1,
+    }
+}
+
+/// Whether the entry of a record states a bound to which the pair of an index belongs.
+pub(crate) fn states_bound(stated: Option<&Value>, index: usize, field: Field) -> bool {
+    let item = entry_place(stated, index).item;
+    let Some(entries) = stated_entries(stated) else {
+        return false;
+    };
+    match entries.get(item) {
+        Some(entry) => entry.get(field.name()).is_some(),
+        None => false,
+    }
+}
+
+/// The entries that a record states.
+fn stated_entries<'a>(stated: Option<&'a Value>) -> Option<&'a [Value]> {
+    let entries = stated?.get(ENTRIES)?.as_array()?;
+    Some(entries.as_slice())
+}
+
+/// How many pairs an entry of a record names.
+fn pairs_of(entry: &Value) -> usize {
+    let own = usize::from(entry.get("pixel_format").is_some());
+    match entry.get(FURTHER).and_then(Value::as_array) {
+        Some(list) => own.saturating_add(list.len()),
+        None => own,
+    }
+}
+
+/// Whether an entry takes a pair.
+pub fn takes(entry: &Entry, pair: Pair) -> bool {
+    let has_format = match entry.format {
+        Some(format) => format == pair.format,
+        None => true,
+    };
+    let has_modifier = match entry.modifier {
+        Some(modifier) => modifier == pair.modifier,
+        None => true,
+    };
+    has_format && has_modifier
+}
+
+/// The entries of a participant's record, from 0, each of which takes a pair of a platform that an
+/// earlier one takes too.
+pub fn entries_behind(
+    alloc: Global,
+    platform: &Platform,
+    one: &Asked<'_>,
+) -> Result<Vec<usize>, AllocError> {
+    let entries = one.asked.entries();
+    let items = items_of(alloc, one)?;
+    let mut behind: Vec<usize> = Vec::new(alloc);
+    for (index, item) in items.iter().enumerate() {
+        if !behind.contains(item) && is_behind(platform.pairs(), entries, &items, index) {
+            behind.push(*item)?;
+        }
+    }
+    Ok(behind)
+}
+
+/// The entry of the record to which each pair of a participant belongs.
+fn items_of(alloc: Global, one: &Asked<'_>) -> Result<Vec<usize>, AllocError> {
+    let mut items = Vec::new(alloc);
+    for index in 0..one.asked.entries().len() {
+        items.push(entry_place(one.stated, index).item)?;
+    }
+    Ok(items)
+}
+
+/// Whether the entry of an index takes one of some pairs that one of an earlier item takes too.
+fn is_behind(pairs: &[Pair], entries: &[Entry], items: &[usize], index: usize) -> bool {
+    let (Some(entry), Some(item)) = (entries.get(index), items.get(index)) else {
+        return false;
+    };
+    for pair in pairs {
+        for (other, place) in entries.iter().zip(items) {
+            if *place < *item && takes(other, *pair) && takes(entry, *pair) {
+                return true;
+            }
+        }
+    }
+    false
+}

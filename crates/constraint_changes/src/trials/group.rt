@@ -1,0 +1,129 @@
+//! Participants whose constraints are changed, and where they stand.
+
+use crate::trials::changed_lines::{changed_lines, entry_lines};
+use constraint_edits::Edit;
+use explanation_text::{Step, line_of};
+use script_faults::{Document, Part};
+use script_story::{Deed, Setting, Story};
+use serde_json::Value;
+use settings_reasons::{Asked, put_texts};
+use std::alloc::{AllocError, Global};
+
+/// How long a text may be, in bytes, of which lines are told: for each line it is gone through.
+const LONGEST: usize = 262_144;
+
+/// Those whose constraints are changed, for the domain at a path.
+#[derive(Clone, Copy)]
+pub struct Group<'a, 'b> {
+    pub document: &'b Document<'a>,
+    pub setting: &'b Setting<'a>,
+    pub story: &'b Story<'a>,
+    pub path: &'b str,
+    /// The root of the domain, by number.
+    pub root: usize,
+    pub people: &'b [Asked<'a>],
+}
+
+impl Group<'_, '_> {
+    /// Whether a node is in the domain.
+    pub(crate) fn is_inside(&self, node: usize) -> bool {
+        let nodes = &self.story.nodes;
+        match (nodes.get(node), nodes.get(self.root)) {
+            (Some(known), Some(root)) => known.domain == root.domain,
+            _ => false,
+        }
+    }
+
+    /// The number among all of the participant whose constraints the call at a place, from 0,
+    /// states, if it is one of them.
+    pub(crate) fn stating(&self, place: usize) -> Option<usize> {
+        Some(self.one_stating(place)?.node)
+    }
+
+    /// The same participant.
+    pub(crate) fn one_stating(&self, place: usize) -> Option<&Asked<'_>> {
+        let number = Some(place.saturating_add(1));
+        for one in self.people {
+            if self.story.deed(one.node, Deed::SetConstraints) == number {
+                return Some(one);
+            }
+        }
+        None
+    }
+
+    /// A participant, with the call that states its constraints and its line: `camera (call 5, line
+    /// 14)`.
+    pub fn who(&self, alloc: Global, one: &Asked<'_>) -> Result<String, AllocError> {
+        let number = self.story.deed(one.node, Deed::SetConstraints).unwrap_or(0);
+        let name = one.name;
+        let mut text = format!(in alloc; "{name} (call {number}")?;
+        let path = [
+            Step::Key("calls"),
+            Step::Item(number.saturating_sub(1)),
+            Step::Key("constraints"),
+        ];
+        if let Some(line) = line_at(alloc, self.document, &path, Part::Key)? {
+            write!(text, ", line {line}")?;
+        }
+        text.push_str(")")?;
+        Ok(text)
+    }
+
+    /// A participant, with the call that states its constraints and the lines in which they are to
+    /// be changed: `camera (call 5, line 14)`.
+    pub fn who_changes(
+        &self,
+        alloc: Global,
+        one: &Asked<'_>,
+        edit: Edit,
+        changed: &Value,
+    ) -> Result<String, AllocError> {
+        let number = self.story.deed(one.node, Deed::SetConstraints).unwrap_or(0);
+        let place = number.saturating_sub(1);
+        let name = one.name;
+        let mut text = format!(in alloc; "{name} (call {number}")?;
+        let lines = match (edit, one.stated) {
+            (Edit::EntryFirst(index), _) => entry_lines(alloc, self.document, place, index)?,
+            (_, Some(stated)) => changed_lines(alloc, self.document, place, stated, changed)?,
+            _ => Vec::new(alloc),
+        };
+        put_lines(&mut text, &lines)?;
+        text.push_str(")")?;
+        Ok(text)
+    }
+}
+
+/// Puts lines after a text: `, line 14`, `, lines 14 and 19`.
+fn put_lines(text: &mut String, lines: &[usize]) -> Result<(), AllocError> {
+    let alloc = *text.allocator();
+    if lines.is_empty() {
+        return Ok(());
+    }
+    text.push_str(if lines.len() == 1 {
+        ", line "
+    } else {
+        ", lines "
+    })?;
+    let mut texts: Vec<String> = Vec::new(alloc);
+    for line in lines {
+        texts.push(format!(in alloc; "{line}")?)?;
+    }
+    put_texts(text, &texts, 4)
+}
+
+/// The line of the part at a path; `None` where the text has one line, or is long.
+pub fn line_at(
+    alloc: Global,
+    document: &Document<'_>,
+    path: &[Step<'_>],
+    part: Part,
+) -> Result<Option<usize>, AllocError> {
+    let bytes = document.bytes;
+    if bytes.len() > LONGEST || line_of(bytes, bytes.len().saturating_sub(1)) < 2 {
+        return Ok(None);
+    }
+    match document.span(alloc, path, part)? {
+        Some(span) => Ok(Some(line_of(bytes, span.start.min(bytes.len())))),
+        None => Ok(None),
+    }
+}

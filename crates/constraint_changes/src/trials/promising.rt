@@ -1,0 +1,31 @@
+//! The decision that comes by several changes, told.
+
+ghost use Rattle.std.specs.Prelude.{map};
+ghost use Rattle.std.specs.String.{string_bytes};
+ghost use Rattle.script_reading.specs.Seen.{call_seen};
+ghost use Rattle.constraint_changes.specs.Edited.{IsPromisedSo};
+
+use crate::trials::group::Group;
+use explanation_text::{Items, Kind};
+use std::alloc::AllocError;
+
+/// Puts the decision that comes by several changes.
+pub fn put_line(
+    items: &mut Items,
+    group: Group<'_, '_>,
+    depth: usize,
+    line: String,
+) -> Result<(), AllocError>
+    requires { IsPromisedSo group.setting.now.platform.now
+        (map call_seen group.setting.now.calls.now) group.path.now (string_bytes line) }
+{
+    items.push(Kind::Decision, depth, "->", line)
+}
+
+/// Puts which children a decision chooses, if it chooses some.
+pub fn put_choice(items: &mut Items, depth: usize, choice: String) -> Result<(), AllocError> {
+    if choice.is_empty() {
+        return Ok(());
+    }
+    items.say(depth, "choice", choice)
+}

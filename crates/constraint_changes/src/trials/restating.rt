@@ -1,0 +1,50 @@
+//! Calls of which some state other constraints.
+
+ghost use Rattle.std.specs.Prelude.{◌≡◌, map, IfOk};
+ghost use Rattle.script_reading.specs.Seen.{call_seen};
+ghost use Rattle.constraint_changes.specs.Edited.{IsRestated};
+
+use crate::trials::trying::replaced;
+use script_reading::Call;
+use serde_json::Value;
+use std::alloc::{AllocError, Global};
+
+/// Constraints that a call states in the place of its own.
+pub struct Stated {
+    /// The place of the call, from 0.
+    pub place: usize,
+    pub value: Value,
+}
+
+impl Drop for Stated {
+    fn drop(self) {
+        let Stated { place: _, value: _ } = self;
+    }
+}
+
+impl Stated {
+    /// The constraints alone.
+    pub fn into_value(self) -> Value
+        ensures { result ≡ self.value }
+    {
+        let Stated { value, place: _ } = self;
+        value
+    }
+}
+
+/// The calls, of which some state other constraints.
+pub fn restated<'a>(
+    alloc: Global,
+    calls: &[Call<'a>],
+    stated: &'a [Stated],
+) -> Result<Vec<Call<'a>>, AllocError>
+    ensures { IfOk result
+        (λ made. IsRestated (map call_seen calls.now) (map call_seen made.items)) }
+{
+    let mut made = Vec::from_slice(alloc, calls)?;
+    for one in stated {
+        let next = replaced(alloc, &made, one.place, &one.value)?;
+        made = next;
+    }
+    Ok(made)
+}

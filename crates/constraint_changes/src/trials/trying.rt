@@ -1,0 +1,185 @@
+//! A change of one participant's constraints, tried by a run of the changed script.
+
+ghost use Rattle.std.specs.Prelude.{◌≡◌, map, IfOk, IfSome};
+ghost use Rattle.std.specs.String.{string_bytes};
+ghost use Rattle.serde_json.specs.View.{view};
+ghost use Rattle.script_reading.specs.Seen.{call_seen};
+ghost use Rattle.script_story.specs.Told.{IsReportedOn};
+ghost use Rattle.constraint_changes.specs.Edited.{IsPromised, stating};
+
+use crate::trials::group::Group;
+use crate::trials::parties::Party;
+use crate::trials::unmet::least_met;
+use constraint_edits::{Changed, Edit, Halving, is_absurd};
+use script_reading::{Act, Call};
+use script_story::Setting;
+use serde_json::Value;
+use std::alloc::{AllocError, Global};
+
+/// How often the way to the least change is halved at most.
+pub const MOST_HALVINGS: usize = 140;
+
+/// A change that helps, with the decision that comes then.
+pub struct Found {
+    pub words: String,
+    pub line: String,
+    /// The constraints with the change.
+    pub value: Value,
+}
+
+impl Drop for Found {
+    fn drop(self) {
+        let Found {
+            words: _,
+            line: _,
+            value: _,
+        } = self;
+    }
+}
+
+impl Found {
+    /// The line of the decision alone.
+    pub fn into_line(self) -> String
+        ensures { result ≡ self.line }
+    {
+        let Found {
+            line,
+            words: _,
+            value: _,
+        } = self;
+        line
+    }
+}
+
+/// Trying constraints of a participant, for the domain at a path.
+#[derive(Clone, Copy)]
+pub struct Trial<'a, 'b> {
+    pub setting: &'b Setting<'a>,
+    pub path: &'b str,
+    /// The place of the call that states its constraints, from 0.
+    pub place: usize,
+}
+
+impl Trial<'_, '_> {
+    /// What the domain becomes where the participant states these constraints, if it is chosen
+    /// then.
+    pub fn outcome(&self, alloc: Global, value: &Value) -> Result<Option<String>, AllocError>
+        ensures { IfOk result (λ said. IfSome said (λ what. IsReportedOn
+            self.now.setting.now.platform.now (stating (map call_seen
+            self.now.setting.now.calls.now) self.now.place (view value.now)) self.now.path.now
+            (string_bytes what))) }
+    {
+        let calls = replaced(alloc, self.setting.calls, self.place, value)?;
+        chosen_with(alloc, self.setting, &calls, self.path)
+    }
+
+    /// The least change of the field that an edit leaves out, where leaving it out does, for the
+    /// domain of a group, whose parties these are.
+    pub fn least(
+        &self,
+        alloc: Global,
+        group: Group<'_, '_>,
+        parties: &[Party<'_>],
+        value: &Value,
+        edit: Edit,
+        found: Found,
+    ) -> Result<Found, AllocError>
+        requires { IsPromised self.now.setting.now.platform.now
+            (map call_seen self.now.setting.now.calls.now) self.now.place self.now.path.now
+            (string_bytes found.line) }
+        ensures { IfOk result (λ best. IsPromised self.now.setting.now.platform.now
+            (map call_seen self.now.setting.now.calls.now) self.now.place self.now.path.now
+            (string_bytes best.line)) }
+    {
+        let Some(change) = least_met(alloc, group, parties, self.place, value, edit, &found.line)?
+        else {
+            return Ok(found);
+        };
+        match self.promised(alloc, change)? {
+            Some(least) => Ok(least),
+            None => self.least_run(alloc, value, edit, found),
+        }
+    }
+
+    /// The same, where each change is run.
+    fn least_run(
+        &self,
+        alloc: Global,
+        value: &Value,
+        edit: Edit,
+        found: Found,
+    ) -> Result<Found, AllocError>
+        requires { IsPromised self.now.setting.now.platform.now
+            (map call_seen self.now.setting.now.calls.now) self.now.place self.now.path.now
+            (string_bytes found.line) }
+        ensures { IfOk result (λ best. IsPromised self.now.setting.now.platform.now
+            (map call_seen self.now.setting.now.calls.now) self.now.place self.now.path.now
+            (string_bytes best.line)) }
+    {
+        let mut best = found;
+        let Some(mut halving) = Halving::of(value, edit, &best.line) else {
+            return Ok(best);
+        };
+        for _halving in 0..MOST_HALVINGS {
+            let Some(amount) = halving.next() else {
+                break;
+            };
+            let change = halving.changed(alloc, value, amount)?;
+            let told = self.promised(alloc, change)?;
+            halving.learn(amount, told.is_some());
+            if let Some(least) = told {
+                best = least;
+            }
+        }
+        Ok(best)
+    }
+
+    /// A change with the decision that comes then, if one is chosen that may be meant.
+    fn promised(&self, alloc: Global, change: Changed) -> Result<Option<Found>, AllocError>
+        ensures { IfOk result (λ told. IfSome told (λ found. IsPromised
+            self.now.setting.now.platform.now (map call_seen self.now.setting.now.calls.now)
+            self.now.place self.now.path.now (string_bytes found.line))) }
+    {
+        match self.outcome(alloc, &change.value)? {
+            Some(line) if !is_absurd(&line, false) => {
+                let (value, words) = change.into_parts();
+                Ok(Some(Found { words, line, value }))
+            }
+            _ => Ok(None),
+        }
+    }
+}
+
+/// What the domain at a path becomes by these calls, if it is chosen.
+pub fn chosen_with(
+    alloc: Global,
+    setting: &Setting<'_>,
+    calls: &[Call<'_>],
+    path: &str,
+) -> Result<Option<String>, AllocError>
+    ensures { IfOk result (λ said. IfSome said (λ what. IsReportedOn
+        setting.now.platform.now (map call_seen calls.now) path.now (string_bytes what))) }
+{
+    match setting.outcome(alloc, calls, path)? {
+        Some(line) if line.as_str().starts_with("chosen ") => Ok(Some(line)),
+        _ => Ok(None),
+    }
+}
+
+/// The calls, of which that at a place states these constraints.
+pub(crate) fn replaced<'a>(
+    alloc: Global,
+    calls: &[Call<'a>],
+    place: usize,
+    value: &'a Value,
+) -> Result<Vec<Call<'a>>, AllocError>
+    ensures { IfOk result (λ made.
+        map call_seen made.items ≡ stating (map call_seen calls.now) place (view value.now)) }
+{
+    let mut copy = Vec::from_slice(alloc, calls)?;
+    if place >= calls.len() {
+        return Ok(copy);
+    }
+    copy[place].act = Act::SetConstraints(Some(value));
+    Ok(copy)
+}

@@ -1,0 +1,225 @@
+//! Other constraints of participants that leave no settings, as is seen without a run.
+
+use crate::trials::drafting::{Change, asked_after};
+use crate::trials::group::Group;
+use crate::trials::need::{need_too_many, together_need_too_many};
+use crate::trials::parties::Party;
+use crate::trials::restating::Stated;
+use crate::trials::trying::MOST_HALVINGS;
+use constraint_edits::{Amount, Changed, Edit, Halving};
+use script_story::Story;
+use serde_json::Value;
+use settings_reasons::{Asked, is_unmet};
+use std::alloc::{AllocError, Global};
+use std::slice::from_ref;
+use sysmem_sanitise::{Code, Constraints, read_constraints};
+
+/// What a participant asks in the place of what it states.
+#[derive(Clone, Copy)]
+pub struct Read<'a> {
+    /// Its number among all.
+    pub node: usize,
+    pub asked: &'a Constraints,
+}
+
+/// Whether the script has groups of tokens.
+pub fn has_groups(story: &Story<'_>) -> bool {
+    for node in 0..story.nodes.len() {
+        if story.is_group(node) {
+            return true;
+        }
+    }
+    false
+}
+
+/// Whether those of a group, whose parties these are, have no settings where calls state these
+/// constraints, so that no run is needed to tell that their domain isn't chosen then. Only a yes
+/// says something: there is none where such constraints have a fault.
+pub fn leaves_none(
+    alloc: Global,
+    group: Group<'_, '_>,
+    parties: &[Party<'_>],
+    stated: &[Stated],
+) -> Result<bool, AllocError> {
+    let mut asked = Vec::new(alloc);
+    for one in stated {
+        match read_asked(alloc, &one.value)? {
+            Some(constraints) => asked.push(constraints)?,
+            None => return Ok(false),
+        }
+    }
+    let mut read = Vec::new(alloc);
+    for (one, constraints) in stated.iter().zip(&asked) {
+        if let Some(node) = group.stating(one.place) {
+            read.push(Read {
+                node,
+                asked: constraints,
+            })?;
+        }
+    }
+    leave_none(alloc, group, parties, &read)
+}
+
+/// The constraints of a record; `None` where it has a fault.
+pub fn read_asked(alloc: Global, value: &Value) -> Result<Option<Constraints>, AllocError> {
+    match read_constraints(alloc, value) {
+        Ok(asked) => Ok(Some(asked)),
+        Err(fault) if matches!(fault.code, Code::WantOfMemory) => Err(AllocError),
+        Err(_) => Ok(None),
+    }
+}
+
+/// Whether those of a group, whose parties these are, have no settings, of whom some ask what was
+/// read: whatever is selected one party of them is asked, each of which leaves none, or, where
+/// there are no parties, they need too many buffers in each place. Only a yes says something.
+pub fn leave_none(
+    alloc: Global,
+    group: Group<'_, '_>,
+    parties: &[Party<'_>],
+    read: &[Read<'_>],
+) -> Result<bool, AllocError> {
+    if parties.is_empty() && has_groups(group.story) {
+        let people = all_with(alloc, group.people, read)?;
+        if need_too_many(alloc, group, &people)? {
+            return Ok(true);
+        }
+    }
+    for party in parties {
+        if party.is_changed(read) && !leaves_none_with(alloc, group, party, read)? {
+            return Ok(false);
+        }
+    }
+    Ok(!parties.is_empty())
+}
+
+/// Whether a party has no settings, of which some ask what was read: often it is those alone who
+/// had none before that have none still.
+fn leaves_none_with(
+    alloc: Global,
+    group: Group<'_, '_>,
+    party: &Party<'_>,
+    read: &[Read<'_>],
+) -> Result<bool, AllocError> {
+    let platform = group.setting.platform;
+    let few = all_with(alloc, &party.needed, read)?;
+    if together_need_too_many(&few) || is_unmet(alloc, platform, &few)? {
+        return Ok(true);
+    }
+    let people = all_with(alloc, &party.people, read)?;
+    is_unmet(alloc, platform, &people)
+}
+
+/// Participants, of whom some ask what was read.
+fn all_with<'a>(
+    alloc: Global,
+    people: &[Asked<'a>],
+    read: &[Read<'a>],
+) -> Result<Vec<Asked<'a>>, AllocError> {
+    let mut others = Vec::new(alloc);
+    for one in people {
+        let mut other = *one;
+        for known in read {
+            if known.node == one.node {
+                other.asked = known.asked;
+            }
+        }
+        others.push(other)?;
+    }
+    Ok(others)
+}
+
+/// Whether those of a group, whose parties these are, have no settings after a change of one of
+/// them; `None` where that isn't told without the record that would state it.
+pub fn change_leaves_none(
+    alloc: Global,
+    group: Group<'_, '_>,
+    parties: &[Party<'_>],
+    one: &Asked<'_>,
+    change: Change,
+) -> Result<Option<bool>, AllocError> {
+    match asked_after(alloc, one, &[change])? {
+        Some(asked) => {
+            let read = Read {
+                node: one.node,
+                asked: &asked,
+            };
+            Ok(Some(leave_none(alloc, group, parties, &[read])?))
+        }
+        None => Ok(None),
+    }
+}
+
+/// The least change of the field that an edit of the constraints of the call at a place, from 0,
+/// leaves out with which those of a group have settings; `None` where leaving it out is the least,
+/// or isn't lessened. What is chosen once it is left out is `line`.
+pub(crate) fn least_met(
+    alloc: Global,
+    group: Group<'_, '_>,
+    parties: &[Party<'_>],
+    place: usize,
+    value: &Value,
+    edit: Edit,
+    line: &str,
+) -> Result<Option<Changed>, AllocError> {
+    let mut best = None;
+    let Some(mut halving) = Halving::of(value, edit, line) else {
+        return Ok(None);
+    };
+    for _halving in 0..MOST_HALVINGS {
+        let Some(amount) = halving.next() else {
+            break;
+        };
+        let tried = Tried {
+            place,
+            value,
+            edit,
+            amount,
+        };
+        let does = tried.does(alloc, group, parties, halving)?;
+        halving.learn(amount, does);
+        if does {
+            best = Some(amount);
+        }
+    }
+    match best {
+        Some(amount) => Ok(Some(halving.changed(alloc, value, amount)?)),
+        None => Ok(None),
+    }
+}
+
+/// An amount in the place of what the call at a place states.
+#[derive(Clone, Copy)]
+struct Tried<'a> {
+    place: usize,
+    value: &'a Value,
+    edit: Edit,
+    amount: Amount,
+}
+
+impl Tried<'_> {
+    /// Whether those of a group aren't known to have no settings then.
+    fn does(
+        &self,
+        alloc: Global,
+        group: Group<'_, '_>,
+        parties: &[Party<'_>],
+        halving: Halving,
+    ) -> Result<bool, AllocError> {
+        let change = Change {
+            edit: self.edit,
+            amount: Some(self.amount),
+        };
+        if let Some(one) = group.one_stating(self.place) {
+            if let Some(none) = change_leaves_none(alloc, group, parties, one, change)? {
+                return Ok(!none);
+            }
+        }
+        let stated = Stated {
+            place: self.place,
+            value: halving
+                .changed(alloc, self.value, self.amount)?
+                .into_value(),
+        };
+        Ok(!leaves_none(alloc, group, parties, from_ref(&stated))?)
+    }
+}

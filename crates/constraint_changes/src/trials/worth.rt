@@ -1,0 +1,119 @@
+//! Which changes of a participant's formats and colour spaces are worth a try.
+
+use crate::trials::entries::takes;
+use constraint_edits::Edit;
+use settings_reasons::Asked;
+use sysmem_formats::{ColourSpace, Pair};
+use sysmem_image::Entry;
+
+/// Whether a change of a participant is worth a try, where at most so many are changed: a format or
+/// a colour space that it doesn't take, and that few others lack; or one that nobody names.
+pub fn is_worth(edit: Edit, one: &Asked<'_>, people: &[Asked<'_>], few: usize) -> bool {
+    match edit {
+        Edit::TakesPair(pair) => match lacking_pair(people, pair) {
+            0 => !is_named(people, pair),
+            lacking => lacking <= few && lacks_pair(one, pair),
+        },
+        Edit::TakesColour(colour) => match lacking_colour(people, colour) {
+            0 => !is_colour_named(people, colour),
+            lacking => lacking <= few && lacks_colour(one, colour),
+        },
+        Edit::NoCpu => is_secure_required(people),
+        _ => true,
+    }
+}
+
+/// How many participants have entries, and none for a pair.
+fn lacking_pair(people: &[Asked<'_>], pair: Pair) -> usize {
+    let mut lacking = 0usize;
+    for one in people {
+        lacking = lacking.saturating_add(usize::from(lacks_pair(one, pair)));
+    }
+    lacking
+}
+
+/// How many participants have entries, none of which takes a colour space.
+fn lacking_colour(people: &[Asked<'_>], colour: ColourSpace) -> usize {
+    let mut lacking = 0usize;
+    for one in people {
+        lacking = lacking.saturating_add(usize::from(lacks_colour(one, colour)));
+    }
+    lacking
+}
+
+/// Whether somebody needs secure memory.
+fn is_secure_required(people: &[Asked<'_>]) -> bool {
+    for one in people {
+        if one.asked.memory().secure_required {
+            return true;
+        }
+    }
+    false
+}
+
+/// A side that asks for so many pixels is of an image that is meant.
+const SIZED: u32 = 16;
+
+/// Whether somebody asks for images of some size.
+pub fn are_sized(people: &[Asked<'_>]) -> bool {
+    for one in people {
+        for entry in one.asked.entries() {
+            if is_sized(entry) {
+                return true;
+            }
+        }
+    }
+    false
+}
+
+fn is_sized(entry: &Entry) -> bool {
+    let asked = &entry.bounds.asked;
+    let least = asked.min_size;
+    let most = asked.required_max_size;
+    least.width.max(most.width) >= SIZED && least.height.max(most.height) >= SIZED
+}
+
+/// Whether a participant has entries, and none for a pair.
+fn lacks_pair(one: &Asked<'_>, pair: Pair) -> bool {
+    let entries = one.asked.entries();
+    for entry in entries {
+        if takes(entry, pair) {
+            return false;
+        }
+    }
+    !entries.is_empty()
+}
+
+/// Whether a participant has entries, and none of them takes a colour space.
+fn lacks_colour(one: &Asked<'_>, colour: ColourSpace) -> bool {
+    let entries = one.asked.entries();
+    for entry in entries {
+        if entry.colours.accepts(colour) {
+            return false;
+        }
+    }
+    !entries.is_empty()
+}
+
+/// Whether somebody names a pair, and takes it not only as any.
+fn is_named(people: &[Asked<'_>], pair: Pair) -> bool {
+    for one in people {
+        for entry in one.asked.entries() {
+            if entry.format == Some(pair.format) && entry.modifier == Some(pair.modifier) {
+                return true;
+            }
+        }
+    }
+    false
+}
+
+fn is_colour_named(people: &[Asked<'_>], colour: ColourSpace) -> bool {
+    for one in people {
+        for entry in one.asked.entries() {
+            if entry.colours.lists(colour) {
+                return true;
+            }
+        }
+    }
+    false
+}

@@ -1,9 +1,0 @@
-use Rattle.std.specs.Prelude.{map}
-use Rattle.std.specs.String.{string_bytes}
-use Rattle.script_reading.specs.Seen.{call_seen}
-use Rattle.constraint_trials.specs.Edited.{IsPromised}
-use Rattle.constraint_trials.proofs.trying.Trial.least_run.Given as goal
-
-abbrev pub invariant-loop-halving : goal.invariant-loop-halving
-invariant-loop-halving l =
-    IsPromised l.self.setting.now.platform.now (map call_seen l.self.setting.now.calls.now) l.self.place l.self.path.now (string_bytes l.best.line)

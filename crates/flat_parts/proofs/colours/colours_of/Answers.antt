@@ -1,8 +1,0 @@
--- One more colour space.
-use Rattle.flat_parts.specs.Colours.{IsColourSaid}
-use Rattle.flat_parts.proofs.Said.{zip-more}
-use Rattle.flat_parts.proofs.colours.colours_of.Goals as goal
-
-pub loop-index-preserved : goal.loop-index-preserved
-loop-index-preserved c =
-    zip-more IsColourSaid c.args.bits.now c.loop-index.colours.items c.add.new.items.items c.loop-index.index _ c.in-Ok.colour c.loop-index-test.true c.loop-index.invariant c.in-Ok.ensures.said c.in_ok-add-in-Ok.ensures

@@ -1,8 +1,0 @@
--- Those so far.
-use Rattle.std.proofs.Common.{take}
-use Rattle.std.specs.List.{AllZip}
-use Rattle.flat_parts.specs.Colours.{IsColourSaid}
-use Rattle.flat_parts.proofs.colours.colours_of.Given as goal
-
-abbrev pub invariant-loop-index : goal.invariant-loop-index
-invariant-loop-index l = AllZip IsColourSaid (take l.index l.bits) l.colours.items

@@ -1,8 +1,0 @@
--- Those so far.
-use Rattle.std.proofs.Common.{take}
-use Rattle.std.specs.List.{AllZip}
-use Rattle.flat_parts.specs.Entries.{IsEntrySaid}
-use Rattle.flat_parts.proofs.entry.entries_of.Given as goal
-
-abbrev pub invariant-loop-index : goal.invariant-loop-index
-invariant-loop-index l = AllZip IsEntrySaid (take l.index l.flats) l.entries.items

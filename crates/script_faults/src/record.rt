@@ -1,0 +1,19 @@
+//! Where the first fault of a record stands in its text, and what would be right, in words.
+
+mod alike;
+mod cutting;
+mod document;
+mod firsts;
+mod keys;
+mod kinds;
+mod names;
+mod paths;
+mod record_fault;
+mod record_place;
+mod unknown;
+
+pub use document::{Document, Part};
+pub use keys::{CONSTRAINTS, is_one_of};
+pub use kinds::wrong_kind;
+pub use record_fault::tell_record_fault;
+pub use unknown::{first_unknown, key_of};

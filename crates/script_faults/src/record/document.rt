@@ -1,0 +1,156 @@
+//! A script's text with the value that it spells, and pointing at a part of it.
+
+ghost use Rattle.std.specs.Prelude.{◌≡◌, ◌≢◌, IfOk, IfSome, option_map};
+ghost use Rattle.serde_json.specs.View.{view};
+ghost use Rattle.explanation_text.specs.Places.{IsPlaceOf, value_on};
+ghost use Rattle.script_faults.specs.declared.record.document.Part.TheVariants.{Key};
+
+use crate::record::paths::put_path;
+use explanation_text::{Items, Mark, Span, Step, key_span_of, show, span_of, value_at};
+use serde_json::Value;
+use std::alloc::{AllocError, Global};
+
+/// What of a place is marked: where something is missing its first byte alone.
+fn pointed(span: Span, part: Part) -> Span {
+    match part {
+        Part::Begin => Span {
+            start: span.start,
+            end: span.start.saturating_add(1),
+        },
+        _ => span,
+    }
+}
+
+/// Says what is wrong at a path that isn't found in the text.
+fn say_unplaced(items: &mut Items, depth: usize, said: &str, note: &str) -> Result<(), AllocError> {
+    let text = format!(in items.alloc(); "{said}: {note}")?;
+    items.say(depth, "", text)
+}
+
+/// `: calls[4].constraints`.
+fn path_words(alloc: Global, path: &[Step<'_>]) -> Result<String, AllocError> {
+    let mut words = String::from_str(alloc, ": ")?;
+    put_path(&mut words, path)?;
+    Ok(words)
+}
+
+/// A script's text.
+#[derive(Clone, Copy)]
+pub struct Document<'a> {
+    /// The name of its file, as it was given.
+    pub file: &'a str,
+    pub bytes: &'a [u8],
+    /// What the text spells.
+    pub value: &'a Value,
+}
+
+/// What of a member is pointed at.
+#[derive(Clone, Copy, PartialEq, Eq)]
+pub enum Part {
+    Value,
+    Key,
+    /// Where it begins, as something is missing in it.
+    Begin,
+}
+
+impl<'a> Document<'a> {
+    /// The value at a path.
+    pub fn at(&self, path: &[Step<'_>]) -> Option<&'a Value>
+        ensures { option_map (λ found. view found.now) result
+            ≡ value_on path.now (view self.now.value.now) }
+    {
+        value_at(self.value, path)
+    }
+
+    /// Where the value at a path or its key stands, if it does.
+    pub fn span(
+        &self,
+        alloc: Global,
+        path: &[Step<'_>],
+        part: Part,
+    ) -> Result<Option<Span>, AllocError>
+        ensures { part ≢ Key → IfOk result (λ span. IfSome span
+            (IsPlaceOf self.now.bytes.now path.now (view self.now.value.now))) }
+    {
+        if part == Part::Key {
+            return key_span_of(alloc, self.bytes, path);
+        }
+        span_of(alloc, self.bytes, path, self.value)
+    }
+
+    /// How the value at a path is written.
+    pub fn written(&self, alloc: Global, path: &[Step<'_>]) -> Result<&'a [u8], AllocError> {
+        match self.span(alloc, path, Part::Value)? {
+            Some(span) => Ok(span.within(self.bytes)),
+            None => Ok(&[]),
+        }
+    }
+
+    /// Puts a part of the text with carets below it, a note, and what helps after the items.
+    pub fn point(
+        &self,
+        items: &mut Items,
+        depth: usize,
+        path: &[Step<'_>],
+        part: Part,
+        note: &str,
+        helps: &[String],
+    ) -> Result<(), AllocError> {
+        let alloc = items.alloc();
+        let span = self.span(alloc, path, part)?;
+        let said = path_words(alloc, path)?;
+        match span {
+            Some(span) => self.show(items, depth, pointed(span, part), &said, note, helps),
+            None => say_unplaced(items, depth, &said, note),
+        }
+    }
+
+    /// The same with one sentence of what helps.
+    pub fn advise(
+        &self,
+        items: &mut Items,
+        depth: usize,
+        path: &[Step<'_>],
+        part: Part,
+        note: &str,
+        help: String,
+    ) -> Result<(), AllocError> {
+        let helps = vec![in items.alloc(); help]?;
+        self.point(items, depth, path, part, note, &helps)
+    }
+
+    /// The same, if there was memory for the note and for what helps.
+    pub fn tell(
+        &self,
+        items: &mut Items,
+        depth: usize,
+        path: &[Step<'_>],
+        part: Part,
+        note: Result<String, AllocError>,
+        help: Result<String, AllocError>,
+    ) -> Result<(), AllocError> {
+        let help = help?;
+        let note = note?;
+        self.advise(items, depth, path, part, &note, help)
+    }
+
+    /// The same of a part that is known, with what stands after its line and column.
+    pub fn show(
+        &self,
+        items: &mut Items,
+        depth: usize,
+        span: Span,
+        said: &str,
+        note: &str,
+        helps: &[String],
+    ) -> Result<(), AllocError> {
+        show(
+            items,
+            depth,
+            self.file,
+            self.bytes,
+            Mark { span, said, note },
+            helps,
+        )
+    }
+}

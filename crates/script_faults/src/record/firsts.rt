@@ -1,0 +1,141 @@
+//! Where what a list has twice stands first.
+
+use crate::record::paths::put_longer;
+use explanation_text::{Step, value_at};
+use serde_json::Value;
+use std::alloc::AllocError;
+use sysmem_sanitise::Code;
+
+/// Puts where the value at a path, which its list has twice, stands first after a text, if it is
+/// found.
+pub(crate) fn put_first_like(
+    text: &mut String,
+    script: &Value,
+    path: &[Step<'_>],
+    code: Code,
+) -> Result<bool, AllocError> {
+    if code == Code::RepeatedPair {
+        return put_first_pair(text, script, path);
+    }
+    let Some((Step::Item(index), list)) = path.split_last() else {
+        return Ok(false);
+    };
+    let Some(first) = first_item(script, path, list, *index) else {
+        return Ok(false);
+    };
+    put_longer(text, list, &[Step::Item(first)])?;
+    Ok(true)
+}
+
+/// The index of the first item of a list, before an index, that is the same as the value at a path.
+fn first_item(script: &Value, path: &[Step<'_>], list: &[Step<'_>], index: usize) -> Option<usize> {
+    let mine = value_at(script, path)?;
+    let items = value_at(script, list)?.as_array()?;
+    items
+        .iter()
+        .take(index)
+        .position(|other| is_same_name(other, mine))
+}
+
+/// Whether two names, heaps or pairs are the same one.
+fn is_same_name(a: &Value, b: &Value) -> bool {
+    if !a.is_object() || !b.is_object() {
+        return a.as_str().is_some() && a.as_str() == b.as_str();
+    }
+    if a.get("heap_type").is_some() {
+        return text_of(a, "heap_type", "") == text_of(b, "heap_type", "") && id_of(a) == id_of(b);
+    }
+    is_same_pair(a, b)
+}
+
+fn text_of<'a>(value: &'a Value, key: &str, absent: &'a str) -> &'a str {
+    match value.get(key) {
+        Some(text) => text.as_str().unwrap_or(absent),
+        None => absent,
+    }
+}
+
+fn id_of(heap: &Value) -> u64 {
+    heap.get("id").and_then(Value::as_u64).unwrap_or(0)
+}
+
+/// Whether two objects name one pair of a format and a modifier.
+fn is_same_pair(a: &Value, b: &Value) -> bool {
+    let format = text_of(a, "pixel_format", "");
+    let absent = if format == "DO_NOT_CARE" {
+        format
+    } else {
+        "LINEAR"
+    };
+    format == text_of(b, "pixel_format", "")
+        && text_of(a, "pixel_format_modifier", absent)
+            == text_of(b, "pixel_format_modifier", absent)
+}
+
+/// Where in an entry a pair stands.
+#[derive(Clone, Copy)]
+enum Place {
+    /// As its own.
+    Own,
+    /// Among its further pairs, at an index.
+    Further(usize),
+}
+
+/// Puts where the pair at a path stands first among the pairs of a record's entries.
+fn put_first_pair(
+    text: &mut String,
+    script: &Value,
+    path: &[Step<'_>],
+) -> Result<bool, AllocError> {
+    let Some(end) = path.iter().position(|step| matches!(
+        *step,
+        Step::Key("image_format_constraints")
+    ))
+    else {
+        return Ok(false);
+    };
+    let base = path.get(..end.saturating_add(1)).unwrap_or(path);
+    let Some((index, place)) = first_pair(script, path, base) else {
+        return Ok(false);
+    };
+    let entry = Step::Item(index);
+    match place {
+        Place::Own => put_longer(text, base, &[entry, Step::Key("pixel_format")])?,
+        Place::Further(index) => {
+            let pairs = Step::Key("pixel_format_and_modifiers");
+            put_longer(text, base, &[entry, pairs, Step::Item(index)])?;
+        }
+    }
+    Ok(true)
+}
+
+/// The first entry of the list at a path that has the pair at another path, by its index, and where
+/// it has it.
+fn first_pair(script: &Value, path: &[Step<'_>], list: &[Step<'_>]) -> Option<(usize, Place)> {
+    let mine = pair_at(script, path)?;
+    let entries = value_at(script, list)?.as_array()?;
+    for (index, entry) in entries.iter().enumerate() {
+        if let Some(place) = place_in(entry, mine) {
+            return Some((index, place));
+        }
+    }
+    None
+}
+
+/// The entry or further pair at a path, or the one that a member at the path is of.
+fn pair_at<'a>(script: &'a Value, path: &[Step<'_>]) -> Option<&'a Value> {
+    match path.split_last() {
+        Some((Step::Key(_), entry)) => value_at(script, entry),
+        _ => value_at(script, path),
+    }
+}
+
+/// Where an entry has a pair first, if it does.
+fn place_in(entry: &Value, mine: &Value) -> Option<Place> {
+    if entry.get("pixel_format").is_some() && is_same_pair(entry, mine) {
+        return Some(Place::Own);
+    }
+    let pairs = entry.get("pixel_format_and_modifiers")?.as_array()?;
+    let index = pairs.iter().position(|pair| is_same_pair(pair, mine))?;
+    Some(Place::Further(index))
+}

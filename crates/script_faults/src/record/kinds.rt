@@ -1,0 +1,114 @@
+//! What is wrong with a value, in words.
+
+use crate::record::keys::{Due, due_at, range_of};
+use serde_json::{Number, Value};
+use std::alloc::{AllocError, Global};
+
+/// What a value is, in words.
+fn kind_of(value: &Value) -> &'static str {
+    match value {
+        Value::Null => "null",
+        Value::Bool(true) => "true",
+        Value::Bool(false) => "false",
+        Value::Number(_) => "a number",
+        Value::String(_) => "a string",
+        Value::Array(_) => "a list",
+        Value::Object(_) => "an object",
+    }
+}
+
+/// What is wrong with a field's value, or with an item of its list, that is written so.
+pub(crate) fn wrong_value(
+    alloc: Global,
+    field: &str,
+    value: &Value,
+    written: &[u8],
+    is_item: bool,
+) -> Result<String, AllocError> {
+    match due_at(field) {
+        Due::Flag => wrong_kind(alloc, value, "true or false is"),
+        Due::Size => wrong_kind(alloc, value, "an object is"),
+        Due::Object => wrong_kind(alloc, value, "an object is"),
+        Due::Number => {
+            let (least, most) = range_of(field);
+            wrong_number(alloc, value, written, least, most)
+        }
+        Due::Name => wrong_name(alloc, value),
+        Due::List if is_item => wrong_kind(alloc, value, item_of(field)),
+        Due::List => wrong_kind(alloc, value, "a list is"),
+    }
+}
+
+/// What the items of a field's list are.
+fn item_of(field: &str) -> &'static str {
+    match field {
+        "usage" | "color_spaces" | "domains" => "a name is",
+        _ => "an object is",
+    }
+}
+
+/// `a string, where a list is due`.
+pub fn wrong_kind(alloc: Global, value: &Value, due: &str) -> Result<String, AllocError> {
+    let kind = kind_of(value);
+    format!(in alloc; "{kind}, where {due} due")
+}
+
+/// What is wrong with a heap's type, or with what stands for a name.
+fn wrong_name(alloc: Global, value: &Value) -> Result<String, AllocError> {
+    let Some(text) = value.as_str() else {
+        return wrong_kind(alloc, value, "a name is");
+    };
+    let words = if text.is_empty() {
+        "empty"
+    } else if text.len() > 128 {
+        "longer than 128"
+    } else {
+        "a wrong character"
+    };
+    String::from_str(alloc, words)
+}
+
+/// What is wrong with what stands for a number.
+pub(crate) fn wrong_number(
+    alloc: Global,
+    value: &Value,
+    written: &[u8],
+    least: u64,
+    most: u64,
+) -> Result<String, AllocError> {
+    let Value::Number(number) = value else {
+        return wrong_kind(alloc, value, "a number is");
+    };
+    if number.is_f64() {
+        return String::from_str(alloc, wrong_float(written));
+    }
+    match number.as_u64() {
+        None => String::from_str(alloc, "below 0"),
+        Some(n) => if n < least {
+            String::from_str(alloc, "too small")
+        } else {
+            format!(in alloc; "above {most}")
+        },
+    }
+}
+
+fn wrong_float(written: &[u8]) -> &'static str {
+    if written
+        .iter()
+        .any(|b| *b == b'.' || *b == b'e' || *b == b'E')
+    {
+        return "written with a point or an exponent";
+    }
+    if written == b"-0".as_slice() {
+        return "written -0";
+    }
+    "beyond 64 bits"
+}
+
+/// Whether a value is a whole number in a range.
+pub(crate) fn is_number_within(value: &Value, least: u64, most: u64) -> bool {
+    match value.as_u64() {
+        Some(n) => least <= n && n <= most,
+        None => false,
+    }
+}

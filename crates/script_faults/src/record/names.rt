@@ -1,0 +1,222 @@
+//! The names of the profile, and other people's names for what it has.
+
+use crate::record::keys::{Table, found, is_one_of};
+use explanation_text::nearest;
+use explanation_text::wording::put_joined;
+use std::alloc::{AllocError, Global};
+
+pub(crate) const USAGES: &[&str] = &["none", "cpu", "vulkan", "display", "video"];
+
+pub(crate) const DOMAINS: &[&str] = &["cpu", "ram", "inaccessible"];
+
+const FORMATS: &[&str] = &[
+    "R8G8B8A8", "B8G8R8A8", "R8G8B8X8", "B8G8R8X8", "R8G8B8", "B8G8R8", "R5G6B5", "R8G8", "YUY2",
+    "R8", "L8", "I420", "YV12", "NV12", "P010",
+];
+
+const FORMATS_OR_ANY: &[&str] = &[
+    "R8G8B8A8",
+    "B8G8R8A8",
+    "R8G8B8X8",
+    "B8G8R8X8",
+    "R8G8B8",
+    "B8G8R8",
+    "R5G6B5",
+    "R8G8",
+    "YUY2",
+    "R8",
+    "L8",
+    "I420",
+    "YV12",
+    "NV12",
+    "P010",
+    "DO_NOT_CARE",
+];
+
+pub(crate) const MODIFIERS: &[&str] = &["LINEAR", "INTEL_I915_X_TILED", "INTEL_I915_Y_TILED"];
+
+pub(crate) const MODIFIERS_OR_ANY: &[&str] = &[
+    "LINEAR",
+    "INTEL_I915_X_TILED",
+    "INTEL_I915_Y_TILED",
+    "DO_NOT_CARE",
+];
+
+const COLOURS: &[&str] = &[
+    "SRGB",
+    "REC601_NTSC",
+    "REC601_NTSC_FULL_RANGE",
+    "REC601_PAL",
+    "REC601_PAL_FULL_RANGE",
+    "REC709",
+    "REC2020",
+    "REC2100",
+];
+
+const COLOURS_OR_ANY: &[&str] = &[
+    "SRGB",
+    "REC601_NTSC",
+    "REC601_NTSC_FULL_RANGE",
+    "REC601_PAL",
+    "REC601_PAL_FULL_RANGE",
+    "REC709",
+    "REC2020",
+    "REC2100",
+    "DO_NOT_CARE",
+];
+
+/// The names that a field takes, in a platform or in constraints; none where it takes no names.
+pub(crate) fn names_for(field: &str, is_platform: bool) -> &'static [&'static str] {
+    match field {
+        "usage" => USAGES,
+        "domains" => DOMAINS,
+        "color_spaces" => if is_platform { COLOURS } else { COLOURS_OR_ANY },
+        "pixel_format" => if is_platform { FORMATS } else { FORMATS_OR_ANY },
+        "pixel_format_modifier" => if is_platform {
+            MODIFIERS
+        } else {
+            MODIFIERS_OR_ANY
+        },
+        _ => &[],
+    }
+}
+
+/// Formats as DRM names them, without its prefix, each with its name in the profile.
+const FORMATS_OF_DRM: Table = &[
+    ("ABGR8888", "R8G8B8A8"),
+    ("AB24", "R8G8B8A8"),
+    ("ARGB8888", "B8G8R8A8"),
+    ("AR24", "B8G8R8A8"),
+    ("XBGR8888", "R8G8B8X8"),
+    ("XB24", "R8G8B8X8"),
+    ("XRGB8888", "B8G8R8X8"),
+    ("XR24", "B8G8R8X8"),
+    ("BGR888", "R8G8B8"),
+    ("BG24", "R8G8B8"),
+    ("RGB888", "B8G8R8"),
+    ("RG24", "B8G8R8"),
+    ("RGB565", "R5G6B5"),
+    ("RG16", "R5G6B5"),
+    ("GR88", "R8G8"),
+    ("YUYV", "YUY2"),
+    ("YUV420", "I420"),
+    ("YU12", "I420"),
+    ("YVU420", "YV12"),
+];
+
+const MODIFIERS_OF_DRM: Table = &[
+    ("DRM_FORMAT_MOD_LINEAR", "LINEAR"),
+    ("MOD_LINEAR", "LINEAR"),
+    ("I915_FORMAT_MOD_X_TILED", "INTEL_I915_X_TILED"),
+    ("I915_X_TILED", "INTEL_I915_X_TILED"),
+    ("X_TILED", "INTEL_I915_X_TILED"),
+    ("I915_FORMAT_MOD_Y_TILED", "INTEL_I915_Y_TILED"),
+    ("I915_Y_TILED", "INTEL_I915_Y_TILED"),
+    ("Y_TILED", "INTEL_I915_Y_TILED"),
+];
+
+const USAGES_OF_WORDS: Table = &[
+    ("gpu", "vulkan"),
+    ("render", "vulkan"),
+    ("opengl", "vulkan"),
+    ("GPU", "vulkan"),
+    ("camera", "video"),
+    ("isp", "video"),
+    ("codec", "video"),
+    ("encoder", "video"),
+    ("decoder", "video"),
+    ("scaler", "video"),
+    ("scanout", "display"),
+    ("software", "cpu"),
+    ("host", "cpu"),
+    ("CPU", "cpu"),
+];
+
+const COLOURS_OF_WORDS: Table = &[
+    ("BT709", "REC709"),
+    ("bt709", "REC709"),
+    ("BT.709", "REC709"),
+    ("BT2020", "REC2020"),
+    ("bt2020", "REC2020"),
+    ("BT.2020", "REC2020"),
+    ("BT2100", "REC2100"),
+    ("bt2100", "REC2100"),
+    ("BT.2100", "REC2100"),
+    ("BT601", "REC601_NTSC or REC601_PAL"),
+    ("bt601", "REC601_NTSC or REC601_PAL"),
+    ("BT.601", "REC601_NTSC or REC601_PAL"),
+];
+
+/// Other people's names for those that a field takes, each with the name of the profile; of formats
+/// see `FORMATS_OF_DRM`.
+fn others_for(field: &str) -> Table {
+    match field {
+        "pixel_format_modifier" => MODIFIERS_OF_DRM,
+        "usage" => USAGES_OF_WORDS,
+        "color_spaces" => COLOURS_OF_WORDS,
+        _ => &[],
+    }
+}
+
+/// Names that Fuchsia has and this profile leaves out.
+const LEFT_OUT: &[&str] = &[
+    "MJPEG",
+    "M420",
+    "R3G3B2",
+    "R2G2B2X2",
+    "A2R10G10B10",
+    "A2B10G10R10",
+    "PASSTHROUGH",
+];
+
+/// What an unknown name at a field may mean, in words; or else the names that the field takes.
+pub(crate) fn hint_of_name(
+    alloc: Global,
+    field: &str,
+    name: &str,
+    is_platform: bool,
+) -> Result<String, AllocError> {
+    let known = names_for(field, is_platform);
+    if field == "pixel_format" {
+        return hint_of_format(alloc, name, known);
+    }
+    match found(others_for(field), name) {
+        Some(meant) => format!(in alloc; "it is {meant} here"),
+        None => hint_of_known(alloc, name, known),
+    }
+}
+
+/// The same of a format.
+fn hint_of_format(alloc: Global, name: &str, known: &[&str]) -> Result<String, AllocError> {
+    let drm = name.strip_prefix("DRM_FORMAT_").unwrap_or(name);
+    if let Some(format) = found(FORMATS_OF_DRM, drm) {
+        return format!(in alloc; "DRM's {drm} is {format} here");
+    }
+    if is_one_of(drm, FORMATS) {
+        return format!(in alloc; "it is written {drm}");
+    }
+    hint_of_known(alloc, name, known)
+}
+
+/// The same of a name that nobody else is known to have.
+fn hint_of_known(alloc: Global, name: &str, known: &[&str]) -> Result<String, AllocError> {
+    if is_one_of(name, LEFT_OUT) {
+        return String::from_str(alloc, "Fuchsia has it, this profile doesn't");
+    }
+    match nearest(alloc, name, known)? {
+        Some(near) => format!(in alloc; "did you mean {near}?"),
+        None => listed(alloc, "allowed: ", known, "or"),
+    }
+}
+
+/// Names after a text, the last with a word before it.
+pub(crate) fn listed(
+    alloc: Global,
+    text: &str,
+    names: &[&str],
+    word: &str,
+) -> Result<String, AllocError> {
+    let mut words = String::from_str(alloc, text)?;
+    put_joined(&mut words, names, word)?;
+    Ok(words)
+}

@@ -1,0 +1,411 @@
+//! A record's first fault, in words.
+
+use crate::record::alike::begins_alike;
+use crate::record::document::{Document, Part};
+use crate::record::firsts::put_first_like;
+use crate::record::keys::{
+    CONSTRAINTS, Due, ENTRY, HEAP_NAME, MEMORY, PAIR, PLATFORM, PLATFORM_HEAP, SIZE, allowed,
+    due_at, is_one_of,
+};
+use crate::record::kinds::{is_number_within, wrong_kind, wrong_number, wrong_value};
+use crate::record::names::{hint_of_name, listed};
+use crate::record::paths::{Path, joined, with};
+use crate::record::record_place::place_of;
+use crate::record::unknown::{first_unknown, key_of};
+use explanation_text::{Items, Step, nearest};
+use serde_json::Value;
+use std::alloc::{AllocError, Global};
+use sysmem_sanitise::{Code, Fault};
+
+/// The first fault of a script's record, and where it is.
+#[derive(Clone, Copy)]
+struct Faulty<'a, 'b> {
+    document: &'b Document<'a>,
+    /// Below how many items it is told.
+    depth: usize,
+    /// Its path in the script.
+    path: &'b [Step<'a>],
+    fault: Fault,
+    is_platform: bool,
+}
+
+/// Tells the first fault of the record at a path.
+pub fn tell_record_fault<'a>(
+    items: &mut Items,
+    depth: usize,
+    document: &Document<'a>,
+    base: &[Step<'a>],
+    fault: Fault,
+    is_platform: bool,
+) -> Result<(), AllocError> {
+    let Some(record) = document.at(base) else {
+        return Ok(());
+    };
+    let path = path_of(items.alloc(), base, record, fault, is_platform)?;
+    let faulty = Faulty {
+        document,
+        depth,
+        path: &path,
+        fault,
+        is_platform,
+    };
+    match document.at(&path) {
+        Some(value) => tell_value(items, faulty, value),
+        None => tell_missing(items, faulty),
+    }
+}
+
+/// The path from the script to the value that the first fault of the record at a path is about.
+fn path_of<'a>(
+    alloc: Global,
+    base: &[Step<'a>],
+    record: &Value,
+    fault: Fault,
+    is_platform: bool,
+) -> Result<Path<'a>, AllocError> {
+    let place = place_of(alloc, record, fault, is_platform)?;
+    joined(alloc, base, &place)
+}
+
+/// Tells what is wrong with a value that is there.
+fn tell_value<'a>(
+    items: &mut Items,
+    faulty: Faulty<'a, '_>,
+    value: &'a Value,
+) -> Result<(), AllocError> {
+    let is_size = due_at(faulty.fault.at.name()) == Due::Size;
+    match faulty.fault.code {
+        Code::UnknownField => tell_object(items, faulty, value),
+        Code::WrongKind if is_size && value.is_object() => tell_object(items, faulty, value),
+        Code::UnknownName => tell_name(items, faulty, value),
+        Code::WrongKind => tell_kind(items, faulty, value),
+        Code::BadMultiple => tell_multiple(items, faulty, value),
+        _ => tell_list(items, faulty, value),
+    }
+}
+
+/// What is allowed at a field, after a word.
+fn help_allowed(
+    alloc: Global,
+    word: &str,
+    at: &str,
+    is_platform: bool,
+) -> Result<String, AllocError> {
+    let what = allowed(at, is_platform);
+    format!(in alloc; "{word}: {what}")
+}
+
+fn missing_note(alloc: Global, name: &str) -> Result<String, AllocError> {
+    format!(in alloc; "{name} is missing")
+}
+
+/// A field that isn't there: the object that lacks it is pointed at.
+fn tell_missing(items: &mut Items, faulty: Faulty<'_, '_>) -> Result<(), AllocError> {
+    let at = faulty.fault.at.name();
+    let last = faulty.path.len().saturating_sub(1);
+    let object = faulty.path.get(..last).unwrap_or(&[]);
+    let help = help_allowed(items.alloc(), "needed", at, faulty.is_platform);
+    let note = missing_note(items.alloc(), at);
+    faulty
+        .document
+        .tell(items, faulty.depth, object, Part::Begin, note, help)
+}
+
+/// The keys that an object at a place may have.
+fn keys_at(at: &str, path: &[Step<'_>], is_platform: bool) -> &'static [&'static str] {
+    let last = path.iter().rev().find_map(|step| match *step {
+        Step::Key(key) => Some(key),
+        Step::Item(_) => None,
+    });
+    if last.is_some_and(|key| due_at(key) == Due::Size) {
+        return SIZE;
+    }
+    if is_platform {
+        return match at {
+            "heaps" => PLATFORM_HEAP,
+            "pairs" => PAIR,
+            _ => PLATFORM,
+        };
+    }
+    match at {
+        "buffer_memory_constraints" => MEMORY,
+        "permitted_heaps" => HEAP_NAME,
+        "image_format_constraints" => ENTRY,
+        "pixel_format_and_modifiers" => PAIR,
+        _ => CONSTRAINTS,
+    }
+}
+
+/// An object with an unknown key, or a size that isn't one.
+fn tell_object<'a>(
+    items: &mut Items,
+    faulty: Faulty<'a, '_>,
+    value: &'a Value,
+) -> Result<(), AllocError> {
+    let keys = keys_at(faulty.fault.at.name(), faulty.path, faulty.is_platform);
+    match first_unknown(items.alloc(), faulty.document, faulty.path, keys)? {
+        Some(unknown) => tell_key(items, faulty, &unknown, keys),
+        None => tell_side(items, faulty, value),
+    }
+}
+
+fn tell_key(
+    items: &mut Items,
+    faulty: Faulty<'_, '_>,
+    path: &[Step<'_>],
+    keys: &'static [&'static str],
+) -> Result<(), AllocError> {
+    let document = faulty.document;
+    let note = "unknown key";
+    match help_of_key(items.alloc(), key_of(path), keys, faulty.is_platform)? {
+        Some(help) => document.advise(items, faulty.depth, path, Part::Key, note, help),
+        None => document.point(items, faulty.depth, path, Part::Key, note, &[]),
+    }
+}
+
+/// The side of a size that isn't within bounds: the height where the width is.
+fn wrong_side(size: &Value, least: u64, most: u64) -> &'static str {
+    match size.get("width") {
+        Some(width) if is_number_within(width, least, most) => "height",
+        _ => "width",
+    }
+}
+
+/// A width or a height that is missing or wrong.
+fn tell_side(items: &mut Items, faulty: Faulty<'_, '_>, value: &Value) -> Result<(), AllocError> {
+    let at = faulty.fault.at.name();
+    let side = wrong_side(value, 0, 4294967295);
+    match value.get(side) {
+        Some(number) => {
+            let path = with(items.alloc(), faulty.path, Step::Key(side))?;
+            let help = help_allowed(items.alloc(), "allowed", at, faulty.is_platform);
+            tell_number(items, faulty, &path, number, (0, 4294967295), help)
+        }
+        None => {
+            let note = missing_note(items.alloc(), side);
+            let help = help_allowed(items.alloc(), "allowed", at, faulty.is_platform);
+            faulty
+                .document
+                .tell(items, faulty.depth, faulty.path, Part::Begin, note, help)
+        }
+    }
+}
+
+/// A number at a path that isn't within its least and greatest value.
+fn tell_number(
+    items: &mut Items,
+    faulty: Faulty<'_, '_>,
+    path: &[Step<'_>],
+    number: &Value,
+    bounds: (u64, u64),
+    help: Result<String, AllocError>,
+) -> Result<(), AllocError> {
+    let written = faulty.document.written(items.alloc(), path)?;
+    let note = wrong_number(items.alloc(), number, written, bounds.0, bounds.1);
+    faulty
+        .document
+        .tell(items, faulty.depth, path, Part::Value, note, help)
+}
+
+fn tell_name(items: &mut Items, faulty: Faulty<'_, '_>, value: &Value) -> Result<(), AllocError> {
+    let name = value.as_str().unwrap_or("");
+    let at = faulty.fault.at.name();
+    let hint = hint_of_name(items.alloc(), at, name, faulty.is_platform)?;
+    faulty.document.advise(
+        items,
+        faulty.depth,
+        faulty.path,
+        Part::Value,
+        "unknown name",
+        hint,
+    )
+}
+
+fn tell_kind(items: &mut Items, faulty: Faulty<'_, '_>, value: &Value) -> Result<(), AllocError> {
+    let at = faulty.fault.at.name();
+    let is_item = matches!(faulty.path.last(), Some(Step::Item(_)));
+    let written = faulty.document.written(items.alloc(), faulty.path)?;
+    let note = wrong_value(items.alloc(), at, value, written, is_item);
+    let help = help_allowed(items.alloc(), "allowed", at, faulty.is_platform);
+    faulty
+        .document
+        .tell(items, faulty.depth, faulty.path, Part::Value, note, help)
+}
+
+/// An alignment or a divisor out of its range.
+fn tell_multiple(
+    items: &mut Items,
+    faulty: Faulty<'_, '_>,
+    value: &Value,
+) -> Result<(), AllocError> {
+    let help = String::from_str(
+        items.alloc(),
+        "an alignment or divisor is from 1 to 65536; 1 asks for nothing",
+    );
+    if !value.is_object() {
+        return tell_number(items, faulty, faulty.path, value, (1, 65536), help);
+    }
+    let side = wrong_side(value, 1, 65536);
+    let path = with(items.alloc(), faulty.path, Step::Key(side))?;
+    let number = value.get(side).unwrap_or(value);
+    tell_number(items, faulty, &path, number, (1, 65536), help)
+}
+
+/// A list that is empty, too long or has an item twice, a value that is no object, or a tiled
+/// modifier that doesn't go with its format.
+fn tell_list(items: &mut Items, faulty: Faulty<'_, '_>, value: &Value) -> Result<(), AllocError> {
+    let is_empty = matches!(value.as_array(), Some(list) if list.is_empty());
+    let note = note_of_list(items.alloc(), faulty.fault.code, value, is_empty)?;
+    let helps = helps_of_list(items.alloc(), faulty, is_empty)?;
+    faulty.document.point(items, faulty.depth, faulty.path, Part::Value, &note, &helps)
+}
+
+/// What is wrong with a list, with one of its items, or with what stands for an object.
+fn note_of_list(
+    alloc: Global,
+    code: Code,
+    value: &Value,
+    is_empty: bool,
+) -> Result<String, AllocError> {
+    let note = match code {
+        Code::NotAnObject => return wrong_kind(alloc, value, "an object is"),
+        Code::TooMany => "the 65th",
+        Code::TiledMisfit => "a tiled modifier doesn't go with this format",
+        _ if is_empty => "the list is empty",
+        Code::BadUsage => "no other usage may stand beside \"none\"",
+        _ => "given before",
+    };
+    String::from_str(alloc, note)
+}
+
+/// What helps there.
+fn helps_of_list(
+    alloc: Global,
+    faulty: Faulty<'_, '_>,
+    is_empty: bool,
+) -> Result<Vec<String>, AllocError> {
+    let at = faulty.fault.at.name();
+    let help = match faulty.fault.code {
+        Code::NotAnObject => return Ok(Vec::new(alloc)),
+        Code::TooMany => String::from_str(alloc, "allowed: at most 64"),
+        Code::TiledMisfit => String::from_str(
+            alloc,
+            "tiles go with formats of 4 bytes: R8G8B8A8, B8G8R8A8, R8G8B8X8 and B8G8R8X8",
+        ),
+        Code::BadUsage => help_allowed(alloc, "allowed", "usage", false),
+        _ if is_empty => help_allowed(alloc, "needed", at, faulty.is_platform),
+        code => return first_like(alloc, faulty, code),
+    };
+    Ok(vec![in alloc; help?]?)
+}
+
+/// Where what is given twice stands first, and which names count as equal.
+fn first_like(
+    alloc: Global,
+    faulty: Faulty<'_, '_>,
+    code: Code,
+) -> Result<Vec<String>, AllocError> {
+    let mut helps = Vec::new(alloc);
+    if let Some(first) = first_words(alloc, faulty, code)? {
+        helps.push(first)?;
+    }
+    if code == Code::RepeatedPair {
+        helps.push(String::from_str(alloc, "an absent modifier is LINEAR")?)?;
+    }
+    Ok(helps)
+}
+
+/// `first at calls[4].constraints.usage[0]`.
+fn first_words(
+    alloc: Global,
+    faulty: Faulty<'_, '_>,
+    code: Code,
+) -> Result<Option<String>, AllocError> {
+    let mut first = String::from_str(alloc, "first at ")?;
+    if put_first_like(&mut first, faulty.document.value, faulty.path, code)? {
+        return Ok(Some(first));
+    }
+    Ok(None)
+}
+
+/// What an unknown key may be: one of another object, or a known one that is misspelt.
+fn help_of_key(
+    alloc: Global,
+    key: &str,
+    keys: &'static [&'static str],
+    is_platform: bool,
+) -> Result<Option<String>, AllocError> {
+    match owner_of(key, keys) {
+        Some(owner) if !is_platform => Ok(Some(format!(in alloc; "{key} belongs in {owner}")?)),
+        _ => match nearest(alloc, key, keys)? {
+            Some(near) => did_you_mean(alloc, near),
+            None if is_platform => keys_here(alloc, keys),
+            None => help_elsewhere(alloc, key, keys),
+        },
+    }
+}
+
+fn did_you_mean(alloc: Global, near: &str) -> Result<Option<String>, AllocError> {
+    Ok(Some(format!(in alloc; "did you mean {near}?")?))
+}
+
+/// The keys that an object can have, where they are few.
+fn keys_here(alloc: Global, keys: &[&str]) -> Result<Option<String>, AllocError> {
+    if keys.len() > 5 {
+        return Ok(None);
+    }
+    Ok(Some(listed(alloc, "keys here: ", keys, "and")?))
+}
+
+/// The objects of constraints, with their keys.
+const OBJECTS: &[(&str, &[&str])] = &[
+    ("the constraints themselves", CONSTRAINTS),
+    ("buffer_memory_constraints", MEMORY),
+    ("an entry of image_format_constraints", ENTRY),
+];
+
+/// The object into which a key belongs, if it isn't one of these.
+fn owner_of(key: &str, keys: &[&str]) -> Option<&'static str> {
+    if is_one_of(key, keys) {
+        return None;
+    }
+    for (name, others) in OBJECTS {
+        if is_one_of(key, others) {
+            return Some(*name);
+        }
+    }
+    None
+}
+
+/// A key of another object that is near, or one of these that begins alike; or else these.
+fn help_elsewhere(
+    alloc: Global,
+    key: &str,
+    keys: &'static [&'static str],
+) -> Result<Option<String>, AllocError> {
+    if let Some((near, name)) = near_elsewhere(alloc, key, keys)? {
+        let help = format!(in alloc; "did you mean {near}? It belongs in {name}")?;
+        return Ok(Some(help));
+    }
+    match begins_alike(key, keys) {
+        Some(near) => did_you_mean(alloc, near),
+        None => keys_here(alloc, keys),
+    }
+}
+
+/// A key of another object that is near, with that object.
+fn near_elsewhere(
+    alloc: Global,
+    key: &str,
+    keys: &[&str],
+) -> Result<Option<(&'static str, &'static str)>, AllocError> {
+    for (name, others) in OBJECTS {
+        if others.first() == keys.first() {
+            continue;
+        }
+        if let Some(near) = nearest(alloc, key, others)? {
+            return Ok(Some((near, *name)));
+        }
+    }
+    Ok(None)
+}

@@ -1,0 +1,642 @@
+//! Why calls were refused.
+
+use crate::story::{Deed, Made, Story};
+use explanation_text::wording::{MOST_NAMES, mark_after, put_few, put_joined};
+use explanation_text::{Items, Step};
+use script_faults::{Document, tell_record_fault};
+use script_reading::Act;
+use std::alloc::{AllocError, Global};
+use std::fmt::Write;
+use sysmem_sanitise::{Code, Fault, read_constraints};
+use sysmem_tree::NodeKind;
+
+/// How many rows of refused calls are told.
+const MOST_ROWS: usize = 12;
+
+/// How many numbers of calls are told; one more is shown rather than counted.
+const MOST_NUMBERS: usize = 8;
+
+/// Calls that have one reply and one cause.
+#[derive(Drop)]
+struct Row {
+    /// Their numbers.
+    numbers: Vec<usize>,
+    cause: String,
+    /// The fault of the constraints.
+    fault: Option<Fault>,
+}
+
+/// How many calls were refused: those whose reply isn't `ok`, the answers of `check` and `wait`
+/// left out.
+pub fn refused_calls(story: &Story<'_>) -> usize {
+    let mut count = 0usize;
+    for call in &story.calls {
+        if is_refused(call) {
+            count = count.saturating_add(1);
+        }
+    }
+    count
+}
+
+fn is_refused(call: &Made<'_>) -> bool {
+    !call.is_accepted() && (!call.asks() || call.code() == "E2" || call.code() == "skipped")
+}
+
+/// Whether a call is to be looked at: the answers that its domain's own section tells are left out.
+fn is_told(story: &Story<'_>, call: &Made<'_>) -> bool {
+    let code = call.code();
+    if call.is_accepted() || code == "E7" || code == "E8" {
+        return false;
+    }
+    code != "E9" || matches!(call.node, Some(node) if end_of(story, node).is_some())
+}
+
+/// The call after which the domain of a node was decided or failed.
+fn end_of(story: &Story<'_>, node: usize) -> Option<usize> {
+    story.domain_of(node)?.ended
+}
+
+/// Tells the calls that were refused, those with one cause in one row.
+pub fn tell_refused(
+    items: &mut Items,
+    document: &Document<'_>,
+    story: &Story<'_>,
+) -> Result<(), AllocError> {
+    let rows = rows_of(items.alloc(), story)?;
+    if rows.is_empty() {
+        return Ok(());
+    }
+    tell_rows(items, document, story, &rows)
+}
+
+fn tell_rows(
+    items: &mut Items,
+    document: &Document<'_>,
+    story: &Story<'_>,
+    rows: &[Row],
+) -> Result<(), AllocError> {
+    let most = if rows.len() <= MOST_ROWS.saturating_add(1) {
+        rows.len()
+    } else {
+        MOST_ROWS
+    };
+    items.title("calls to look at")?;
+    for row in rows.iter().take(most) {
+        tell_row(items, document, story, row)?;
+    }
+    tell_more(items, rows.len().saturating_sub(most))
+}
+
+/// Tells how many rows aren't told, if there are any.
+fn tell_more(items: &mut Items, more: usize) -> Result<(), AllocError> {
+    if more == 0 {
+        return Ok(());
+    }
+    let text = format!(in items.alloc(); "and {more} more")?;
+    items.say(1, "", text)
+}
+
+/// What is told of the calls that were refused, those with one cause together; where their
+/// constraints have a fault only its field and its code.
+pub fn refused_words(alloc: Global, story: &Story<'_>) -> Result<Vec<String>, AllocError> {
+    let mut words: Vec<String> = Vec::new(alloc);
+    for row in &rows_of(alloc, story)? {
+        if let Some(call) = story.call(number_of(row)) {
+            words.push(row_text(alloc, call, row)?)?;
+        }
+    }
+    Ok(words)
+}
+
+fn rows_of(alloc: Global, story: &Story<'_>) -> Result<Vec<Row>, AllocError> {
+    let mut rows: Vec<Row> = Vec::new(alloc);
+    for (index, call) in story.calls.iter().enumerate() {
+        add_call(&mut rows, story, call, index.saturating_add(1))?;
+    }
+    Ok(rows)
+}
+
+/// Adds a call that is told to the rows.
+fn add_call(
+    rows: &mut Vec<Row>,
+    story: &Story<'_>,
+    call: &Made<'_>,
+    number: usize,
+) -> Result<(), AllocError> {
+    if !is_told(story, call) {
+        return Ok(());
+    }
+    let row = row_of(*rows.allocator(), story, call, number)?;
+    add_row(rows, story, row)
+}
+
+/// The row of one call.
+fn row_of(
+    alloc: Global,
+    story: &Story<'_>,
+    call: &Made<'_>,
+    number: usize,
+) -> Result<Row, AllocError> {
+    let fault = fault_of(alloc, call)?;
+    let mut cause = String::new(alloc);
+    put_cause(&mut cause, story, call, number)?;
+    Ok(Row {
+        numbers: vec![in alloc; number]?,
+        cause,
+        fault,
+    })
+}
+
+/// Adds a row, to one with its reply and its cause where there is one.
+fn add_row(rows: &mut Vec<Row>, story: &Story<'_>, row: Row) -> Result<(), AllocError> {
+    for other in rows.iter_mut() {
+        if is_like(story, other, &row) {
+            other.numbers.extend_from_slice(&row.numbers)?;
+            return Ok(());
+        }
+    }
+    rows.push(row)?;
+    Ok(())
+}
+
+/// Whether the calls of two rows have one reply and one cause, and no fault, each of which has a
+/// place of its own.
+fn is_like(story: &Story<'_>, a: &Row, b: &Row) -> bool {
+    a.fault.is_none()
+        && b.fault.is_none()
+        && reply_of(story, a) == reply_of(story, b)
+        && a.cause == b.cause
+}
+
+fn reply_of<'a>(story: &Story<'a>, row: &Row) -> &'a str {
+    match story.call(number_of(row)) {
+        Some(call) => call.reply,
+        None => "",
+    }
+}
+
+/// The number of the first call of a row.
+fn number_of(row: &Row) -> usize {
+    row.numbers.first().copied().unwrap_or(0)
+}
+
+/// The fault of the constraints that a call states, of one that was refused for it.
+fn fault_of(alloc: Global, call: &Made<'_>) -> Result<Option<Fault>, AllocError> {
+    let Act::SetConstraints(Some(value)) = call.act else {
+        return Ok(None);
+    };
+    if !call.code().starts_with('S') {
+        return Ok(None);
+    }
+    match read_constraints(alloc, value) {
+        Ok(_) => Ok(None),
+        Err(fault) if matches!(fault.code, Code::WantOfMemory) => Err(AllocError),
+        Err(fault) => Ok(Some(fault)),
+    }
+}
+
+fn tell_row(
+    items: &mut Items,
+    document: &Document<'_>,
+    story: &Story<'_>,
+    row: &Row,
+) -> Result<(), AllocError> {
+    let number = number_of(row);
+    let Some(call) = story.call(number) else {
+        return Ok(());
+    };
+    let text = row_text(items.alloc(), call, row)?;
+    items.say(1, "", text)?;
+    let Some(fault) = row.fault else {
+        return Ok(());
+    };
+    let base = [
+        Step::Key("calls"),
+        Step::Item(number.saturating_sub(1)),
+        Step::Key("constraints"),
+    ];
+    tell_record_fault(items, 2, document, &base, fault, false)
+}
+
+/// Calls and why they were refused, and behind it their reply; of a fault only its field and its
+/// code, for it is told below.
+fn row_text(alloc: Global, call: &Made<'_>, row: &Row) -> Result<String, AllocError> {
+    let mut text = String::new(alloc);
+    put_calls(&mut text, call, &row.numbers)?;
+    let (code, reply) = (call.code(), call.reply);
+    let (cause, field, answer) = match row.fault {
+        None => (row.cause.as_str(), "", reply),
+        Some(_) if code == "S2" => ("a key that isn't known", "", code),
+        Some(_) => ("a fault in ", faulty_field(reply), code),
+    };
+    write!(text, ": {cause}{field} ({answer})")?;
+    Ok(text)
+}
+
+/// The field of a reply that names a fault: `S4 usage`.
+fn faulty_field<'a>(reply: &'a str) -> &'a str {
+    match reply.split_once(' ') {
+        Some((_, field)) if field != "whole" => field,
+        _ => "its constraints",
+    }
+}
+
+/// Puts which calls they are after a text: `call 3, bind a`, or `calls 3, 4 and 5`.
+fn put_calls(text: &mut String, call: &Made<'_>, numbers: &[usize]) -> Result<(), AllocError> {
+    let Some((number, others)) = numbers.split_first() else {
+        return Ok(());
+    };
+    if others.is_empty() {
+        return put_call(text, call, *number);
+    }
+    text.push_str("calls ")?;
+    put_numbers(text, numbers)
+}
+
+fn put_call(text: &mut String, call: &Made<'_>, number: usize) -> Result<(), AllocError> {
+    let name = call.name();
+    let on = call.on;
+    let (space, made) = match call.act.name_made() {
+        Some(made) => (" ", made),
+        None => ("", ""),
+    };
+    write!(text, "call {number}, {name} {on}{space}{made}")
+}
+
+/// Puts the numbers of calls after a text: `3, 4 and 5`.
+fn put_numbers(text: &mut String, numbers: &[usize]) -> Result<(), AllocError> {
+    let most = if numbers.len() > MOST_NUMBERS.saturating_add(1) {
+        MOST_NUMBERS
+    } else {
+        numbers.len()
+    };
+    let more = numbers.len().saturating_sub(most);
+    let parts = most.saturating_add(usize::from(more > 0));
+    for (k, number) in numbers.iter().take(most).enumerate() {
+        let mark = mark_after(k, parts);
+        write!(text, "{number}{mark}")?;
+    }
+    if more == 0 {
+        return Ok(());
+    }
+    write!(text, "{more} more")
+}
+
+/// Puts why a call was refused after a text.
+fn put_cause(
+    text: &mut String,
+    story: &Story<'_>,
+    call: &Made<'_>,
+    number: usize,
+) -> Result<(), AllocError> {
+    let on = call.on;
+    let Some(node) = call.node else {
+        return put_unmade(text, story, on);
+    };
+    match call.code() {
+        "E2" => put_wrong_state(text, story, call, node, number),
+        "E4" => write!(text, "{on} has no child: create_child comes first"),
+        "E5" => put_left_out(text, story, node),
+        "E6" => put_ended(text, story, node),
+        "E9" => put_too_early(text, story, node, number),
+        code => text.push_str(plain_cause(code)),
+    }
+}
+
+/// The cause that the code of a reply alone tells.
+fn plain_cause(code: &str) -> &'static str {
+    match code {
+        "E1" => "memory was refused",
+        "E3" => "there are 128 nodes already, those that are gone included",
+        _ => "its constraints have a fault, so it wasn't made",
+    }
+}
+
+/// Puts why a call on a name was skipped after a text: the call that makes the name wasn't made.
+fn put_unmade(text: &mut String, story: &Story<'_>, on: &str) -> Result<(), AllocError> {
+    for (index, other) in story.calls.iter().enumerate() {
+        if other.act.name_made() == Some(on) {
+            let number = index.saturating_add(1);
+            return write!(text, "call {number}, which makes {on}, wasn't made");
+        }
+    }
+    write!(text, "{on} wasn't made")
+}
+
+/// Puts a domain with its root's name after a text: `domain /0 (camera)`.
+pub fn put_domain(text: &mut String, story: &Story<'_>, root: usize) -> Result<(), AllocError> {
+    let path = story.path(root);
+    let name = story.name(root);
+    write!(text, "domain {path} ({name})")
+}
+
+/// Puts what became of the domain of a node, and after which call, after a text.
+fn put_ended(text: &mut String, story: &Story<'_>, node: usize) -> Result<(), AllocError> {
+    let Some(domain) = story.domain_of(node) else {
+        return Ok(());
+    };
+    put_domain(text, story, domain.root)?;
+    let number = domain.ended.unwrap_or(0);
+    let verdict = domain.verdict();
+    if verdict == "failed" {
+        write!(text, " failed after call {number}")
+    } else {
+        write!(text, " was decided after call {number}: {verdict}")
+    }
+}
+
+/// Which group chose another child than the one above a node.
+pub fn left_out(alloc: Global, story: &Story<'_>, node: usize) -> Result<String, AllocError> {
+    let mut text = String::new(alloc);
+    put_left_out(&mut text, story, node)?;
+    Ok(text)
+}
+
+fn put_left_out(text: &mut String, story: &Story<'_>, node: usize) -> Result<(), AllocError> {
+    let Some((group, below)) = chooser(story, node) else {
+        return text.push_str("another selection was chosen");
+    };
+    let other = chosen_child(*text.allocator(), story, group)?.unwrap_or(below);
+    let name = story.name(group);
+    let yes = story.name(other);
+    let no = story.name(below);
+    let number = end_of(story, node).unwrap_or(0);
+    write!(text, "{name} chose {yes} and not {no}, after call {number}")
+}
+
+/// The next selected node above a node, with its child above the node or the node itself.
+fn chooser(story: &Story<'_>, node: usize) -> Option<(usize, usize)> {
+    let mut below = node;
+    let mut above = story.parent(node);
+    for _level in 0..128 {
+        let group = above?;
+        if story.is_selected(group) {
+            break;
+        }
+        below = group;
+        above = story.parent(group);
+    }
+    Some((above?, below))
+}
+
+/// The child of a group that is selected.
+fn chosen_child(
+    alloc: Global,
+    story: &Story<'_>,
+    group: usize,
+) -> Result<Option<usize>, AllocError> {
+    for child in &story.children(alloc, group)? {
+        if story.is_selected(*child) {
+            return Ok(Some(*child));
+        }
+    }
+    Ok(None)
+}
+
+/// Puts who was still awaited when a verdict was asked for, and when it came, after a text.
+fn put_too_early(
+    text: &mut String,
+    story: &Story<'_>,
+    node: usize,
+    number: usize,
+) -> Result<(), AllocError> {
+    let index = match story.nodes.get(node) {
+        Some(node) => node.domain,
+        None => 0,
+    };
+    text.push_str("asked too early, ")?;
+    put_awaited(text, story, index, number)?;
+    let Some(domain) = story.domain_of(node) else {
+        return Ok(());
+    };
+    // Later there is no verdict to be had either.
+    if domain.verdict() == "failed" {
+        return Ok(());
+    }
+    let last = domain.ended.unwrap_or(0);
+    write!(text, ": move it after call {last}, or use wait")
+}
+
+/// Puts for whom the domain of an index waits before the call of a number after a text.
+fn put_awaited(
+    text: &mut String,
+    story: &Story<'_>,
+    index: usize,
+    number: usize,
+) -> Result<(), AllocError> {
+    let alloc = *text.allocator();
+    let awaited = story.awaited(alloc, index, number)?;
+    let names = story.names(alloc, &awaited)?;
+    put_those_awaited(text, &names)
+}
+
+fn put_those_awaited(text: &mut String, names: &[&str]) -> Result<(), AllocError> {
+    if names.is_empty() {
+        return text.push_str("the domain that it was attached to is still awaited");
+    }
+    put_few(text, names, MOST_NAMES)?;
+    put_by_count(text, names, " is still awaited", " are still awaited")
+}
+
+/// Puts words on one name after a text, or those on several.
+fn put_by_count(
+    text: &mut String,
+    names: &[&str],
+    one: &str,
+    many: &str,
+) -> Result<(), AllocError> {
+    text.push_str(if names.len() == 1 { one } else { many })
+}
+
+/// Puts which state of a node doesn't allow a call after a text.
+fn put_wrong_state(
+    text: &mut String,
+    story: &Story<'_>,
+    call: &Made<'_>,
+    node: usize,
+    number: usize,
+) -> Result<(), AllocError> {
+    let on = call.on;
+    if let Some(gone) = story.deed_before(node, Deed::End, number) {
+        return put_gone(text, story, call, number, gone);
+    }
+    let makes = matches!(call.act, Act::CreateChild(_) | Act::AllChildrenPresent);
+    match story.kind_before(node, number) {
+        NodeKind::Token if makes => write!(text, "{on} is a token, no group"),
+        NodeKind::Token => put_unbound(text, story, call, node, number),
+        NodeKind::Group => put_wrong_group(text, story, call, node, number, makes),
+        NodeKind::Collection => put_wrong_collection(text, story, call, node, number),
+    }
+}
+
+/// A call on a node that the call of the number `gone` released or closed.
+fn put_gone(
+    text: &mut String,
+    story: &Story<'_>,
+    call: &Made<'_>,
+    number: usize,
+    gone: usize,
+) -> Result<(), AllocError> {
+    let on = call.on;
+    let actor = story.actor(gone);
+    let how = match story.call(gone) {
+        Some(deed) if matches!(deed.act, Act::Close) => "closed",
+        _ => "released",
+    };
+    write!(text, "{on} was {how} by call {gone} ({actor})")?;
+    put_unset(text, story, call, number, "; it may mean ")
+}
+
+/// A call that needs a collection, on a token.
+fn put_unbound(
+    text: &mut String,
+    story: &Story<'_>,
+    call: &Made<'_>,
+    node: usize,
+    number: usize,
+) -> Result<(), AllocError> {
+    let on = call.on;
+    let Some(later) = story.deed(node, Deed::Bind) else {
+        return write!(text, "{on} is a token: bind makes it a collection");
+    };
+    write!(
+        text,
+        "{on} is a token until call {later} binds it: move this call after call {later}"
+    )?;
+    put_unset(text, story, call, number, ", or it means ")
+}
+
+/// Of a call that states constraints puts who was bound before it and has none after a text, if
+/// somebody is, with words before it: it may be meant.
+fn put_unset(
+    text: &mut String,
+    story: &Story<'_>,
+    call: &Made<'_>,
+    number: usize,
+    before: &str,
+) -> Result<(), AllocError> {
+    if !matches!(call.act, Act::SetConstraints(_)) {
+        return Ok(());
+    }
+    let names = unset(*text.allocator(), story, number)?;
+    put_those_unset(text, &names, before)
+}
+
+/// The names of those who were bound before the call of a number and have no constraints.
+fn unset<'a>(alloc: Global, story: &Story<'a>, number: usize) -> Result<Vec<&'a str>, AllocError> {
+    let mut names = Vec::new(alloc);
+    for node in 0..story.nodes.len() {
+        let is_bound = story.deed_before(node, Deed::Bind, number).is_some();
+        if is_bound && story.is_awaited(node, usize::MAX) {
+            names.push(story.name(node))?;
+        }
+    }
+    Ok(names)
+}
+
+fn put_those_unset(text: &mut String, names: &[&str], before: &str) -> Result<(), AllocError> {
+    if names.is_empty() {
+        return Ok(());
+    }
+    text.push_str(before)?;
+    put_joined(text, names, "or")?;
+    put_by_count(text, names, ", which isn't set", ", which aren't set")
+}
+
+fn put_wrong_group(
+    text: &mut String,
+    story: &Story<'_>,
+    call: &Made<'_>,
+    node: usize,
+    number: usize,
+    makes: bool,
+) -> Result<(), AllocError> {
+    let on = call.on;
+    if makes {
+        let last = story.deed_before(node, Deed::Complete, number).unwrap_or(0);
+        return write!(
+            text,
+            "{on} got its last child before call {last}, all_children_present"
+        );
+    }
+    let why = if matches!(call.act, Act::Release) {
+        "isn't complete: all_children_present comes first"
+    } else {
+        "is a group: only create_child, all_children_present, release and close suit it"
+    };
+    write!(text, "{on} {why}")
+}
+
+fn put_wrong_collection(
+    text: &mut String,
+    story: &Story<'_>,
+    call: &Made<'_>,
+    node: usize,
+    number: usize,
+) -> Result<(), AllocError> {
+    let on = call.on;
+    match call.act {
+        Act::SetConstraints(_) => put_set_before(text, story, call, node, number),
+        Act::Duplicate(_) | Act::CreateGroup(_) | Act::Bind => {
+            put_bound(text, story, call, node, number)
+        }
+        _ => write!(text, "{on} is a collection, no group"),
+    }
+}
+
+/// A call that needs a token, on a collection.
+fn put_bound(
+    text: &mut String,
+    story: &Story<'_>,
+    call: &Made<'_>,
+    node: usize,
+    number: usize,
+) -> Result<(), AllocError> {
+    let on = call.on;
+    let bound = story.deed_before(node, Deed::Bind, number).unwrap_or(0);
+    write!(text, "{on} is no token any more: call {bound} bound it")?;
+    if call.act.name_made().is_none() {
+        return Ok(());
+    }
+    write!(text, "; move call {bound} after this call")
+}
+
+/// Constraints on a collection that has some; maybe a node whose name is that of the actor is
+/// meant.
+fn put_set_before(
+    text: &mut String,
+    story: &Story<'_>,
+    call: &Made<'_>,
+    node: usize,
+    number: usize,
+) -> Result<(), AllocError> {
+    let on = call.on;
+    let actor = call.actor;
+    let first = story
+        .deed_before(node, Deed::SetConstraints, number)
+        .unwrap_or(0);
+    write!(
+        text,
+        "call {first} already set {on}; call {number} changed nothing"
+    )?;
+    if actor != on && is_name(story, actor) {
+        put_meant(text, actor)
+    } else {
+        put_unset(text, story, call, number, ": it may mean ")
+    }
+}
+
+/// Whether a node has this name.
+fn is_name(story: &Story<'_>, name: &str) -> bool {
+    for node in &story.nodes {
+        if node.name == name {
+            return true;
+        }
+    }
+    false
+}
+
+/// Puts who may be meant after a text.
+fn put_meant(text: &mut String, actor: &str) -> Result<(), AllocError> {
+    write!(text, " (is {actor} meant? its actor is {actor})")
+}

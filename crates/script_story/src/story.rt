@@ -1,0 +1,363 @@
+//! What a script's calls did, call by call and node by node.
+
+ghost use Rattle.std.specs.Prelude.{◌≡◌};
+ghost use Rattle.script_story.specs.Paths.{path_at};
+
+use script_reading::Act;
+use std::alloc::{AllocError, Global};
+use sysmem_merge::Settings;
+use sysmem_sanitise::Constraints;
+use sysmem_tree::{NodeKind, NodeState};
+
+/// A call, with its answer.
+#[derive(Clone, Copy)]
+pub struct Made<'a> {
+    pub act: Act<'a>,
+    /// The name on which it is made.
+    pub on: &'a str,
+    pub place: usize,
+    pub actor: &'a str,
+    /// The node on which it is made, by number, if there is one.
+    pub node: Option<usize>,
+    /// What the report says of it.
+    pub reply: &'a str,
+}
+
+impl<'a> Made<'a> {
+    /// Whether it was made.
+    pub fn is_accepted(&self) -> bool {
+        self.reply == "ok"
+    }
+
+    /// Whether it asks for a verdict alone.
+    pub fn asks(&self) -> bool {
+        matches!(self.act, Act::Check | Act::Wait)
+    }
+
+    /// Its name.
+    pub fn name(&self) -> &'static str {
+        name_of(&self.act)
+    }
+
+    /// The code of its reply: `ok`, `E2`.
+    pub fn code(&self) -> &'a str {
+        match self.reply.split_once(' ') {
+            Some((code, _)) => code,
+            None => self.reply,
+        }
+    }
+}
+
+/// The name of a call.
+fn name_of(act: &Act<'_>) -> &'static str {
+    match act {
+        Act::Duplicate(_) => "duplicate",
+        Act::Bind => "bind",
+        Act::SetConstraints(_) => "set_constraints",
+        Act::CreateGroup(_) => "create_group",
+        Act::CreateChild(_) => "create_child",
+        Act::AllChildrenPresent => "all_children_present",
+        Act::AttachToken(_) => "attach_token",
+        Act::Release => "release",
+        Act::Close => "close",
+        Act::Check => "check",
+        Act::Wait => "wait",
+    }
+}
+
+/// What is done to a node once.
+#[derive(Clone, Copy)]
+pub enum Deed {
+    Bind,
+    SetConstraints,
+    /// It is released or closed.
+    End,
+    /// A group has all its children.
+    Complete,
+}
+
+/// The deed that a call does, if it does one.
+fn deed_of(act: &Act<'_>) -> Option<Deed> {
+    match act {
+        Act::Bind => Some(Deed::Bind),
+        Act::SetConstraints(_) => Some(Deed::SetConstraints),
+        Act::Release | Act::Close => Some(Deed::End),
+        Act::AllChildrenPresent => Some(Deed::Complete),
+        _ => None,
+    }
+}
+
+/// The numbers of the first calls that did a node's deeds.
+#[derive(Clone, Copy, Default)]
+pub struct Deeds {
+    bind: Option<usize>,
+    set_constraints: Option<usize>,
+    end: Option<usize>,
+    complete: Option<usize>,
+}
+
+impl Deeds {
+    fn of(&self, deed: Deed) -> Option<usize> {
+        match deed {
+            Deed::Bind => self.bind,
+            Deed::SetConstraints => self.set_constraints,
+            Deed::End => self.end,
+            Deed::Complete => self.complete,
+        }
+    }
+
+    /// Keeps the number of a call that was made, where it is the first that does its deed.
+    pub fn note(&mut self, act: &Act<'_>, number: usize) {
+        let Some(deed) = deed_of(act) else {
+            return;
+        };
+        if self.of(deed).is_some() {
+            return;
+        }
+        match deed {
+            Deed::Bind => self.bind = Some(number),
+            Deed::SetConstraints => self.set_constraints = Some(number),
+            Deed::End => self.end = Some(number),
+            Deed::Complete => self.complete = Some(number),
+        }
+    }
+}
+
+/// A node, as the last call left it.
+#[derive(Drop)]
+pub struct Node<'a> {
+    pub name: &'a str,
+    /// Its path, as a report has it.
+    pub path: String,
+    /// Its parent, by number.
+    pub parent: Option<usize>,
+    /// Its domain, by index.
+    pub domain: usize,
+    pub state: NodeState,
+    /// The number of the call that made it; `None` of the root.
+    pub made_by: Option<usize>,
+    pub is_selected: bool,
+    pub constraints: Option<&'a Constraints>,
+    /// What was done to it, by which calls.
+    pub deeds: Deeds,
+}
+
+/// The front of a text up to its first space.
+pub fn first_word(text: &str) -> &str {
+    match text.split_once(' ') {
+        Some((word, _)) => word,
+        None => text,
+    }
+}
+
+/// A domain, as the last call left it.
+#[derive(Clone, Copy)]
+pub struct Domain<'a> {
+    /// Its root, by number.
+    pub root: usize,
+    /// The node to which its root was attached, by number; `None` of the initial one.
+    pub host: Option<usize>,
+    /// What the report says of it after its path: of a verdict the word, and what was chosen.
+    pub told: &'a str,
+    /// The call after which that came; `None` where it has no verdict.
+    pub ended: Option<usize>,
+    /// The settings that were chosen.
+    pub settings: Option<Settings>,
+}
+
+impl<'a> Domain<'a> {
+    /// The word of its verdict, or `pending`.
+    pub fn verdict(&self) -> &'a str {
+        first_word(self.told)
+    }
+}
+
+/// What a script's calls did.
+pub struct Story<'a> {
+    pub calls: Vec<Made<'a>>,
+    pub nodes: Vec<Node<'a>>,
+    pub domains: Vec<Domain<'a>>,
+    /// The domains by index, in the order of the report.
+    pub order: Vec<usize>,
+}
+
+impl Drop for Story<'_> {
+    fn drop(self) {
+        let Story {
+            calls: _,
+            nodes: _,
+            domains: _,
+            order: _,
+        } = self;
+    }
+}
+
+impl<'a> Story<'a> {
+    /// The name of a node.
+    pub fn name(&self, node: usize) -> &'a str {
+        match self.nodes.get(node) {
+            Some(node) => node.name,
+            None => "",
+        }
+    }
+
+    /// The path of a node, as a report has it; empty where there is no such node.
+    pub fn path(&self, node: usize) -> &str
+        ensures { result.now ≡ path_at self.now.nodes.items node }
+    {
+        match self.nodes.get(node) {
+            Some(node) => &node.path,
+            None => "",
+        }
+    }
+
+    /// The parent of a node, by number.
+    pub fn parent(&self, node: usize) -> Option<usize> {
+        self.nodes.get(node)?.parent
+    }
+
+    /// The number of the call that made a node.
+    pub fn maker(&self, node: usize) -> Option<usize> {
+        self.nodes.get(node)?.made_by
+    }
+
+    /// Whether a node is a group.
+    pub fn is_group(&self, node: usize) -> bool {
+        match self.nodes.get(node) {
+            Some(known) => known.state.kind == NodeKind::Group,
+            None => false,
+        }
+    }
+
+    /// Whether a node is selected.
+    pub fn is_selected(&self, node: usize) -> bool {
+        match self.nodes.get(node) {
+            Some(known) => known.is_selected,
+            None => false,
+        }
+    }
+
+    /// The call of this number, from 1.
+    pub fn call(&self, number: usize) -> Option<&Made<'a>> {
+        match number.checked_sub(1) {
+            Some(index) => self.calls.get(index),
+            None => None,
+        }
+    }
+
+    /// The actor of the call of this number.
+    pub fn actor(&self, number: usize) -> &'a str {
+        match self.call(number) {
+            Some(call) => call.actor,
+            None => "",
+        }
+    }
+
+    /// The number of the first call that did this to a node.
+    pub fn deed(&self, node: usize, deed: Deed) -> Option<usize> {
+        match self.nodes.get(node) {
+            Some(node) => node.deeds.of(deed),
+            None => None,
+        }
+    }
+
+    /// The same, before the call of a number.
+    pub fn deed_before(&self, node: usize, deed: Deed, number: usize) -> Option<usize> {
+        match self.deed(node, deed) {
+            Some(made) if made < number => Some(made),
+            _ => None,
+        }
+    }
+
+    /// What a node is before the call of a number.
+    pub fn kind_before(&self, node: usize, number: usize) -> NodeKind {
+        let Some(known) = self.nodes.get(node) else {
+            return NodeKind::Token;
+        };
+        if known.state.kind == NodeKind::Group {
+            return NodeKind::Group;
+        }
+        if self.deed_before(node, Deed::Bind, number).is_some() {
+            NodeKind::Collection
+        } else {
+            NodeKind::Token
+        }
+    }
+
+    /// The children of a node that lie in its domain, by number.
+    pub fn children(&self, alloc: Global, node: usize) -> Result<Vec<usize>, AllocError> {
+        let mut children = Vec::new(alloc);
+        let Some(parent) = self.nodes.get(node) else {
+            return Ok(children);
+        };
+        for (number, child) in self.nodes.iter().enumerate() {
+            if child.parent == Some(node) && child.domain == parent.domain {
+                children.push(number)?;
+            }
+        }
+        Ok(children)
+    }
+
+    /// Whether a decision of its domain waits for a node, before the call of a number.
+    pub fn is_awaited(&self, node: usize, number: usize) -> bool {
+        let Some(known) = self.nodes.get(node) else {
+            return false;
+        };
+        if matches!(known.made_by, Some(made) if made >= number) {
+            return false;
+        }
+        let is_open = self.deed_before(node, Deed::End, number).is_none();
+        match self.kind_before(node, number) {
+            NodeKind::Token => is_open,
+            NodeKind::Collection => {
+                let is_set = self
+                    .deed_before(node, Deed::SetConstraints, number)
+                    .is_some();
+                is_open && !is_set
+            }
+            NodeKind::Group => self.deed_before(node, Deed::Complete, number).is_none(),
+        }
+    }
+
+    /// The nodes for which the decision of a domain waits, before the call of a number, in the
+    /// order in which they were made.
+    pub fn awaited(
+        &self,
+        alloc: Global,
+        domain: usize,
+        number: usize,
+    ) -> Result<Vec<usize>, AllocError> {
+        let mut awaited = Vec::new(alloc);
+        for (node, known) in self.nodes.iter().enumerate() {
+            if known.domain == domain && self.is_awaited(node, number) {
+                awaited.push(node)?;
+            }
+        }
+        Ok(awaited)
+    }
+
+    /// The names of nodes.
+    pub fn names(&self, alloc: Global, nodes: &[usize]) -> Result<Vec<&'a str>, AllocError> {
+        let mut names = Vec::new(alloc);
+        for node in nodes {
+            names.push(self.name(*node))?;
+        }
+        Ok(names)
+    }
+
+    /// The root of the domain of an index, by number.
+    pub fn root_of(&self, index: usize) -> usize {
+        match self.domains.get(index) {
+            Some(domain) => domain.root,
+            None => 0,
+        }
+    }
+
+    /// The domain of a node.
+    pub fn domain_of(&self, node: usize) -> Option<&Domain<'a>> {
+        match self.nodes.get(node) {
+            Some(node) => self.domains.get(node.domain),
+            None => None,
+        }
+    }
+}
