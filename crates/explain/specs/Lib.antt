@@ -1,4 +1,3 @@
 pub mod Lines
 pub mod ObjectEndings
 pub mod PageEndings
-pub mod Spelled

@@ -16,7 +16,6 @@ mod entries;
 mod explaining;
 mod json;
 mod lines;
-mod markup;
 mod page;
 mod written;
 

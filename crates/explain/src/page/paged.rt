@@ -1,8 +1,8 @@
 //! The page of a script, whose calls are made once more for it.
 
-use crate::markup::page_of;
 use crate::page::drawing::drawing_of;
 use crate::page::proofs::proofs_of;
+use explanation_markup::page_of;
 use explanation_text::Item;
 use script_reading::{ParseFault, Script, parse_script, read_script};
 use script_story::{Effort, Setting, Story, story_of};

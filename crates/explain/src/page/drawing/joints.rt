@@ -1,8 +1,8 @@
 //! The nodes of a collection as the joints of a tree.
 
-use crate::markup::{Drawing, Joint, Shape};
 use crate::page::drawing::hindering::in_the_way_of;
 use crate::page::drawing::states::{standing_of, state_of};
+use explanation_markup::{Drawing, Joint, Shape};
 use script_story::Story;
 use std::alloc::{AllocError, Global};
 use sysmem_sanitise::Platform;

@@ -1,8 +1,8 @@
 //! What a node is and what its participant asks, in short, and how it stands with its domain's
 //! decision.
 
-use crate::markup::Standing;
 use bitflags::Flags;
+use explanation_markup::Standing;
 use explanation_text::wording::{put_count, put_few};
 use script_story::{Deed, Story};
 use std::alloc::{AllocError, Global};

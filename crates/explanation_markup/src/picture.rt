@@ -1,7 +1,7 @@
 //! The tree as a picture within the page, and as nested lists.
 
-use crate::markup::drawing::{Drawing, Joint, Shape, Standing, class_of};
-use crate::markup::page::Page;
+use crate::drawing::{Drawing, Joint, Shape, Standing, class_of};
+use crate::page::Page;
 use explanation_text::wording::width_of;
 
 /// How high a row is, in pixels.

@@ -1,6 +1,6 @@
 //! The items as sections of the page: lists of terms where they have labels, else plain lists.
 
-use crate::markup::page::Page;
+use crate::page::Page;
 use explanation_text::{Item, Kind};
 use std::alloc::Global;
 

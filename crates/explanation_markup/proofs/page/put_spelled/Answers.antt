@@ -3,9 +3,9 @@ use Rattle.std.proofs.lemmas.Iterator.{YieldsList-from_chars}
 use Rattle.std.proofs.lemmas.Iterator.Consumers.{YieldsList-end}
 use Rattle.std.proofs.lemmas.List.{append_assoc}
 use Rattle.std.specs.String.{string_bytes}
-use Rattle.explain.specs.Spelled.{spelled, spelling}
-use Rattle.explain.proofs.Spelling.{map_same, spelled_push}
-use Rattle.explain.proofs.markup.page.put_spelled.Goals as goal
+use Rattle.explanation_markup.specs.Spelled.{spelled, spelling}
+use Rattle.explanation_markup.proofs.Spelling.{map_same, spelled_push}
+use Rattle.explanation_markup.proofs.page.put_spelled.Goals as goal
 
 pub loop-c-preserved : goal.loop-c-preserved
 loop-c-preserved c =

@@ -1,6 +1,6 @@
 use Rattle.std.specs.Str.{chars}
-use Rattle.explain.proofs.Spelling.{inert, ok_map}
-use Rattle.explain.proofs.markup.page.put_words.Goals as goal
+use Rattle.explanation_markup.proofs.Spelling.{inert, ok_map}
+use Rattle.explanation_markup.proofs.page.put_words.Goals as goal
 
 pub returns : goal.returns
 returns c =

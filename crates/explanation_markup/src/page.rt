@@ -4,7 +4,7 @@
 ghost use Rattle.std.specs.Prelude.{◌≡◌, ◌++◌, OnOk, false, true};
 ghost use Rattle.std.specs.Str.{chars};
 ghost use Rattle.std.specs.String.{string_bytes};
-ghost use Rattle.explain.specs.Spelled.{Says, spelled, spelling};
+ghost use Rattle.explanation_markup.specs.Spelled.{Says, spelled, spelling};
 
 use explanation_text::wording::put_visible;
 use std::alloc::{AllocError, Global};

@@ -1,7 +1,7 @@
 //! The calls as a table with a column for each actor, and what proves the decisions.
 
-use crate::markup::drawing::{Drawing, Line, class_of};
-use crate::markup::page::Page;
+use crate::drawing::{Drawing, Line, class_of};
+use crate::page::Page;
 
 /// Puts the calls after the page, a row for each, and a row across for each decision where it came.
 pub(crate) fn put_calls(page: &mut Page, drawing: &Drawing<'_>) {

@@ -1,5 +1,10 @@
 //! What is told, as a page of HTML in one file: no scripts, fonts, images or addresses. It reads in
 //! order in a text browser, and is light or dark as the reader's system is.
+//!
+//! ```
+//! print!(rt; "{}", page_of(rt.alloc(), &items, None)?)?;
+//! ```
+#![tactic(auto)]
 
 mod calls;
 mod drawing;

@@ -6,7 +6,7 @@ use Rattle.std.proofs.lemmas.Bool.{ltb-true}
 use Rattle.std.proofs.lemmas.Str.{encode_ascii, encodes-append}
 use Rattle.std.specs.List.{list_all}
 use Rattle.std.specs.Str.{NoCharPasses, NonePass}
-use Rattle.explain.specs.Spelled.{is_markup, spelled, spelling}
+use Rattle.explanation_markup.specs.Spelled.{is_markup, spelled, spelling}
 
 none_append : (p : ℕ → Bool) (xs ys : List ℕ) → NonePass p xs → NonePass p ys → NonePass p (xs ++ ys)
 none_append p [] ys h k = k

@@ -1,11 +1,11 @@
 //! A page, whole.
 
-use crate::markup::calls::{put_calls, put_proofs};
-use crate::markup::drawing::Drawing;
-use crate::markup::page::Page;
-use crate::markup::picture::put_tree;
-use crate::markup::sections::put_items;
-use crate::markup::style::STYLE;
+use crate::calls::{put_calls, put_proofs};
+use crate::drawing::Drawing;
+use crate::page::Page;
+use crate::picture::put_tree;
+use crate::sections::put_items;
+use crate::style::STYLE;
 use explanation_text::{Item, Kind};
 use std::alloc::{AllocError, Global};
 
