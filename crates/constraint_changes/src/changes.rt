@@ -11,11 +11,12 @@ use crate::trials::{
     entries_behind, has_groups, is_worth, leaves_none, parties_of, put_choice,
 };
 use constraint_edits::{Edit, changes, edited, is_absurd};
+use domain_reasons::{choices_in, room_needed};
 use explanation_text::{Items, Kind};
-use script_story::{Deed, Effort, Story, asked_in, choices_in, room_needed};
-use settings_reasons::Asked;
+use script_story::{Deed, Effort, Story, asked_in};
 use std::alloc::{AllocError, Global};
 use std::slice::from_ref;
+use value_sources::Asked;
 
 /// How many changes are told.
 const MOST: usize = 5;

@@ -7,10 +7,11 @@ ghost use Rattle.constraint_changes.specs.Edited.{IsPromisedSo};
 
 use crate::changes::Search;
 use crate::trials::{Group, Stated, chosen_with, leaves_none, put_choice, put_line, restated};
-use script_story::{Deed, Setting, Story, are_exchanged, asked_in, choices_in};
+use domain_reasons::{are_exchanged, choices_in};
+use script_story::{Deed, Setting, Story, asked_in};
 use serde_json::Value;
-use settings_reasons::Asked;
 use std::alloc::{AllocError, Global};
+use value_sources::Asked;
 
 /// How many pairs of participants are tried.
 const MOST: usize = 24;

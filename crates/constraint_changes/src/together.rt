@@ -15,11 +15,12 @@ use crate::trials::{
 };
 use crate::walk::Walk;
 use constraint_edits::{Amount, Edit, Halving, changes, is_absurd};
+use domain_reasons::choices_in;
 use explanation_text::Items;
-use script_story::{Deed, choices_in};
+use script_story::Deed;
 use serde_json::Value;
-use settings_reasons::Asked;
 use std::alloc::{AllocError, Global};
+use value_sources::Asked;
 
 /// How many changes are made at once at most.
 const MOST: usize = 96;

@@ -1,10 +1,11 @@
 //! What a script means once each text in it is corrected that nearly is a known one.
 
+use domain_reasons::tell_in_short;
 use explanation_text::wording::{mark_after, put_visible};
 use explanation_text::{Item, Items, Kind, begins_character, line_of};
 use script_faults::{Document, tell_fault};
 use script_reading::{ParseFault, Script, ScriptFault, parse_script, read_script};
-use script_story::{Effort, Setting, story_of, tell_in_short};
+use script_story::{Effort, Setting, story_of};
 use std::alloc::{AllocError, Global};
 
 /// A text of the script, by the bytes between its quotes, and the one that it may mean.

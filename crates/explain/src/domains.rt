@@ -3,13 +3,14 @@
 use crate::entries::tell_unused;
 use constraint_changes::{Group, tell_changes, tell_together};
 use constraint_edits::edits_on;
+use domain_reasons::tell_domain;
 use explanation_text::Items;
 use other_outcomes::{
     tell_ended_later, tell_heaps, tell_later_children, tell_later_pairs, tell_platform, tell_then,
     tell_without,
 };
 use script_faults::Document;
-use script_story::{Setting, Story, asked_in, tell_domain};
+use script_story::{Setting, Story, asked_in};
 use std::alloc::AllocError;
 
 /// Tells each domain, in the order of the report.

@@ -8,14 +8,16 @@ ghost use Rattle.constraint_changes.specs.Edited.{IsPromised};
 
 use constraint_changes::{Trial, entry_place, line_at, put_choice, takes};
 use constraint_edits::{Edit, edited};
+use domain_reasons::choices_in;
 use explanation_text::{Items, Kind, Step};
 use script_faults::{Document, Part};
-use script_story::{Deed, Setting, Story, asked_in, choices_in};
+use script_story::{Deed, Setting, Story, asked_in};
 use serde_json::Value;
-use settings_reasons::{Asked, holder_of, unused_entries};
+use settings_reasons::{holder_of, unused_entries};
 use std::alloc::{AllocError, Global};
 use std::fmt::Write;
 use sysmem_formats::{Modifier, Pair, PixelFormat};
+use value_sources::Asked;
 
 /// How many are told of one participant.
 const MOST: usize = 3;

@@ -3,11 +3,12 @@
 use crate::corrected::{meant_in, tell_corrected};
 use crate::domains::tell_domains;
 use crate::lines::with_lines;
+use domain_reasons::answer_of;
 use explanation_text::{Item, Items, Kind, Span, column_of, line_of, repeated_keys};
 use other_outcomes::tell_moved;
 use script_faults::{Document, tell_fault, tell_no_json};
 use script_reading::{ParseFault, Script, ScriptFault, parse_script, read_script};
-use script_story::{Effort, Setting, Story, answer_of, refused_calls, story_of, tell_refused};
+use script_story::{Effort, Setting, Story, refused_calls, story_of, tell_refused};
 use serde_json::Value;
 use std::alloc::{AllocError, Global};
 

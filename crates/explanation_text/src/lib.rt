@@ -1,5 +1,6 @@
 //! What is told, as a list of items, and its text: lines of words, and lines of a source with
-//! carets below a part of them; and where the values of a JSON text stand in it.
+//! carets below a part of them; the same as a page of HTML; and where the values of a JSON text
+//! stand in it.
 //!
 //! ```
 //! let mut items = Items::new(rt.alloc());
@@ -12,6 +13,7 @@
 #![tactic(auto)]
 
 mod items;
+mod markup;
 mod near;
 mod places;
 mod printing;
@@ -19,6 +21,7 @@ mod snippet;
 pub mod wording;
 
 pub use items::{Item, Items, Kind, are_same};
+pub use markup::{Drawing, Joint, Line, Shape, Standing, page_of};
 pub use near::nearest;
 pub use places::{
     Expected, Span, Step, Stop, begins_character, characters, column_of, end_of_line, key_span_of,

@@ -6,13 +6,14 @@ ghost use Rattle.script_reading.specs.declared.call.Call.{Call as Called};
 ghost use Rattle.other_outcomes.specs.Moved.{IsMoved, IsPromisedMoved};
 
 use crate::moved::step;
+use domain_reasons::{accepted_before, room_needed};
 use explanation_text::wording::{MOST_NAMES, mark_after, put_few};
 use explanation_text::{Items, Kind};
 use script_reading::{Act, Call};
-use script_story::{Deed, Setting, Story, accepted_before, room_needed};
-use settings_reasons::Asked;
+use script_story::{Deed, Setting, Story};
 use std::alloc::{AllocError, Global};
 use std::fmt::Write;
+use value_sources::Asked;
 
 /// Over how many calls one is moved at most: for each of these the calls are gone through.
 const FARTHEST: usize = 256;

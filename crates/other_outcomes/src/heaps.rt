@@ -3,9 +3,9 @@
 use crate::platforms::{heaps_of, outcome_on};
 use explanation_text::{Items, Kind};
 use script_story::Setting;
-use settings_reasons::Asked;
 use std::alloc::{AllocError, Global};
 use sysmem_memory::Heap;
+use value_sources::Asked;
 
 /// What memory may be.
 #[derive(Clone, Copy)]

@@ -5,10 +5,11 @@ ghost use Rattle.std.specs.String.{string_bytes};
 ghost use Rattle.script_reading.specs.declared.call.Call.{Call as Called};
 ghost use Rattle.other_outcomes.specs.Moved.{IsMoved, IsPromisedMoved, moving};
 
+use domain_reasons::tell_in_short;
 use explanation_text::{Items, Kind};
 use script_reading::{Call, ParseFault, read_script};
 use script_replay::Replayed;
-use script_story::{Move, Setting, Story, moves_in, story_of, tell_in_short};
+use script_story::{Move, Setting, Story, moves_in, story_of};
 use serde_json::Value;
 use std::alloc::{AllocError, Global};
 use std::fmt::Write;

@@ -1,9 +1,10 @@
 //! What would be decided of a domain without those who are awaited.
 
+use domain_reasons::who_holds_up;
 use explanation_text::wording::{MOST_NAMES, put_few};
 use explanation_text::{Items, Kind};
 use script_reading::{Act, Call};
-use script_story::{Setting, Story, who_holds_up};
+use script_story::{Setting, Story};
 use std::alloc::{AllocError, Global};
 
 /// Tells what the domain of an index would be if nobody who is awaited stated anything. Groups

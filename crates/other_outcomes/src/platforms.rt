@@ -2,11 +2,11 @@
 
 use explanation_text::{Items, Kind};
 use script_story::Setting;
-use settings_reasons::Asked;
 use std::alloc::{AllocError, Global};
 use sysmem_formats::{Modifier, Pair};
 use sysmem_memory::{Heap, HeapInfo};
 use sysmem_sanitise::Platform;
+use value_sources::Asked;
 
 /// How many pairs are tried.
 const MOST: usize = 4;

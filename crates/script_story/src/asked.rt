@@ -3,8 +3,8 @@
 use crate::story::{Deed, Story};
 use script_reading::Act;
 use serde_json::Value;
-use settings_reasons::Asked;
 use std::alloc::{AllocError, Global};
+use value_sources::Asked;
 
 /// Those of some nodes that have constraints.
 pub fn asked_by<'a>(

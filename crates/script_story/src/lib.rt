@@ -1,19 +1,16 @@
 //! The story of a script's calls, told from their replay, call by call and node by node: what they
-//! did, why some were refused, what became of each domain and why, and what other calls on the
-//! script's platform do.
+//! did, why some were refused, and what other calls on the script's platform do.
 //!
 //! ```
 //! let told = setting.tell(rt.alloc(), &script.calls)?;
 //! let story = story_of(rt.alloc(), &value, &script.calls, &told)?;
 //! println!(rt; "{} of {} calls were refused", refused_calls(&story), story.calls.len())?;
-//! tell_domain(&mut items, &script.platform, &story, 0)?;
 //! ```
 #![tactic(auto)]
 
 mod asked;
 mod effort;
 mod moves;
-mod reasons;
 mod refused;
 mod setting;
 mod story;
@@ -23,10 +20,6 @@ mod words;
 pub use asked::{asked_by, asked_in};
 pub use effort::Effort;
 pub use moves::{Move, moves_in};
-pub use reasons::{
-    accepted_before, answer_of, are_exchanged, choices_in, room_needed, tell_domain, tell_in_short,
-    who_holds_up,
-};
 pub use refused::{left_out, put_domain, refused_calls, refused_words, tell_refused};
 pub use setting::Setting;
 pub use story::{Deed, Deeds, Domain, Made, Node, Story, first_word};

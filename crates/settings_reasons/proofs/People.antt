@@ -16,8 +16,8 @@ use Rattle.sysmem_sanitise.specs.Participant.{Participant}
 use Rattle.sysmem_sanitise.specs.Platform.{PlatformFacts}
 use Rattle.settings_reasons.specs.declared.rows.Reason.{Reason}
 use Rattle.settings_reasons.specs.True.{AreInTheWay, IsLineReason, IsPlaceReason}
-use Rattle.settings_reasons.specs.declared.sources.asked.Asked.{Asked}
-use Rattle.settings_reasons.specs.Sources.{all_asked}
+use Rattle.value_sources.specs.declared.asked.Asked.{Asked}
+use Rattle.value_sources.specs.Sources.{all_asked}
 
 -- what is read of each, of one more
 map_more : {X Y : Type 0} (f : X → Y) (xs : List X) (i : ℕ) (x : X) → i < length xs → x ≡ get_or xs i x → map f (take i xs) ++ f x ∷ [] ≡ map f (take (i + 1) xs)

@@ -1,3 +1,2 @@
-pub mod Held
-pub mod Sources
 pub mod True
+pub mod Held

@@ -11,8 +11,8 @@ use Rattle.sysmem_merge.specs.Offers.{has_format, has_colour}
 use Rattle.sysmem_merge.specs.OfferRead.{IsRefusingLine}
 use Rattle.sysmem_sanitise.specs.Platform.{PlatformFacts}
 use Rattle.settings_reasons.specs.declared.rows.Reason.{Reason}
-use Rattle.settings_reasons.specs.declared.sources.asked.Asked.{Asked}
-use Rattle.settings_reasons.specs.Sources.{all_asked}
+use Rattle.value_sources.specs.declared.asked.Asked.{Asked}
+use Rattle.value_sources.specs.Sources.{all_asked}
 
 -- the field refuses the coherency domain of the heap to the participant
 abbrev pub Refuses : Field → HeapFacts → CoherencyDomain → Asked → Type 0

@@ -6,12 +6,12 @@ use crate::offering::{are_refused, offers_of};
 use crate::placing::{place_name, places_of};
 use crate::refusing::{place_rows, tell_offers};
 use crate::rows::{tell, tell_rows};
-use crate::sources::{Asked, Derived, Side, Wishes, why_needed};
 use explanation_text::Items;
 use std::alloc::{AllocError, Global};
 use sysmem_formats::{Offer, Pair, bytes_per_pixel};
 use sysmem_merge::Settings;
 use sysmem_sanitise::Platform;
+use value_sources::{Asked, Derived, Side, Wishes, why_needed};
 
 /// Tells where the settings come from that were chosen for participants.
 pub fn tell_settings(

@@ -2,12 +2,12 @@
 
 use crate::amounts::{Amount, amount_at};
 use crate::offer_words::pair_name;
-use crate::sources::Asked;
 use explanation_text::Items;
 use std::alloc::AllocError;
 use sysmem_counts::Field;
 use sysmem_image::{Entry, ImageBounds};
 use sysmem_sanitise::Constraints;
+use value_sources::Asked;
 
 /// How many are told.
 const MOST: usize = 4;

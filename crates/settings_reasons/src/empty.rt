@@ -3,7 +3,7 @@
 ghost use Rattle.std.specs.Prelude.{◌≡◌, ◌==◌, false, not, filter, IfOk, IfSome, IsTrue};
 ghost use Rattle.settings_reasons.specs.True.{AreInTheWay};
 ghost use Rattle.sysmem_merge.specs.Best.{IsUnmet};
-ghost use Rattle.settings_reasons.specs.Sources.{all_asked};
+ghost use Rattle.value_sources.specs.Sources.{all_asked};
 
 use crate::contradicting::tell_contradictions;
 use crate::lacking::{tell_no_heaps, tell_no_images};
@@ -11,7 +11,6 @@ use crate::offering::{are_refused, offers_of};
 use crate::placing::{has_no_place, places_of};
 use crate::refusing::{offer_rows, place_rows};
 use crate::rows::{nearest, tell, tell_rows};
-use crate::sources::{Asked, count_text, is_count_line, put_people};
 use explanation_text::Items;
 use explanation_text::wording::MOST_NAMES;
 use std::alloc::{AllocError, Global};
@@ -19,6 +18,7 @@ use sysmem_counts::Field;
 use sysmem_formats::Offer;
 use sysmem_merge::Aggregate;
 use sysmem_sanitise::Platform;
+use value_sources::{Asked, count_text, is_count_line, put_people};
 
 /// The two lines on a count.
 const COUNTS: [Field; 2] = [Field::MaxBufferCount, Field::BufferCountLimit];

@@ -9,7 +9,6 @@ use crate::offering::{are_refused, offers_of};
 use crate::placing::{put_place, put_place_reason};
 use crate::refusing::tell_offers;
 use crate::rows::tell;
-use crate::sources::Asked;
 use explanation_text::Items;
 use std::alloc::{AllocError, Global};
 use sysmem_counts::Field;
@@ -17,6 +16,7 @@ use sysmem_formats::Offer;
 use sysmem_image::{entry_for, takes_colour};
 use sysmem_merge::{Settings, fails_in};
 use sysmem_sanitise::{Constraints, Platform};
+use value_sources::Asked;
 
 /// The fields in which settings may fail a participant, in the order in which they are looked at.
 const FIELDS: &[Field] = &[

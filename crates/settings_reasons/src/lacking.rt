@@ -3,12 +3,12 @@
 use crate::listed::is_taken;
 use crate::offer_words::pair_name;
 use crate::rows::{Row, add, tell, tell_rows};
-use crate::sources::{Asked, put_has};
 use explanation_text::Items;
 use std::alloc::AllocError;
 use sysmem_image::{ColourSet, Entry};
 use sysmem_memory::Heap;
 use sysmem_sanitise::Platform;
+use value_sources::{Asked, put_has};
 
 /// Something that a participant names.
 #[derive(Drop)]

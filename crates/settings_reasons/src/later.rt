@@ -1,9 +1,9 @@
 //! What later entries of participants would take, of which an earlier one holds.
 
-use crate::sources::{Asked, Side, Wishes, put_people};
 use std::alloc::AllocError;
 use sysmem_formats::Offer;
 use sysmem_image::{Entry, entry_for, takes_colour};
+use value_sources::{Asked, Side, Wishes, put_people};
 
 /// Puts whose later entries take an offer after a text, if some do.
 pub(crate) fn put_later(

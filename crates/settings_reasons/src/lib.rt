@@ -22,12 +22,10 @@ mod offering;
 mod placing;
 mod refusing;
 mod rows;
-mod sources;
 mod unused;
 
 pub use chosen::tell_settings;
 pub use empty::{in_the_way, is_unmet, tell_conflict};
 pub use fixed::{failing, tell_misfits};
 pub use listed::listed_before;
-pub use sources::{Asked, put_texts, why_needed};
 pub use unused::{holder_of, unused_entries};

@@ -1,10 +1,10 @@
 //! Pairs that participants list before the one that was chosen.
 
-use crate::sources::Asked;
 use std::alloc::{AllocError, Global};
 use sysmem_formats::{Modifier, Pair, PixelFormat};
 use sysmem_image::Entry;
 use sysmem_sanitise::Platform;
+use value_sources::Asked;
 
 /// The pairs that stand after one on a platform, and that a participant names in an entry before
 /// its first that takes this one.

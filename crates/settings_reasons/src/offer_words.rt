@@ -4,12 +4,12 @@ use crate::amounts::amount_at;
 use crate::later::{put_later, put_later_size};
 use crate::listed::has_format;
 use crate::rows::{mark_after, put_those};
-use crate::sources::{Asked, Derived, Side, Wish, Wishes, format_of, put_has, put_texts};
 use explanation_text::wording::{put_few, put_joined};
 use std::alloc::{AllocError, Global};
 use sysmem_counts::Field;
 use sysmem_formats::{ColourSpace, Modifier, Offer, PixelFormat};
 use sysmem_image::{ColourSet, entry_for};
+use value_sources::{Asked, Derived, Side, Wish, Wishes, format_of, put_has, put_texts};
 
 const COLOURS: &[ColourSpace] = &[
     ColourSpace::Srgb,

@@ -7,16 +7,16 @@ ghost use Rattle.sysmem_formats.specs.declared.offer.Offer.{Offer as Offered};
 ghost use Rattle.sysmem_merge.specs.Demands.{OfferDemand, offer_demands};
 ghost use Rattle.sysmem_merge.specs.OfferRead.{IsOfferRead, IsRefusingLine};
 ghost use Rattle.sysmem_merge.specs.Reasons.{IsOfferRefused};
-ghost use Rattle.settings_reasons.specs.Sources.{all_asked};
+ghost use Rattle.value_sources.specs.Sources.{all_asked};
 
 use crate::rows::Reason;
-use crate::sources::Asked;
 use std::alloc::{AllocError, Global};
 use sysmem_counts::Field;
 use sysmem_formats::{Offer, offer_at};
 use sysmem_image::{entry_for, takes_colour};
 use sysmem_merge::OfferRead;
 use sysmem_sanitise::Platform;
+use value_sources::Asked;
 
 /// The lines on the bounds of images, in the order of the conflict table.
 const LINES: &[Field] = &[

@@ -4,13 +4,13 @@ use crate::offer_words::{offer_name, pair_name, put_offer_reason};
 use crate::offering::{distance_of, offer_reasons};
 use crate::placing::{place_name, place_reasons, put_place_reason};
 use crate::rows::{Reason, Row, add, tell_rows};
-use crate::sources::Asked;
 use explanation_text::Items;
 use std::alloc::{AllocError, Global};
 use std::mem;
 use sysmem_formats::Offer;
 use sysmem_memory::Place;
 use sysmem_sanitise::Platform;
+use value_sources::Asked;
 
 /// Rows of places that participants refuse. Where all reasons of all are asked for, the nearest
 /// place has the fewest who refuse it; else the first reason is enough, and the order stays.

@@ -1,9 +1,9 @@
 //! Rows of what fails for the same reasons.
 
-use crate::sources::{Asked, put_has, put_texts};
 use explanation_text::Items;
 use std::alloc::{AllocError, Global};
 use sysmem_counts::Field;
+use value_sources::{Asked, put_has, put_texts};
 
 /// How many rows of one kind are told; one more is shown rather than counted.
 const MOST_ROWS: usize = 6;

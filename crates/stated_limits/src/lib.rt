@@ -16,7 +16,7 @@ ghost use Rattle.sysmem_memory.specs.declared.bounds.TheConstants.{MOST_HEAPS};
 ghost use Rattle.sysmem_merge.specs.declared.sum.TheConstants.{MOST_ADDED};
 ghost use Rattle.sysmem_search.specs.declared.wide.TheConstants.{MOST_WORKERS};
 ghost use Rattle.sysmem_tree.specs.declared.tree.TheConstants.{MOST_NODES};
-ghost use Rattle.settings_reasons.specs.declared.sources.counting.TheConstants.{MOST_COUNTED};
+ghost use Rattle.value_sources.specs.declared.counting.TheConstants.{MOST_COUNTED};
 ghost use Rattle.verdict_claims.specs.declared.verdict.TheConstants.{MOST_SELECTIONS};
 
 /// What participants and platforms may state at most.

@@ -6,8 +6,8 @@ use explanation_text::{Step, line_of};
 use script_faults::{Document, Part};
 use script_story::{Deed, Setting, Story};
 use serde_json::Value;
-use settings_reasons::{Asked, put_texts};
 use std::alloc::{AllocError, Global};
+use value_sources::{Asked, put_texts};
 
 /// How long a text may be, in bytes, of which lines are told: for each line it is gone through.
 const LONGEST: usize = 262_144;

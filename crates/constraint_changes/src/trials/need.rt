@@ -2,10 +2,10 @@
 //! selected.
 
 use crate::trials::group::Group;
-use settings_reasons::Asked;
 use std::alloc::{AllocError, Global};
 use sysmem_counts::BUFFER_COUNT_LIMIT;
 use sysmem_memory::{CoherencyDomain, HeapInfo, refuses};
+use value_sources::Asked;
 
 const DOMAINS: [CoherencyDomain; 3] = [
     CoherencyDomain::Cpu,

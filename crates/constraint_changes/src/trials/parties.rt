@@ -3,8 +3,9 @@
 use crate::trials::group::Group;
 use crate::trials::need::need_in;
 use crate::trials::unmet::{Read, has_groups};
-use settings_reasons::{Asked, in_the_way, is_unmet};
+use settings_reasons::{in_the_way, is_unmet};
 use std::alloc::{AllocError, Global};
+use value_sources::Asked;
 
 /// How many parties are looked for at most.
 const MOST: usize = 24;

@@ -9,10 +9,11 @@ use crate::trials::trying::MOST_HALVINGS;
 use constraint_edits::{Amount, Changed, Edit, Halving};
 use script_story::Story;
 use serde_json::Value;
-use settings_reasons::{Asked, is_unmet};
+use settings_reasons::is_unmet;
 use std::alloc::{AllocError, Global};
 use std::slice::from_ref;
 use sysmem_sanitise::{Code, Constraints, read_constraints};
+use value_sources::Asked;
 
 /// What a participant asks in the place of what it states.
 #[derive(Clone, Copy)]

@@ -2,9 +2,9 @@
 
 use crate::trials::entries::takes;
 use constraint_edits::Edit;
-use settings_reasons::Asked;
 use sysmem_formats::{ColourSpace, Pair};
 use sysmem_image::Entry;
+use value_sources::Asked;
 
 /// Whether a change of a participant is worth a try, where at most so many are changed: a format or
 /// a colour space that it doesn't take, and that few others lack; or one that nobody names.

@@ -2,8 +2,7 @@
 
 use crate::page::drawing::drawing_of;
 use crate::page::proofs::proofs_of;
-use explanation_markup::page_of;
-use explanation_text::Item;
+use explanation_text::{Item, page_of};
 use script_reading::{ParseFault, Script, parse_script, read_script};
 use script_story::{Effort, Setting, Story, story_of};
 use serde_json::Value;

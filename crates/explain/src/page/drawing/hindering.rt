@@ -1,11 +1,12 @@
 //! Who is in the way of the domains that are empty.
 
 use script_story::{Domain, Story, asked_in};
-use settings_reasons::{Asked, failing, in_the_way};
+use settings_reasons::{failing, in_the_way};
 use std::alloc::{AllocError, Global};
 use sysmem_merge::Settings;
 use sysmem_sanitise::Platform;
 use sysmem_tree::NodeKind;
+use value_sources::Asked;
 
 /// The numbers of those who are in the way of an empty domain; of one with groups, where each
 /// selection has others, of none.

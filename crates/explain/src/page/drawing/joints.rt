@@ -2,7 +2,7 @@
 
 use crate::page::drawing::hindering::in_the_way_of;
 use crate::page::drawing::states::{standing_of, state_of};
-use explanation_markup::{Drawing, Joint, Shape};
+use explanation_text::{Drawing, Joint, Shape};
 use script_story::Story;
 use std::alloc::{AllocError, Global};
 use sysmem_sanitise::Platform;

@@ -2,7 +2,7 @@
 //! decision.
 
 use bitflags::Flags;
-use explanation_markup::Standing;
+use explanation_text::Standing;
 use explanation_text::wording::{put_count, put_few};
 use script_story::{Deed, Story};
 use std::alloc::{AllocError, Global};

@@ -1,7 +1,7 @@
 //! The calls by actor, and the decisions where they came.
 
 use crate::page::drawing::joints::add_joints;
-use explanation_markup::{Drawing, Line, Standing};
+use explanation_text::{Drawing, Line, Standing};
 use script_story::{Domain, Made, Story};
 use std::alloc::{AllocError, Global};
 use sysmem_sanitise::Platform;

@@ -3,7 +3,7 @@ use Rattle.std.proofs.Common.{false, subst, arith}
 use Rattle.std.proofs.lemmas.List.{take_all}
 use Rattle.sysmem_merge.specs.Aggregate.{StandsFor}
 use Rattle.sysmem_merge.specs.Best.{IsUnmet}
-use Rattle.settings_reasons.specs.Sources.{all_asked}
+use Rattle.value_sources.specs.Sources.{all_asked}
 use Rattle.settings_reasons.proofs.People.{all_more, err_means}
 use Rattle.settings_reasons.proofs.empty.is_unmet.Goals as goal
 

@@ -1,7 +1,7 @@
 -- What those so far ask.
 use Rattle.std.proofs.Common.{◌≤◌, take}
 use Rattle.sysmem_merge.specs.Aggregate.{StandsFor}
-use Rattle.settings_reasons.specs.Sources.{all_asked}
+use Rattle.value_sources.specs.Sources.{all_asked}
 use Rattle.settings_reasons.proofs.empty.is_unmet.Given as goal
 
 abbrev pub invariant-loop-one : goal.invariant-loop-one

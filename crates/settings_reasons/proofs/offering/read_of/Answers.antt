@@ -3,7 +3,7 @@ use Rattle.std.proofs.Common.{subst}
 use Rattle.std.proofs.lemmas.List.{take_all}
 use Rattle.sysmem_merge.specs.Demands.{offer_demand, offer_demands}
 use Rattle.sysmem_merge.specs.OfferRead.{IsOfferRead}
-use Rattle.settings_reasons.specs.Sources.{all_asked}
+use Rattle.value_sources.specs.Sources.{all_asked}
 use Rattle.settings_reasons.proofs.People.{asked_more}
 use Rattle.settings_reasons.proofs.offering.read_of.Goals as goal
 

@@ -2,7 +2,7 @@
 use Rattle.std.proofs.Common.{take}
 use Rattle.sysmem_merge.specs.Demands.{offer_demands}
 use Rattle.sysmem_merge.specs.OfferRead.{IsOfferRead}
-use Rattle.settings_reasons.specs.Sources.{all_asked}
+use Rattle.value_sources.specs.Sources.{all_asked}
 use Rattle.settings_reasons.proofs.offering.read_of.Given as goal
 
 abbrev pub invariant-loop-one : goal.invariant-loop-one

@@ -2,7 +2,7 @@
 use Rattle.std.proofs.Common.{take}
 use Rattle.sysmem_memory.specs.Place.{AreDomainsLeft}
 use Rattle.sysmem_merge.specs.Demands.{place_demands}
-use Rattle.settings_reasons.specs.Sources.{all_asked}
+use Rattle.value_sources.specs.Sources.{all_asked}
 use Rattle.settings_reasons.proofs.placing.has_no_place.Given as goal
 
 abbrev pub invariant-loop-one : goal.invariant-loop-one

@@ -1,0 +1,74 @@
+//! What the calls of a script came to, in one line.
+
+use explanation_text::wording::put_count;
+use script_story::{Made, Story, put_domain, refused_calls};
+use std::alloc::{AllocError, Global};
+use std::fmt::Write;
+
+/// The answer: how many calls were refused, and what became of each domain.
+pub fn answer_of(alloc: Global, story: &Story<'_>) -> Result<String, AllocError> {
+    let mut text = String::new(alloc);
+    put_count(&mut text, story.calls.len(), "call", "calls")?;
+    match refused_calls(story) {
+        0 => text.push_str(", none refused")?,
+        count => write!(text, ", {count} refused")?,
+    }
+    let more = odd_answers(story);
+    if more > 0 {
+        write!(text, ", {more} answered otherwise than ok")?;
+    }
+    put_verdicts(&mut text, story)?;
+    Ok(text)
+}
+
+/// How many verdicts were asked for in vain, where the domain's own section doesn't tell why.
+fn odd_answers(story: &Story<'_>) -> usize {
+    let mut count = 0usize;
+    for call in &story.calls {
+        if is_odd_answer(story, call) {
+            count = count.saturating_add(1);
+        }
+    }
+    count
+}
+
+/// Whether a verdict was asked for in vain, where the domain's own section doesn't tell why.
+fn is_odd_answer(story: &Story<'_>, call: &Made<'_>) -> bool {
+    if !call.asks() {
+        return false;
+    }
+    match call.code() {
+        "E9" => verdict_of(story, call).is_some(),
+        "E5" | "E6" => true,
+        _ => false,
+    }
+}
+
+/// The call after which the domain of a call's node had its verdict.
+fn verdict_of(story: &Story<'_>, call: &Made<'_>) -> Option<usize> {
+    story.domain_of(call.node?)?.ended
+}
+
+/// Puts what became of each domain after a text.
+fn put_verdicts(text: &mut String, story: &Story<'_>) -> Result<(), AllocError> {
+    let all = story.domains.len();
+    let most = if all > 9 { 8 } else { all };
+    for index in 0..most {
+        put_verdict(text, story, index)?;
+    }
+    let more = all.saturating_sub(most);
+    if more > 0 {
+        write!(text, "; {more} more domains")?;
+    }
+    Ok(())
+}
+
+fn put_verdict(text: &mut String, story: &Story<'_>, index: usize) -> Result<(), AllocError> {
+    let Some(domain) = story.domains.get(index) else {
+        return Ok(());
+    };
+    text.push_str("; ")?;
+    put_domain(text, story, domain.root)?;
+    let verdict = domain.verdict();
+    write!(text, " {verdict}")
+}

@@ -1,0 +1,118 @@
+//! What was chosen in a domain, and what decided it.
+
+use crate::passed_over::tell_passed_over;
+use crate::selecting::{Empty, tell_left_out};
+use explanation_text::Items;
+use script_story::{Domain, Story, asked_in, put_domain};
+use settings_reasons::tell_settings;
+use std::alloc::{AllocError, Global};
+use sysmem_sanitise::Platform;
+use value_sources::put_texts;
+
+/// How many choices are named.
+pub(crate) const MOST_CHOICES: usize = 6;
+
+/// Tells what was chosen in a domain, and why: of the initial one.
+pub(crate) fn tell_choice(
+    items: &mut Items,
+    platform: &Platform,
+    story: &Story<'_>,
+    index: usize,
+    domain: &Domain<'_>,
+) -> Result<(), AllocError> {
+    tell_children(items, story, index)?;
+    if let Some(host) = domain.host {
+        return tell_from(items, story, host);
+    }
+    let selections = Empty {
+        platform,
+        story,
+        root: domain.root,
+    };
+    tell_left_out(items, selections)?;
+    tell_passed_over(items, selections)?;
+    let people = asked_in(items.alloc(), story, index, true)?;
+    match &domain.settings {
+        Some(settings) => tell_settings(items, platform, &people, settings),
+        None => Ok(()),
+    }
+}
+
+/// Tells from which domain an attached one has its settings.
+fn tell_from(items: &mut Items, story: &Story<'_>, host: usize) -> Result<(), AllocError> {
+    let mut text = String::new(items.alloc());
+    if let Some(above) = story.domain_of(host) {
+        put_domain(&mut text, story, above.root)?;
+    }
+    text.push_str(", unchanged: these accept its settings")?;
+    items.say(1, "from", text)
+}
+
+/// Tells which child was chosen of each group that is selected.
+fn tell_children(items: &mut Items, story: &Story<'_>, index: usize) -> Result<(), AllocError> {
+    let alloc = items.alloc();
+    let texts = choices_of(alloc, story, index)?;
+    if texts.is_empty() {
+        return Ok(());
+    }
+    let mut text = String::new(alloc);
+    put_texts(&mut text, &texts, MOST_CHOICES)?;
+    items.say(1, "choice", text)
+}
+
+/// The child that was chosen of each group of a domain that is selected.
+fn choices_of(alloc: Global, story: &Story<'_>, index: usize) -> Result<Vec<String>, AllocError> {
+    let mut texts: Vec<String> = Vec::new(alloc);
+    for group in &groups_in(alloc, story, index)? {
+        if let Some(text) = choice_of(alloc, story, *group)? {
+            texts.push(text)?;
+        }
+    }
+    Ok(texts)
+}
+
+/// The groups of a domain.
+pub(crate) fn groups_in(
+    alloc: Global,
+    story: &Story<'_>,
+    index: usize,
+) -> Result<Vec<usize>, AllocError> {
+    let mut groups = Vec::new(alloc);
+    for (number, node) in story.nodes.iter().enumerate() {
+        if node.domain == index && story.is_group(number) {
+            groups.push(number)?;
+        }
+    }
+    Ok(groups)
+}
+
+/// The child that was chosen of a group, if the group is selected: `layouts: tiled (first of 2)`.
+fn choice_of(alloc: Global, story: &Story<'_>, group: usize) -> Result<Option<String>, AllocError> {
+    if !story.is_selected(group) {
+        return Ok(None);
+    }
+    let children = story.children(alloc, group)?;
+    for (place, child) in children.iter().enumerate() {
+        if story.is_selected(*child) {
+            let count = if place == 0 { children.len() } else { 0 };
+            return Ok(Some(choice_text(alloc, story, group, *child, count)?));
+        }
+    }
+    Ok(None)
+}
+
+/// A group with its chosen child: the first of so many, if several are counted.
+fn choice_text(
+    alloc: Global,
+    story: &Story<'_>,
+    group: usize,
+    child: usize,
+    count: usize,
+) -> Result<String, AllocError> {
+    let group = story.name(group);
+    let name = story.name(child);
+    if count > 1 {
+        return format!(in alloc; "{group}: {name} (first of {count})");
+    }
+    format!(in alloc; "{group}: {name}")
+}

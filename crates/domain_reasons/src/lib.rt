@@ -1,0 +1,26 @@
+//! What became of each domain of a script, and why: who is awaited and what helps, what decided
+//! each value of a choice, and who is in the way where nothing is chosen.
+//!
+//! ```
+//! tell_domain(&mut items, &script.platform, &story, 0)?;
+//! print!(rt; "{}", text_of(rt.alloc(), &items.into_list())?)?;
+//! ```
+#![tactic(auto)]
+
+mod answer;
+mod awaiting;
+mod choosing;
+mod domains;
+mod exchanged;
+mod failing;
+mod passed_over;
+mod selecting;
+mod short;
+
+pub use answer::answer_of;
+pub use awaiting::who_holds_up;
+pub use domains::tell_domain;
+pub use exchanged::are_exchanged;
+pub use failing::{accepted_before, room_needed};
+pub use selecting::choices_in;
+pub use short::tell_in_short;

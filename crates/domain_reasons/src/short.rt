@@ -1,0 +1,85 @@
+//! What a script's calls do, in a few lines.
+
+use crate::answer::answer_of;
+use crate::domains::tell_domain;
+use crate::selecting::{Empty, tell_left_out};
+use explanation_text::{Items, Kind};
+use script_story::{Story, refused_words};
+use std::alloc::AllocError;
+use sysmem_sanitise::Platform;
+
+/// How many lines are told of a domain.
+const MOST: usize = 8;
+
+/// Tells words with a label, if there was memory for them.
+pub(crate) fn tell(
+    items: &mut Items,
+    depth: usize,
+    label: &'static str,
+    words: Result<String, AllocError>,
+) -> Result<(), AllocError> {
+    items.say(depth, label, words?)
+}
+
+/// Tells the answer of a story, which calls are refused, and why each domain has no settings, or
+/// none with an earlier child.
+pub fn tell_in_short(
+    items: &mut Items,
+    platform: &Platform,
+    story: &Story<'_>,
+) -> Result<(), AllocError> {
+    let alloc = items.alloc();
+    tell(items, 2, "", answer_of(alloc, story))?;
+    for words in refused_words(alloc, story)? {
+        items.say(2, "", words)?;
+    }
+    for index in 0..story.domains.len() {
+        tell_shortly(items, platform, story, index)?;
+    }
+    Ok(())
+}
+
+/// Tells why a domain has no settings, or none with an earlier child, in a few lines.
+fn tell_shortly(
+    items: &mut Items,
+    platform: &Platform,
+    story: &Story<'_>,
+    index: usize,
+) -> Result<(), AllocError> {
+    let mut section = Items::new(items.alloc());
+    tell_reasons(&mut section, &*platform, &*story, index)?;
+    let mut told = 0usize;
+    for mut item in section.into_list() {
+        if item.kind == Kind::Title || item.label == "who" || told >= MOST {
+            continue;
+        }
+        told = told.saturating_add(1);
+        item.depth = item.depth.saturating_add(1);
+        items.add(item)?;
+    }
+    Ok(())
+}
+
+/// Tells the same in as many lines as it takes.
+fn tell_reasons<'a, 'b>(
+    items: &mut Items,
+    platform: &'b Platform,
+    story: &'b Story<'a>,
+    index: usize,
+) -> Result<(), AllocError> {
+    let Some(domain) = story.domains.get(index) else {
+        return Ok(());
+    };
+    if domain.verdict() != "chosen" {
+        return tell_domain(items, platform, story, index);
+    }
+    if domain.host.is_some() {
+        return Ok(());
+    }
+    let selections = Empty {
+        platform,
+        story,
+        root: domain.root,
+    };
+    tell_left_out(items, selections)
+}

@@ -1,8 +1,0 @@
-use Rattle.std.specs.Str.{chars}
-use Rattle.explanation_markup.proofs.Spelling.{inert, ok_map}
-use Rattle.explanation_markup.proofs.page.put_words.Goals as goal
-
-pub returns : goal.returns
-returns c =
-    let said = chars c.deref.result.now in
-    ok_map c.put_spelled.result (λ grown. record { said = said; grown = grown; inert = inert said }) c.put_spelled.ensures

@@ -1,0 +1,21 @@
+//! Where the least values come from that participants need together: how many buffers, how wide and
+//! how high an image, how long a row, how many bytes. Each with the names and fields that make it
+//! so, in words.
+//!
+//! ```
+//! let wishes = Wishes { people: &people, offer };
+//! let width = wishes.side(rt.alloc(), Side::Width)?;
+//! println!(rt; "{}: {}", width.value, width.why)?;
+//! ```
+#![tactic(auto)]
+
+mod asked;
+mod counting;
+mod multiples;
+mod sizes;
+mod wishes;
+
+pub use asked::{Asked, put_has, put_people, put_texts};
+pub use counting::{MOST_COUNTED, count_text, is_count_line, why_needed};
+pub use sizes::{Derived, format_of};
+pub use wishes::{Side, Wish, Wishes};

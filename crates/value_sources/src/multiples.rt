@@ -1,0 +1,115 @@
+//! Numbers that others are multiples of, with who asks for each.
+
+use crate::asked::put_texts;
+use crate::sizes::Derived;
+use explanation_text::wording::MOST_NAMES;
+use std::alloc::{AllocError, Global};
+
+/// A number that others are multiples of, and who asks for it.
+#[derive(Drop)]
+pub(crate) struct Multiple {
+    pub(crate) value: u128,
+    pub(crate) who: String,
+}
+
+/// The least multiple of a number that isn't below a value.
+pub(crate) fn up(value: u128, multiple: u128) -> u128 {
+    if multiple < 2 {
+        return value;
+    }
+    let over = value % multiple;
+    if over == 0 {
+        return value;
+    }
+    value.saturating_add(multiple.saturating_sub(over))
+}
+
+fn gcd(a: u128, b: u128) -> u128 {
+    let mut low = a;
+    let mut high = b;
+    for _step in 0..512 {
+        if low == 0 {
+            break;
+        }
+        let rest = high % low;
+        high = low;
+        low = rest;
+    }
+    high
+}
+
+fn lcm(a: u128, b: u128) -> u128 {
+    let shared = gcd(a, b);
+    if shared == 0 {
+        return 0;
+    }
+    (a / shared).saturating_mul(b)
+}
+
+/// The number that all are divisors of, and those who are needed for it.
+pub(crate) fn multiple_of(alloc: Global, parts: Vec<Multiple>) -> Result<Derived, AllocError> {
+    let whole = lcm_but(&parts, usize::MAX, &[]);
+    let why = who_asks(alloc, &parts, whole)?;
+    Ok(Derived { value: whole, why })
+}
+
+/// Those of the parts that are needed for the multiple of all, in words.
+fn who_asks(alloc: Global, parts: &[Multiple], whole: u128) -> Result<String, AllocError> {
+    let left_out = needless(alloc, parts, whole)?;
+    let texts = texts_of(alloc, parts, &left_out)?;
+    let mut words = String::new(alloc);
+    put_texts(&mut words, &texts, MOST_NAMES)?;
+    Ok(words)
+}
+
+/// The indices of parts without which the others have the same multiple, from the last to the
+/// first.
+fn needless(alloc: Global, parts: &[Multiple], whole: u128) -> Result<Vec<usize>, AllocError> {
+    let mut left_out: Vec<usize> = Vec::new(alloc);
+    for k in (0..parts.len()).rev() {
+        let is_trivial = match parts.get(k) {
+            Some(part) => part.value < 2,
+            None => true,
+        };
+        if is_trivial || lcm_but(parts, k, &left_out) == whole {
+            left_out.push(k)?;
+        }
+    }
+    Ok(left_out)
+}
+
+/// Who asks for the parts that aren't left out; of several each with its number.
+fn texts_of(
+    alloc: Global,
+    parts: &[Multiple],
+    left_out: &[usize],
+) -> Result<Vec<String>, AllocError> {
+    let kept = parts.len().saturating_sub(left_out.len());
+    let mut texts: Vec<String> = Vec::new(alloc);
+    for (k, part) in parts.iter().enumerate() {
+        if !left_out.contains(&k) {
+            texts.push(text_of(alloc, part, kept == 1)?)?;
+        }
+    }
+    Ok(texts)
+}
+
+/// Who asks for a part, with its number where others are asked for too.
+fn text_of(alloc: Global, part: &Multiple, is_alone: bool) -> Result<String, AllocError> {
+    let Multiple { value, who } = part;
+    if is_alone {
+        return String::from_str(alloc, who);
+    }
+    format!(in alloc; "{who} {value}")
+}
+
+/// The least common multiple of all parts but one and some others.
+fn lcm_but(parts: &[Multiple], index: usize, others: &[usize]) -> u128 {
+    let mut whole = 1u128;
+    for (k, part) in parts.iter().enumerate() {
+        if k != index && !others.contains(&k) {
+            whole = lcm(whole, part.value);
+        }
+    }
+    whole
+}
