@@ -2,6 +2,7 @@
 
 ghost use Rattle.std.specs.Prelude.{◌≡◌};
 
+use crate::words::Words;
 use std::alloc::{AllocError, Global};
 
 /// How an item is shown.
@@ -56,15 +57,20 @@ impl Item {
     }
 }
 
-/// A list of items that grows.
+/// A list of items that grows. Where memory is refused to a part of it, no list comes of it.
 pub struct Items {
     alloc: Global,
     list: Vec<Item>,
+    is_refused: bool,
 }
 
 impl Drop for Items {
     fn drop(self) {
-        let Items { alloc: _, list: _ } = self;
+        let Items {
+            alloc: _,
+            list: _,
+            is_refused: _,
+        } = self;
     }
 }
 
@@ -73,6 +79,7 @@ impl Items {
         Items {
             alloc,
             list: Vec::new(alloc),
+            is_refused: false,
         }
     }
 
@@ -80,49 +87,64 @@ impl Items {
         self.alloc
     }
 
-    pub fn push(
-        &mut self,
-        kind: Kind,
-        depth: usize,
-        label: &'static str,
-        text: String,
-    ) -> Result<(), AllocError> {
-        self.add(Item {
-            label,
-            text,
-            depth,
-            kind,
-        })
+    /// Memory was refused to something that is a part of the list.
+    pub fn refuse(&mut self) {
+        self.is_refused = true;
+    }
+
+    /// Refuses the list where memory was refused to what was to be told.
+    pub fn note(&mut self, told: Result<(), AllocError>) {
+        if told.is_err() {
+            self.refuse();
+        }
+    }
+
+    pub fn push(&mut self, kind: Kind, depth: usize, label: &'static str, words: Words) {
+        match words.done() {
+            Ok(text) => self.add(Item {
+                label,
+                text,
+                depth,
+                kind,
+            }),
+            Err(AllocError) => self.refuse(),
+        }
     }
 
     /// Puts an item after the list.
-    pub fn add(&mut self, item: Item) -> Result<(), AllocError> {
-        self.list.push(item)?;
-        Ok(())
+    pub fn add(&mut self, item: Item) {
+        if self.list.push(item).is_err() {
+            self.refuse();
+        }
     }
 
     /// Puts the title of a section after the list.
-    pub fn title(&mut self, text: &str) -> Result<(), AllocError> {
-        let text = String::from_str(self.alloc, text)?;
-        self.push(Kind::Title, 0, "", text)
+    pub fn title(&mut self, text: &str) {
+        self.push(Kind::Title, 0, "", Words::of(self.alloc, text))
     }
 
     /// Puts words with a label after the list.
-    pub fn say(
-        &mut self,
-        depth: usize,
-        label: &'static str,
-        text: String,
-    ) -> Result<(), AllocError> {
-        self.push(Kind::Words, depth, label, text)
+    pub fn say(&mut self, depth: usize, label: &'static str, words: Words) {
+        self.push(Kind::Words, depth, label, words)
+    }
+
+    /// Puts a text with a label after the list.
+    pub fn say_text(&mut self, depth: usize, label: &'static str, text: &str) {
+        self.say(depth, label, Words::of(self.alloc, text))
     }
 
     /// Puts all of another list after this one.
-    pub fn append(&mut self, others: Items) -> Result<(), AllocError> {
-        for item in others.into_list() {
-            self.list.push(item)?;
+    pub fn append(&mut self, others: Items) {
+        match others.into_list() {
+            Ok(list) => self.add_each(list),
+            Err(AllocError) => self.refuse(),
         }
-        Ok(())
+    }
+
+    fn add_each(&mut self, list: Vec<Item>) {
+        for item in list {
+            self.add(item);
+        }
     }
 
     /// How many there are.
@@ -139,15 +161,27 @@ impl Items {
         &self.list
     }
 
-    pub fn into_list(self) -> Vec<Item> {
-        let Items { list, alloc: _ } = self;
-        list
+    /// The list; `AllocError` where memory was refused to a part of it.
+    pub fn into_list(self) -> Result<Vec<Item>, AllocError> {
+        let Items {
+            list,
+            is_refused,
+            alloc: _,
+        } = self;
+        if is_refused {
+            Err(AllocError)
+        } else {
+            Ok(list)
+        }
     }
 }
 
-/// Whether two lists say the same.
+/// Whether two lists say the same; not where memory was refused to a part of one.
 pub fn are_same(a: &Items, b: &Items) -> bool {
-    a.list.len() == b.list.len() && a.list.iter().zip(&b.list).all(|(x, y)| is_same(x, y))
+    !a.is_refused
+        && !b.is_refused
+        && a.list.len() == b.list.len()
+        && a.list.iter().zip(&b.list).all(|(x, y)| is_same(x, y))
 }
 
 fn is_same(a: &Item, b: &Item) -> bool {

@@ -19,6 +19,7 @@ mod places;
 mod printing;
 mod snippet;
 pub mod wording;
+mod words;
 
 pub use items::{Item, Items, Kind, are_same};
 pub use markup::{Drawing, Joint, Line, Shape, Standing, page_of};
@@ -29,3 +30,4 @@ pub use places::{
 };
 pub use printing::text_of;
 pub use snippet::{Mark, show};
+pub use words::{Gathered, Words};

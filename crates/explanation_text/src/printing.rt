@@ -3,6 +3,7 @@
 
 use crate::items::{Item, Kind};
 use crate::wording::{put_repeated, width_of};
+use crate::words::Words;
 use std::alloc::{AllocError, Global};
 
 /// How wide a line is.
@@ -14,16 +15,16 @@ const LABEL: usize = 6;
 
 /// The text of items. Each line ends with a newline.
 pub fn text_of(alloc: Global, items: &[Item]) -> Result<String, AllocError> {
-    let mut text = String::new(alloc);
+    let mut text = Words::new(alloc);
     let mut indents = Vec::new(alloc);
     for item in items {
         put_item(&mut text, &mut indents, item)?;
     }
-    Ok(text)
+    text.done()
 }
 
 /// Puts an item after the text, and keeps how far what stands below it is indented.
-fn put_item(text: &mut String, indents: &mut Vec<usize>, item: &Item) -> Result<(), AllocError> {
+fn put_item(text: &mut Words, indents: &mut Vec<usize>, item: &Item) -> Result<(), AllocError> {
     let indent = match item.depth.checked_sub(1) {
         Some(above) => indents.get(above).copied().unwrap_or(2),
         None => 0,
@@ -32,14 +33,15 @@ fn put_item(text: &mut String, indents: &mut Vec<usize>, item: &Item) -> Result<
     let inner = indent.saturating_add(below(item, label));
     keep_indent(indents, item.depth, indent, inner)?;
     if item.kind == Kind::Source {
-        return put_source(text, indent, &item.text);
+        put_source(text, indent, &item.text);
+        return Ok(());
     }
-    put_label(text, item, indent, label)?;
+    put_label(text, item, indent, label);
     if item.kind == Kind::Words {
         return put_words(text, indent, label, &item.text);
     }
-    let words = item.text.as_str();
-    write!(text, "{words}\n")
+    text.put(&item.text).put("\n");
+    Ok(())
 }
 
 /// Keeps how far what stands below an item of this depth is indented, and forgets it of the items
@@ -83,75 +85,60 @@ fn below(item: &Item, label: usize) -> usize {
 }
 
 /// Puts an item's label after the text, at the line's begin; a title stands below an empty line.
-fn put_label(
-    text: &mut String,
-    item: &Item,
-    indent: usize,
-    label: usize,
-) -> Result<(), AllocError> {
+fn put_label(text: &mut Words, item: &Item, indent: usize, label: usize) {
     if item.kind == Kind::Title {
-        text.push_str("\n")?;
+        text.put("\n");
     }
-    put_repeated(text, ' ', indent)?;
-    text.push_str(item.label)?;
+    put_repeated(text, ' ', indent);
+    text.put(item.label);
     put_repeated(text, ' ', label.saturating_sub(width_of(item.label)))
 }
 
 /// Puts lines after the text, each after some spaces.
-fn put_source(text: &mut String, indent: usize, source: &str) -> Result<(), AllocError> {
+fn put_source(text: &mut Words, indent: usize, source: &str) {
     for line in source.lines() {
-        put_repeated(text, ' ', indent)?;
-        write!(text, "{line}\n")?;
+        put_repeated(text, ' ', indent);
+        text.put(line).put("\n");
     }
-    Ok(())
 }
 
 /// Puts words after the text, broken at spaces; a name stays with its path.
-fn put_words(
-    text: &mut String,
-    indent: usize,
-    label: usize,
-    words: &str,
-) -> Result<(), AllocError> {
+fn put_words(text: &mut Words, indent: usize, label: usize, words: &str) -> Result<(), AllocError> {
     let inner = indent.saturating_add(label.max(2));
     let most = WIDTH
         .saturating_sub(indent)
         .saturating_sub(label)
         .saturating_sub(2)
         .max(LEAST);
-    let parts: Vec<&str> = words.split(' ').collect(*text.allocator())?;
-    put_parts(text, &parts, inner, most)
+    let parts: Vec<&str> = words.split(' ').collect(text.alloc())?;
+    put_parts(text, &parts, inner, most);
+    Ok(())
 }
 
 /// Puts words after the text, and a line's end: of a line that would be so wide or wider what is
 /// left goes to the next, which is indented.
-fn put_parts(
-    text: &mut String,
-    parts: &[&str],
-    inner: usize,
-    most: usize,
-) -> Result<(), AllocError> {
+fn put_parts(text: &mut Words, parts: &[&str], inner: usize, most: usize) {
     let mut used = 0usize;
     for (k, word) in parts.iter().enumerate() {
         let width = width_of(word);
         let path = path_width(parts.get(k.saturating_add(1)));
         let needed = used.saturating_add(width).saturating_add(path);
         if 0 < k && needed >= most && !word.starts_with('/') {
-            begin_line(text, inner)?;
+            begin_line(text, inner);
             used = 0;
         } else if 0 < k {
-            text.push_str(" ")?;
+            text.put(" ");
             used = used.saturating_add(1);
         }
-        text.push_str(word)?;
+        text.put(word);
         used = used.saturating_add(width);
     }
-    text.push_str("\n")
+    text.put("\n");
 }
 
 /// Ends the text's line, and begins one that is indented.
-fn begin_line(text: &mut String, indent: usize) -> Result<(), AllocError> {
-    text.push_str("\n")?;
+fn begin_line(text: &mut Words, indent: usize) {
+    text.put("\n");
     put_repeated(text, ' ', indent)
 }
 

@@ -5,6 +5,7 @@ use crate::places::{
     Span, begins_character, characters, column_of, end_of_line, line_of, start_of_line,
 };
 use crate::wording::{put_repeated, put_visible, width_of};
+use crate::words::Words;
 use std::alloc::{AllocError, Global};
 
 /// How many characters of a line are shown.
@@ -25,7 +26,7 @@ pub struct Mark<'a> {
 /// What is shown of a line: its text, and where the carets stand below it.
 #[derive(Drop)]
 struct Window {
-    line: String,
+    line: Words,
     column: usize,
     carets: usize,
 }
@@ -38,32 +39,27 @@ pub fn show(
     bytes: &[u8],
     mark: Mark<'_>,
     helps: &[String],
-) -> Result<(), AllocError> {
-    let mut text = String::new(items.alloc());
-    put_snippet(&mut text, file, bytes, mark, helps)?;
+) {
+    let mut text = Words::new(items.alloc());
+    put_snippet(&mut text, file, bytes, mark, helps);
     items.push(Kind::Source, depth, "", text)
 }
 
 /// Puts where a part stands, its line, carets with a note below it, and what helps after a text.
-fn put_snippet(
-    text: &mut String,
-    file: &str,
-    bytes: &[u8],
-    mark: Mark<'_>,
-    helps: &[String],
-) -> Result<(), AllocError> {
+fn put_snippet(text: &mut Words, file: &str, bytes: &[u8], mark: Mark<'_>, helps: &[String]) {
     let at = mark.span.start.min(bytes.len());
     let line = line_of(bytes, at);
     let width = digits(line);
-    put_repeated(text, ' ', width)?;
-    text.push_str("--> ")?;
-    put_visible(text, file)?;
-    let column = column_of(bytes, at);
-    let said = mark.said;
-    write!(text, ":{line}:{column}{said}")?;
-    put_bar(text, width, " |")?;
-    write!(text, "\n{line} | ")?;
-    put_window(text, width, bytes, mark)?;
+    put_repeated(text, ' ', width);
+    text.put("--> ");
+    put_visible(text, file);
+    text.put(":").put_number(line);
+    text.put(":")
+        .put_number(column_of(bytes, at))
+        .put(mark.said);
+    put_bar(text, width, " |");
+    text.put("\n").put_number(line).put(" | ");
+    put_window(text, width, bytes, mark);
     put_helps(text, width, helps)
 }
 
@@ -73,55 +69,49 @@ fn digits(number: usize) -> usize {
 }
 
 /// Puts the line of a part with carets and a note below it after a text.
-fn put_window(
-    text: &mut String,
-    width: usize,
-    bytes: &[u8],
-    mark: Mark<'_>,
-) -> Result<(), AllocError> {
-    let window = window_of(*text.allocator(), bytes, mark)?;
-    let line = window.line.trim_end();
-    let note = mark.note;
-    text.push_str(line)?;
-    put_bar(text, width, " | ")?;
-    put_repeated(text, ' ', window.column)?;
-    put_repeated(text, '^', window.carets)?;
-    write!(text, " {note}")
+fn put_window(text: &mut Words, width: usize, bytes: &[u8], mark: Mark<'_>) {
+    let window = window_of(text.alloc(), bytes, mark);
+    match window.line.done() {
+        Ok(line) => text.put(line.trim_end()),
+        Err(AllocError) => return text.refuse(),
+    };
+    put_bar(text, width, " | ");
+    put_repeated(text, ' ', window.column);
+    put_repeated(text, '^', window.carets);
+    text.put(" ").put(mark.note);
 }
 
-fn put_bar(text: &mut String, width: usize, bar: &str) -> Result<(), AllocError> {
-    text.push_str("\n")?;
-    put_repeated(text, ' ', width)?;
-    text.push_str(bar)
+fn put_bar(text: &mut Words, width: usize, bar: &str) {
+    text.put("\n");
+    put_repeated(text, ' ', width);
+    text.put(bar);
 }
 
-fn put_helps(text: &mut String, width: usize, helps: &[String]) -> Result<(), AllocError> {
+fn put_helps(text: &mut Words, width: usize, helps: &[String]) {
     for help in helps {
-        put_bar(text, width, " = ")?;
-        put_help(text, width, help)?;
+        put_bar(text, width, " = ");
+        put_help(text, width, help);
     }
-    Ok(())
 }
 
 /// Puts what helps after a text, broken at spaces.
-fn put_help(text: &mut String, width: usize, help: &str) -> Result<(), AllocError> {
+fn put_help(text: &mut Words, width: usize, help: &str) {
     let mut used = 0usize;
     for word in help.split(' ') {
         let more = width_of(word).saturating_add(1);
         if 0 < used && used.saturating_add(more) > HELP {
-            put_bar(text, width, "   ")?;
+            put_bar(text, width, "   ");
             used = 0;
         } else if 0 < used {
-            text.push_str(" ")?;
+            text.put(" ");
         }
-        text.push_str(word)?;
+        text.put(word);
         used = used.saturating_add(more);
     }
-    Ok(())
 }
 
 /// What is shown of the line of a part, a stretch of it where it is long.
-fn window_of(alloc: Global, bytes: &[u8], mark: Mark<'_>) -> Result<Window, AllocError> {
+fn window_of(alloc: Global, bytes: &[u8], mark: Mark<'_>) -> Window {
     let start = mark.span.start;
     let begin = start_of_line(bytes, start);
     let whole = bytes.get(begin..end_of_line(bytes, start)).unwrap_or(&[]);
@@ -134,55 +124,51 @@ fn window_of(alloc: Global, bytes: &[u8], mark: Mark<'_>) -> Result<Window, Allo
         .saturating_add(carets)
         .saturating_add(width_of(mark.note));
     if all <= ROOM && needed <= ROOM {
-        let mut shown = String::new(alloc);
-        put_part(&mut shown, line)?;
-        return Ok(Window {
+        let mut shown = Words::new(alloc);
+        put_part(&mut shown, line);
+        return Window {
             line: shown,
             column,
             carets,
-        });
+        };
     }
     cut(alloc, line, all, column, carets)
 }
 
 /// A stretch of a long line.
-fn cut(
-    alloc: Global,
-    line: &[u8],
-    all: usize,
-    column: usize,
-    carets: usize,
-) -> Result<Window, AllocError> {
+fn cut(alloc: Global, line: &[u8], all: usize, column: usize, carets: usize) -> Window {
     let left = column.saturating_sub(BEFORE);
     let right = left.saturating_add(ROOM);
-    let mut shown = String::new(alloc);
+    let mut shown = Words::new(alloc);
     let mut before = column.saturating_sub(left);
     if 0 < left {
-        shown.push_str("...")?;
+        shown.put("...");
         before = before.saturating_add(3);
     }
     let from = place_of(line, left);
     let to = place_of(line, right);
-    put_part(&mut shown, line.get(from..to).unwrap_or(&[]))?;
-    let width = width_of(&shown);
+    put_part(&mut shown, line.get(from..to).unwrap_or(&[]));
+    let width = width_of(shown.as_str());
     if right < all {
-        shown.push_str("...")?;
+        shown.put("...");
     }
     let most = width
         .saturating_sub(before)
         .min(ROOM.saturating_sub(before))
         .max(1);
-    Ok(Window {
+    Window {
         line: shown,
         column: before,
         carets: carets.min(most),
-    })
+    }
 }
 
 /// Puts bytes after a text, as characters that can be seen.
-fn put_part(text: &mut String, bytes: &[u8]) -> Result<(), AllocError> {
-    let lossy = String::from_utf8_lossy(*text.allocator(), bytes)?;
-    put_visible(text, &lossy)
+fn put_part(text: &mut Words, bytes: &[u8]) {
+    match String::from_utf8_lossy(text.alloc(), bytes) {
+        Ok(lossy) => put_visible(text, &lossy),
+        Err(AllocError) => text.refuse(),
+    }
 }
 
 /// Where the character of this number stands, or the end.

@@ -1,29 +1,28 @@
 //! Lists of names and counts, in words.
 
-use std::alloc::AllocError;
+use crate::words::Words;
 
 /// How many names one list has; one more is shown rather than counted.
 pub const MOST_NAMES: usize = 4;
 
 /// Puts the names after the text, as `a, b and c`.
-pub fn put_joined(text: &mut String, names: &[&str], word: &str) -> Result<(), AllocError> {
+pub fn put_joined(text: &mut Words, names: &[&str], word: &str) {
     let Some((last, others)) = names.split_last() else {
-        return Ok(());
+        return;
     };
-    if others.is_empty() {
-        return text.push_str(last);
+    put_listed(text, others);
+    if !others.is_empty() {
+        text.put(" ").put(word).put(" ");
     }
-    put_listed(text, others)?;
-    write!(text, " {word} {last}")
+    text.put(last);
 }
 
 /// Puts the names after the text, with commas between them.
-fn put_listed(text: &mut String, names: &[&str]) -> Result<(), AllocError> {
+fn put_listed(text: &mut Words, names: &[&str]) {
     for (k, name) in names.iter().enumerate() {
         let before = if k == 0 { "" } else { ", " };
-        write!(text, "{before}{name}")?;
+        text.put(before).put(name);
     }
-    Ok(())
 }
 
 /// What stands after the item of an index in a list of so many: `, `, ` and ` or nothing.
@@ -36,19 +35,19 @@ pub fn mark_after(index: usize, count: usize) -> &'static str {
 }
 
 /// Puts at most so many of the names after the text, and counts the others: `a, b and 3 more`.
-pub fn put_few(text: &mut String, names: &[&str], most: usize) -> Result<(), AllocError> {
+pub fn put_few(text: &mut Words, names: &[&str], most: usize) {
     if names.len() <= most.saturating_add(1) {
         return put_joined(text, names, "and");
     }
-    put_listed(text, names.get(..most).unwrap_or(names))?;
+    put_listed(text, names.get(..most).unwrap_or(names));
     let more = names.len().saturating_sub(most);
-    write!(text, " and {more} more")
+    text.put(" and ").put_number(more).put(" more");
 }
 
 /// Puts a count with its word after the text: `1 call`, `2 calls`.
-pub fn put_count(text: &mut String, count: usize, one: &str, many: &str) -> Result<(), AllocError> {
+pub fn put_count(text: &mut Words, count: usize, one: &str, many: &str) {
     let word = if count == 1 { one } else { many };
-    write!(text, "{count} {word}")
+    text.put_number(count).put(" ").put(word);
 }
 
 /// The first and the last of each run of characters that can't be seen, or that steer a terminal or
@@ -89,19 +88,17 @@ fn visible(c: char) -> char {
 
 /// Puts a text after another, each of its characters as one that can be seen: a tab as a space, and
 /// others as U+FFFD.
-pub fn put_visible(text: &mut String, source: &str) -> Result<(), AllocError> {
+pub fn put_visible(text: &mut Words, source: &str) {
     for c in source.chars() {
-        text.push(visible(c))?;
+        text.put_char(visible(c));
     }
-    Ok(())
 }
 
 /// Puts so many of a character after the text.
-pub fn put_repeated(text: &mut String, c: char, times: usize) -> Result<(), AllocError> {
+pub fn put_repeated(text: &mut Words, c: char, times: usize) {
     for _i in 0..times {
-        text.push(c)?;
+        text.put_char(c);
     }
-    Ok(())
 }
 
 /// How many characters a text has.

@@ -7,6 +7,7 @@ ghost use Rattle.std.specs.String.{string_bytes};
 ghost use Rattle.explanation_text.specs.Spelled.{Says, spelled, spelling};
 
 use crate::wording::put_visible;
+use crate::words::Words;
 use std::alloc::{AllocError, Global};
 use std::fmt::Write;
 
@@ -93,9 +94,9 @@ impl Page {
 fn put_words(text: &mut String, words: &str) -> Result<(), AllocError>
     ensures { OnOk result (Says (string_bytes text.old) (string_bytes text.new)) }
 {
-    let mut seen = String::new(*text.allocator());
-    put_visible(&mut seen, words)?;
-    put_spelled(text, &seen)
+    let mut seen = Words::new(*text.allocator());
+    put_visible(&mut seen, words);
+    put_spelled(text, &seen.done()?)
 }
 
 /// Puts words after a text, each character as HTML spells it.
