@@ -2,6 +2,7 @@
 
 use crate::edits::{Changed, Edit};
 use crate::objects::{ENTRIES, MEMORY, entries_of, number_value, values_in, with};
+use explanation_text::{Gathered, Words};
 use serde_json::Value;
 use std::alloc::{AllocError, Global};
 use std::fmt;
@@ -184,13 +185,16 @@ pub(crate) fn with_amount(
         }
         _ => with(alloc, Some(value), name, amount.value(alloc)?)?,
     };
-    let was = match edit {
-        Edit::NoBound(_) => values_in(alloc, entries_of(value), name)?,
-        _ => format!(in alloc; "{stated}")?,
+    let mut words = Words::of(alloc, name);
+    words.put(" ");
+    match edit {
+        Edit::NoBound(_) => words.put_words(&values_in(alloc, entries_of(value), name)?),
+        _ => words.put_number(stated),
     };
+    words.put(" becomes ").put_number(amount);
     Ok(Changed {
         value: changed,
-        words: format!(in alloc; "{name} {was} becomes {amount}")?,
+        words: words.done()?,
     })
 }
 
@@ -214,11 +218,11 @@ fn with_bound(
     key: &str,
     amount: Amount,
 ) -> Result<Value, AllocError> {
-    let mut copy = Vec::new(alloc);
+    let mut copy = Gathered::new(alloc);
     for entry in entries_of(value) {
-        copy.push(entry_with(alloc, entry, key, amount)?)?;
+        copy.add(entry_with(alloc, entry, key, amount)?);
     }
-    with(alloc, Some(value), ENTRIES, Value::Array(copy))
+    with(alloc, Some(value), ENTRIES, Value::Array(copy.done()?))
 }
 
 /// An entry with another value of a bound, if it has that bound.

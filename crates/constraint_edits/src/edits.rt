@@ -7,6 +7,7 @@ use crate::objects::{ENTRIES, MEMORY, entries_of, have, lacking, values_in, with
 use crate::permitting::{meaning, means, permits_more, permitting};
 use crate::taking::{lacks_colour, putting_first, taking_colour, taking_pair};
 use crate::using::{asking_for, asks_for, has_cpu, without_cpu};
+use explanation_text::{Gathered, Words};
 use serde_json::Value;
 use std::alloc::{AllocError, Global};
 use sysmem_counts::Field;
@@ -222,9 +223,11 @@ fn supporting(alloc: Global, value: &Value, key: &str) -> Result<Option<Changed>
         None => "(absent, so false)",
     };
     let object = with(alloc, value.get(MEMORY), key, Value::Bool(true))?;
+    let mut words = Words::of(alloc, key);
+    words.put(" ").put(was).put(" becomes true");
     Ok(Some(Changed {
         value: with(alloc, Some(value), MEMORY, object)?,
-        words: format!(in alloc; "{key} {was} becomes true")?,
+        words: words.done()?,
     }))
 }
 
@@ -239,7 +242,7 @@ fn without(alloc: Global, value: &Value, key: &str) -> Result<Option<Changed>, A
     };
     Ok(Some(Changed {
         value: lacking(alloc, value, key)?,
-        words: words_without(alloc, key, member)?,
+        words: words_without(alloc, key, member).done()?,
     }))
 }
 
@@ -257,13 +260,14 @@ fn without_bound(alloc: Global, value: &Value, key: &str) -> Result<Option<Chang
     if !have(value, key) {
         return Ok(None);
     }
-    let mut copy = Vec::new(alloc);
+    let mut copy = Gathered::new(alloc);
     for entry in entries_of(value) {
-        copy.push(lacking(alloc, entry, key)?)?;
+        copy.add(lacking(alloc, entry, key)?);
     }
     let was = values_in(alloc, entries_of(value), key)?;
-    let words = format!(in alloc; "{key} {was} left out")?;
-    with_entries(alloc, value, copy, words)
+    let mut words = Words::of(alloc, key);
+    words.put(" ").put_words(&was).put(" left out");
+    with_entries(alloc, value, copy.done()?, words.done()?)
 }
 
 /// The constraints with other entries, and what is changed; `None` where nothing is.

@@ -3,6 +3,7 @@
 use crate::amount::amount_of;
 use crate::edits::{Changed, with_entries};
 use crate::objects::{MEMORY, entries_of, have, with};
+use explanation_text::{Gathered, Words};
 use serde_json::Value;
 use std::alloc::{AllocError, Global};
 
@@ -26,18 +27,18 @@ pub(crate) fn exchanged(
         return Ok(None);
     }
     let mut words = String::new(alloc);
-    let mut copy = Vec::new(alloc);
+    let mut copy = Gathered::new(alloc);
     for entry in entries_of(value) {
         match exchanged_in(alloc, entry, least, most)? {
             Some(change) => {
                 let (entry, said) = change.into_parts();
                 words = said;
-                copy.push(entry)?;
+                copy.add(entry);
             }
-            None => copy.push(entry.clone()?)?,
+            None => copy.add(entry.clone()?),
         }
     }
-    with_entries(alloc, value, copy, words)
+    with_entries(alloc, value, copy.done()?, words)
 }
 
 /// The same of one object.
@@ -57,9 +58,12 @@ fn exchanged_in(
         return Ok(None);
     }
     let lowered = with(alloc, Some(object), least, high.clone()?)?;
+    let mut words = Words::of(alloc, least);
+    words.put(" ").put_number(a).put(" and ");
+    words.put(most).put(" ").put_number(b).put(" exchanged");
     Ok(Some(Changed {
         value: with(alloc, Some(&lowered), most, low.clone()?)?,
-        words: format!(in alloc; "{least} {a} and {most} {b} exchanged")?,
+        words: words.done()?,
     }))
 }
 

@@ -1,6 +1,7 @@
 //! Values of JSON with a member put in or left out, and their words.
 
 use explanation_text::wording::put_few;
+use explanation_text::{Gathered, Words};
 use serde_json::{Map, Number, Value};
 use std::alloc::{AllocError, Global};
 
@@ -74,41 +75,48 @@ pub(crate) fn have(value: &Value, key: &str) -> bool {
 }
 
 /// Puts a value in short after a text: a size as `1920x1080`.
-fn put_value(text: &mut String, value: &Value) -> Result<(), AllocError> {
+fn put_value(text: &mut Words, value: &Value) {
     if let (Some(width), Some(height)) = (value.get("width"), value.get("height")) {
         if let (Some(width), Some(height)) = (width.as_u64(), height.as_u64()) {
-            return write!(text, "{width}x{height}");
+            text.put_number(width).put("x").put_number(height);
+            return;
         }
     }
-    let written = value.to_string(*text.allocator())?;
-    text.push_str(&written)
+    match value.to_string(text.alloc()) {
+        Ok(written) => {
+            text.put(&written);
+        }
+        Err(AllocError) => text.refuse(),
+    }
 }
 
 /// The values in short that a key has in entries, each once: `1280x720 and 4096x2160`.
-pub(crate) fn values_in(alloc: Global, entries: &[Value], key: &str) -> Result<String, AllocError> {
+pub(crate) fn values_in(alloc: Global, entries: &[Value], key: &str) -> Result<Words, AllocError> {
     let mut texts: Vec<String> = Vec::new(alloc);
     for entry in entries {
         if let Some(member) = entry.get(key) {
-            let mut text = String::new(alloc);
-            put_value(&mut text, member)?;
+            let mut words = Words::new(alloc);
+            put_value(&mut words, member);
+            let text = words.done()?;
             if !texts.contains(&text) {
                 texts.push(text)?;
             }
         }
     }
-    let mut words: Vec<&str> = Vec::new(alloc);
+    let mut names = Gathered::new(alloc);
     for text in &texts {
-        words.push(text.as_str())?;
+        names.add(text.as_str());
     }
-    let mut joined = String::new(alloc);
-    put_few(&mut joined, &words, 3)?;
+    let mut joined = Words::new(alloc);
+    put_few(&mut joined, &names.done()?, 3);
     Ok(joined)
 }
 
 /// `max_size 1920x1080 left out`.
-pub(crate) fn words_without(alloc: Global, key: &str, value: &Value) -> Result<String, AllocError> {
-    let mut words = format!(in alloc; "{key} ")?;
-    put_value(&mut words, value)?;
-    words.push_str(" left out")?;
-    Ok(words)
+pub(crate) fn words_without(alloc: Global, key: &str, value: &Value) -> Words {
+    let mut words = Words::of(alloc, key);
+    words.put(" ");
+    put_value(&mut words, value);
+    words.put(" left out");
+    words
 }

@@ -2,7 +2,7 @@
 
 use crate::edits::Changed;
 use crate::objects::{MEMORY, number_value, text_value, with};
-use explanation_text::nearest;
+use explanation_text::{Gathered, Words, nearest};
 use serde_json::Value;
 use std::alloc::{AllocError, Global};
 use sysmem_memory::{Heap, HeapInfo};
@@ -87,27 +87,27 @@ pub(crate) fn permitting(
     let Some(list) = others_than(value, heap) else {
         return Ok(None);
     };
-    let mut copy = Vec::new(alloc);
+    let mut copy = Gathered::new(alloc);
     for item in list {
-        copy.push(item.clone()?)?;
+        copy.add(item.clone()?);
     }
-    copy.push(heap_value(alloc, heap)?)?;
-    let name = heap.heap_type.as_str();
-    let id = heap.id;
-    let words = format!(in alloc; "permitted_heaps with {name}#{id} too")?;
-    permitted(alloc, value, copy, words)
+    copy.add(heap_value(alloc, heap)?);
+    let mut words = Words::of(alloc, "permitted_heaps with ");
+    words.put(&heap.heap_type).put("#").put_number(heap.id);
+    words.put(" too");
+    permitted(alloc, value, copy.done()?, words)
 }
 
 fn permitted(
     alloc: Global,
     value: &Value,
     list: Vec<Value>,
-    words: String,
+    words: Words,
 ) -> Result<Option<Changed>, AllocError> {
     let memory = with(alloc, value.get(MEMORY), HEAPS, Value::Array(list))?;
     Ok(Some(Changed {
         value: with(alloc, Some(value), MEMORY, memory)?,
-        words,
+        words: words.done()?,
     }))
 }
 
@@ -146,22 +146,24 @@ pub(crate) fn meaning(
     let Some(place) = near_in(alloc, list, heap, heaps)? else {
         return Ok(None);
     };
-    let mut copy = Vec::new(alloc);
-    let mut words = String::new(alloc);
+    let mut copy = Gathered::new(alloc);
+    let mut words = Words::new(alloc);
     for (index, item) in list.iter().enumerate() {
         if index == place {
-            words = words_for(alloc, heap, item)?;
-            copy.push(heap_value(alloc, heap)?)?;
+            words = words_for(alloc, heap, item);
+            copy.add(heap_value(alloc, heap)?);
         } else {
-            copy.push(item.clone()?)?;
+            copy.add(item.clone()?);
         }
     }
-    permitted(alloc, value, copy, words)
+    permitted(alloc, value, copy.done()?, words)
 }
 
 /// `permitted_heaps with cma#0 in the place of cmma#0`.
-fn words_for(alloc: Global, heap: &Heap, item: &Value) -> Result<String, AllocError> {
-    let (name, id) = (heap.heap_type.as_str(), heap.id);
-    let (other, number) = (type_in(item), id_in(item));
-    format!(in alloc; "permitted_heaps with {name}#{id} in the place of {other}#{number}")
+fn words_for(alloc: Global, heap: &Heap, item: &Value) -> Words {
+    let mut words = Words::of(alloc, "permitted_heaps with ");
+    words.put(&heap.heap_type).put("#").put_number(heap.id);
+    words.put(" in the place of ");
+    words.put(type_in(item)).put("#").put_number(id_in(item));
+    words
 }

@@ -4,6 +4,7 @@
 use crate::edits::{Changed, with_entries};
 use crate::objects::{entries_of, lacking, text_value, with};
 use explanation_text::wording::put_few;
+use explanation_text::{Gathered, Words};
 use serde_json::Value;
 use std::alloc::{AllocError, Global};
 use sysmem_formats::Pair;
@@ -32,19 +33,19 @@ pub(crate) fn taking_colour(
     colour: &str,
 ) -> Result<Option<Changed>, AllocError> {
     let mut words = String::new(alloc);
-    let mut copy = Vec::new(alloc);
+    let mut copy = Gathered::new(alloc);
     for entry in entries_of(value) {
         let names = names_in(alloc, entry.get(COLOURS))?;
         if names.contains(&colour) {
-            copy.push(entry.clone()?)?;
+            copy.add(entry.clone()?);
             continue;
         }
         if words.is_empty() {
-            words = words_beside(alloc, colour, &names)?;
+            words = words_beside(alloc, colour, &names).done()?;
         }
-        copy.push(with_colour(alloc, entry, colour)?)?;
+        copy.add(with_colour(alloc, entry, colour)?);
     }
-    with_entries(alloc, value, copy, words)
+    with_entries(alloc, value, copy.done()?, words)
 }
 
 /// Whether an entry lacks a colour space.
@@ -58,22 +59,22 @@ pub(crate) fn lacks_colour(alloc: Global, value: &Value, colour: &str) -> Result
 }
 
 /// `color_spaces SRGB, with REC709 too`.
-fn words_beside(alloc: Global, colour: &str, names: &[&str]) -> Result<String, AllocError> {
-    let mut words = String::from_str(alloc, "color_spaces ")?;
-    put_few(&mut words, names, 3)?;
-    write!(words, ", with {colour} too")?;
-    Ok(words)
+fn words_beside(alloc: Global, colour: &str, names: &[&str]) -> Words {
+    let mut words = Words::of(alloc, "color_spaces ");
+    put_few(&mut words, names, 3);
+    words.put(", with ").put(colour).put(" too");
+    words
 }
 
 fn with_colour(alloc: Global, entry: &Value, colour: &str) -> Result<Value, AllocError> {
-    let mut list = Vec::new(alloc);
+    let mut list = Gathered::new(alloc);
     if let Some(items) = entry.get(COLOURS).and_then(Value::as_array) {
         for item in items {
-            list.push(item.clone()?)?;
+            list.add(item.clone()?);
         }
     }
-    list.push(text_value(alloc, colour)?)?;
-    with(alloc, Some(entry), COLOURS, Value::Array(list))
+    list.add(text_value(alloc, colour)?);
+    with(alloc, Some(entry), COLOURS, Value::Array(list.done()?))
 }
 
 /// The constraints with an entry for a format and modifier before the others, which is else like
@@ -90,13 +91,13 @@ pub(crate) fn taking_pair(
     let Some(like) = entries.get(index) else {
         return Ok(None);
     };
-    let mut copy = Vec::new(alloc);
-    copy.push(naming(alloc, like, pair)?)?;
+    let mut copy = Gathered::new(alloc);
+    copy.add(naming(alloc, like, pair)?);
     for entry in entries {
-        copy.push(entry.clone()?)?;
+        copy.add(entry.clone()?);
     }
-    let words = words_on(alloc, like, index, pair)?;
-    with_entries(alloc, value, copy, words)
+    let words = words_on(alloc, like, index, pair);
+    with_entries(alloc, value, copy.done()?, words.done()?)
 }
 
 /// The index of the first entry that names a format as its own; 0 where none does.
@@ -131,18 +132,19 @@ pub(crate) fn putting_first(
     if index == 0 {
         return Ok(None);
     }
-    let mut copy = Vec::new(alloc);
-    copy.push(entry.clone()?)?;
+    let mut copy = Gathered::new(alloc);
+    copy.add(entry.clone()?);
     for (k, other) in entries.iter().enumerate() {
         if k != index {
-            copy.push(other.clone()?)?;
+            copy.add(other.clone()?);
         }
     }
     let shown = index.saturating_add(1);
-    let mut words = format!(in alloc; "entry {shown} (")?;
-    put_named(&mut words, entry)?;
-    words.push_str(") put first")?;
-    with_entries(alloc, value, copy, words)
+    let mut words = Words::of(alloc, "entry ");
+    words.put_number(shown).put(" (");
+    put_named(&mut words, entry);
+    words.put(") put first");
+    with_entries(alloc, value, copy.done()?, words.done()?)
 }
 
 /// An entry for a format and modifier alone, else like this one.
@@ -156,31 +158,30 @@ fn naming(alloc: Global, entry: &Value, pair: Pair) -> Result<Value, AllocError>
 
 /// `pixel_format NV12 LINEAR too, in an entry before the others that is else like the first
 /// (YUY2)`, or `like entry 2 (..)`.
-fn words_on(alloc: Global, like: &Value, index: usize, pair: Pair) -> Result<String, AllocError> {
-    let format = pair.format.name();
-    let modifier = pair.modifier.name();
-    let mut words = format!(in alloc;
-        "pixel_format {format} {modifier} too, in an entry before the others that is else like "
-    )?;
+fn words_on(alloc: Global, like: &Value, index: usize, pair: Pair) -> Words {
+    let mut words = Words::of(alloc, "pixel_format ");
+    words
+        .put(pair.format.name())
+        .put(" ")
+        .put(pair.modifier.name());
+    words.put(" too, in an entry before the others that is else like ");
     if index == 0 {
-        words.push_str("the first (")?;
+        words.put("the first (");
     } else {
         let shown = index.saturating_add(1);
-        write!(words, "entry {shown} (")?;
+        words.put("entry ").put_number(shown).put(" (");
     }
-    put_named(&mut words, like)?;
-    words.push_str(")")?;
-    Ok(words)
+    put_named(&mut words, like);
+    words.put(")");
+    words
 }
 
 /// Puts the format and the modifier that an entry names after a text.
-fn put_named(text: &mut String, entry: &Value) -> Result<(), AllocError> {
-    text.push_str(text_in(entry, FORMAT).unwrap_or("several pairs"))?;
+fn put_named(text: &mut Words, entry: &Value) {
+    text.put(text_in(entry, FORMAT).unwrap_or("several pairs"));
     if let Some(modifier) = text_in(entry, MODIFIER) {
-        text.push_str(" ")?;
-        text.push_str(modifier)?;
+        text.put(" ").put(modifier);
     }
-    Ok(())
 }
 
 fn text_in<'a>(entry: &'a Value, key: &str) -> Option<&'a str> {

@@ -2,6 +2,7 @@
 
 use crate::edits::Changed;
 use crate::objects::{number_value, text_value, with};
+use explanation_text::Words;
 use serde_json::Value;
 use std::alloc::{AllocError, Global};
 use sysmem_counts::Field;
@@ -74,13 +75,15 @@ pub(crate) fn asking_for(
 ) -> Result<Option<Changed>, AllocError> {
     let name = Field::MinBufferCount.name();
     let before = value.get(name).and_then(Value::as_u64);
-    let words = match before {
+    let mut words = Words::of(alloc, name);
+    match before {
         Some(least) if least >= u64::from(count) => return Ok(None),
-        Some(least) => format!(in alloc; "{name} {least} becomes {count}")?,
-        None => format!(in alloc; "{name} (absent) becomes {count}")?,
+        Some(least) => words.put(" ").put_number(least),
+        None => words.put(" (absent)"),
     };
+    words.put(" becomes ").put_number(count);
     Ok(Some(Changed {
         value: with(alloc, Some(value), name, number_value(u64::from(count)))?,
-        words,
+        words: words.done()?,
     }))
 }
