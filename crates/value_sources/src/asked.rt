@@ -1,6 +1,7 @@
 //! Participants with what they ask, and lists of them in words.
 
 use explanation_text::wording::{MOST_NAMES, put_few};
+use explanation_text::{Gathered, Words};
 use serde_json::Value;
 use std::alloc::AllocError;
 use sysmem_sanitise::Constraints;
@@ -18,31 +19,32 @@ pub struct Asked<'a> {
 
 /// Puts the names of participants with a word after a text: `camera takes`,
 /// `camera and encoder take`.
-pub fn put_has(
-    text: &mut String,
-    people: &[Asked<'_>],
-    one: &str,
-    many: &str,
-) -> Result<(), AllocError> {
-    put_people(text, people)?;
+pub fn put_has(text: &mut Words, people: &[Asked<'_>], one: &str, many: &str) {
+    put_people(text, people);
     let word = if people.len() == 1 { one } else { many };
-    write!(text, " {word}")
+    text.put(" ").put(word);
 }
 
 /// Puts the names of participants after a text.
-pub fn put_people(text: &mut String, people: &[Asked<'_>]) -> Result<(), AllocError> {
-    let mut names: Vec<&str> = Vec::new(*text.allocator());
+pub fn put_people(text: &mut Words, people: &[Asked<'_>]) {
+    let mut names: Gathered<&str> = Gathered::new(text.alloc());
     for one in people {
-        names.push(one.name)?;
+        names.add(one.name);
     }
-    put_few(text, &names, MOST_NAMES)
+    match names.done() {
+        Ok(names) => put_few(text, &names, MOST_NAMES),
+        Err(AllocError) => text.refuse(),
+    }
 }
 
 /// Puts at most so many of the texts after another.
-pub fn put_texts(text: &mut String, texts: &[String], most: usize) -> Result<(), AllocError> {
-    let mut words: Vec<&str> = Vec::new(*text.allocator());
+pub fn put_texts(text: &mut Words, texts: &[String], most: usize) {
+    let mut parts: Gathered<&str> = Gathered::new(text.alloc());
     for one in texts {
-        words.push(one.as_str())?;
+        parts.add(one.as_str());
     }
-    put_few(text, &words, most)
+    match parts.done() {
+        Ok(parts) => put_few(text, &parts, most),
+        Err(AllocError) => text.refuse(),
+    }
 }

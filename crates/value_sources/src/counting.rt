@@ -6,8 +6,8 @@ ghost use Rattle.sysmem_counts.specs.Counts.{IsCountLine};
 ghost use Rattle.value_sources.specs.Sources.{IsNumberOf, counts_of, part_of};
 
 use crate::asked::{Asked, put_has, put_texts};
+use explanation_text::{Gathered, Words};
 use std::alloc::{AllocError, Global};
-use std::fmt::Write;
 use sysmem_counts::{BUFFER_COUNT_LIMIT, CountBounds, Field};
 
 /// How many participants are counted at most: as many as a tree may have nodes.
@@ -84,68 +84,67 @@ fn held(people: &[Asked<'_>]) -> u64 {
 }
 
 /// Puts what participants hold together after a text, as a sum of named parts.
-fn put_held(text: &mut String, people: &[Asked<'_>]) -> Result<(), AllocError> {
-    let start = text.len();
-    put_part(text, start, people, Part::Camping, "camping")?;
-    put_part(text, start, people, Part::Dedicated, "dedicated slack")?;
-    let mark = if text.len() > start { " + " } else { "" };
-    match greatest(people, Part::Shared) {
-        Some((name, value)) => write!(text, "{mark}{name} {value} (shared slack, the greatest)"),
-        None => Ok(()),
+fn put_held(text: &mut Words, people: &[Asked<'_>]) {
+    let camping = total(people, Part::Camping);
+    let both = camping.saturating_add(total(people, Part::Dedicated));
+    put_part(text, "", people, Part::Camping, "camping");
+    put_part(
+        text,
+        mark_after(camping),
+        people,
+        Part::Dedicated,
+        "dedicated slack",
+    );
+    if let Some((name, value)) = greatest(people, Part::Shared) {
+        text.put(mark_after(both)).put(name).put(" ");
+        text.put_number(value).put(" (shared slack, the greatest)");
     }
 }
 
-fn put_part(
-    text: &mut String,
-    start: usize,
-    people: &[Asked<'_>],
-    part: Part,
-    word: &str,
-) -> Result<(), AllocError> {
-    let parts = parts_of(*text.allocator(), people, part)?;
-    if parts.is_empty() {
-        return Ok(());
+/// What stands before a part of a sum, after those that come to this.
+fn mark_after(sum: u64) -> &'static str {
+    if sum > 0 { " + " } else { "" }
+}
+
+fn put_part(text: &mut Words, mark: &str, people: &[Asked<'_>], part: Part, word: &str) {
+    match parts_of(text.alloc(), people, part) {
+        Ok(parts) if parts.is_empty() => {}
+        Ok(parts) if parts.len() > MOST_PARTS => {
+            put_many(text, mark, &parts, word, total(people, part))
+        }
+        Ok(parts) => put_sum(text, mark, &parts, word),
+        Err(AllocError) => text.refuse(),
     }
-    let mark = if text.len() > start { " + " } else { "" };
-    if parts.len() > MOST_PARTS {
-        return put_many(text, mark, &parts, word, total(people, part));
-    }
-    put_sum(text, mark, &parts, word)
 }
 
 /// Who asks for some of a part, each with how many: `camera 2`.
 fn parts_of(alloc: Global, people: &[Asked<'_>], part: Part) -> Result<Vec<String>, AllocError> {
-    let mut parts: Vec<String> = Vec::new(alloc);
+    let mut parts: Gathered<String> = Gathered::new(alloc);
     for one in people {
         let value = value_of(one, part);
-        let name = one.name;
         if value > 0 {
-            parts.push(format!(in alloc; "{name} {value}")?)?;
+            let mut words = Words::of(alloc, one.name);
+            words.put(" ").put_number(value);
+            parts.add_words(words);
         }
     }
-    Ok(parts)
+    parts.done()
 }
 
-fn put_many(
-    text: &mut String,
-    mark: &str,
-    parts: &[String],
-    word: &str,
-    sum: u64,
-) -> Result<(), AllocError> {
-    let count = parts.len();
-    write!(text, "{mark}{sum} ({word} of {count}: ")?;
-    put_texts(text, parts, MOST_PARTS.saturating_sub(1))?;
-    text.push_str(")")
+fn put_many(text: &mut Words, mark: &str, parts: &[String], word: &str, sum: u64) {
+    text.put(mark).put_number(sum).put(" (").put(word);
+    text.put(" of ").put_number(parts.len()).put(": ");
+    put_texts(text, parts, MOST_PARTS.saturating_sub(1));
+    text.put(")");
 }
 
-fn put_sum(text: &mut String, mark: &str, parts: &[String], word: &str) -> Result<(), AllocError> {
+fn put_sum(text: &mut Words, mark: &str, parts: &[String], word: &str) {
     let mut before = mark;
     for one in parts {
-        write!(text, "{before}{one}")?;
+        text.put(before).put(one);
         before = " + ";
     }
-    write!(text, " ({word})")
+    text.put(" (").put(word).put(")");
 }
 
 /// The least count that the participants need.
@@ -158,25 +157,26 @@ fn needed(people: &[Asked<'_>]) -> u64 {
 }
 
 /// Where that count comes from.
-pub fn why_needed(alloc: Global, people: &[Asked<'_>]) -> Result<String, AllocError> {
-    let mut text = String::new(alloc);
-    put_why(&mut text, people)?;
-    Ok(text)
+pub fn why_needed(alloc: Global, people: &[Asked<'_>]) -> Words {
+    let mut words = Words::new(alloc);
+    put_why(&mut words, people);
+    words
 }
 
-fn put_why(text: &mut String, people: &[Asked<'_>]) -> Result<(), AllocError> {
+fn put_why(text: &mut Words, people: &[Asked<'_>]) {
     let sum = held(people);
     if sum >= needed(people) {
         return put_held(text, people);
     }
     let Some((name, _)) = greatest(people, Part::Minimum) else {
-        return text.push_str("nobody asks for more than one");
+        text.put("nobody asks for more than one");
+        return;
     };
-    if sum == 0 {
-        return write!(text, "{name} min_buffer_count");
+    text.put(name).put(" min_buffer_count");
+    if sum > 0 {
+        text.put("; held are ").put_number(sum).put(": ");
+        put_held(text, people);
     }
-    write!(text, "{name} min_buffer_count; held are {sum}: ")?;
-    put_held(text, people)
 }
 
 /// Whether a line on the count is true of participants; of more than `MOST_COUNTED` only the first
@@ -189,28 +189,29 @@ pub fn is_count_line(field: Field, people: &[Asked<'_>]) -> bool
 }
 
 /// The sentence of a line on the count that is true of participants.
-pub fn count_text(alloc: Global, field: Field, people: &[Asked<'_>]) -> Result<String, AllocError> {
-    let mut text = String::new(alloc);
-    put_has(&mut text, people, "needs", "need")?;
-    put_needed(&mut text, people)?;
-    put_limit(&mut text, field, people)?;
-    Ok(text)
+pub fn count_text(alloc: Global, field: Field, people: &[Asked<'_>]) -> Words {
+    let mut words = Words::new(alloc);
+    put_has(&mut words, people, "needs", "need");
+    put_needed(&mut words, people);
+    put_limit(&mut words, field, people);
+    words
 }
 
-fn put_needed(text: &mut String, people: &[Asked<'_>]) -> Result<(), AllocError> {
-    let count = needed(people);
-    write!(text, " {count} buffers: ")?;
+fn put_needed(text: &mut Words, people: &[Asked<'_>]) {
+    text.put(" ").put_number(needed(people)).put(" buffers: ");
     put_why(text, people)
 }
 
 /// Puts the number that the count is above after a text.
-fn put_limit(text: &mut String, field: Field, people: &[Asked<'_>]) -> Result<(), AllocError> {
+fn put_limit(text: &mut Words, field: Field, people: &[Asked<'_>]) {
     if field == Field::BufferCountLimit {
-        return write!(text, "; there are at most {BUFFER_COUNT_LIMIT}");
+        text.put("; there are at most ")
+            .put_number(BUFFER_COUNT_LIMIT);
+        return;
     }
-    match least_maximum(people) {
-        Some((name, most)) => write!(text, "; {name} takes at most {most} (max_buffer_count)"),
-        None => Ok(()),
+    if let Some((name, most)) = least_maximum(people) {
+        text.put("; ").put(name).put(" takes at most ");
+        text.put_number(most).put(" (max_buffer_count)");
     }
 }
 

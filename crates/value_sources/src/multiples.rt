@@ -3,6 +3,7 @@
 use crate::asked::put_texts;
 use crate::sizes::Derived;
 use explanation_text::wording::MOST_NAMES;
+use explanation_text::{Gathered, Words};
 use std::alloc::{AllocError, Global};
 
 /// A number that others are multiples of, and who asks for it.
@@ -57,9 +58,9 @@ pub(crate) fn multiple_of(alloc: Global, parts: Vec<Multiple>) -> Result<Derived
 fn who_asks(alloc: Global, parts: &[Multiple], whole: u128) -> Result<String, AllocError> {
     let left_out = needless(alloc, parts, whole)?;
     let texts = texts_of(alloc, parts, &left_out)?;
-    let mut words = String::new(alloc);
-    put_texts(&mut words, &texts, MOST_NAMES)?;
-    Ok(words)
+    let mut words = Words::new(alloc);
+    put_texts(&mut words, &texts, MOST_NAMES);
+    words.done()
 }
 
 /// The indices of parts without which the others have the same multiple, from the last to the
@@ -85,22 +86,22 @@ fn texts_of(
     left_out: &[usize],
 ) -> Result<Vec<String>, AllocError> {
     let kept = parts.len().saturating_sub(left_out.len());
-    let mut texts: Vec<String> = Vec::new(alloc);
+    let mut texts: Gathered<String> = Gathered::new(alloc);
     for (k, part) in parts.iter().enumerate() {
         if !left_out.contains(&k) {
-            texts.push(text_of(alloc, part, kept == 1)?)?;
+            texts.add_words(text_of(alloc, part, kept == 1));
         }
     }
-    Ok(texts)
+    texts.done()
 }
 
 /// Who asks for a part, with its number where others are asked for too.
-fn text_of(alloc: Global, part: &Multiple, is_alone: bool) -> Result<String, AllocError> {
-    let Multiple { value, who } = part;
-    if is_alone {
-        return String::from_str(alloc, who);
+fn text_of(alloc: Global, part: &Multiple, is_alone: bool) -> Words {
+    let mut words = Words::of(alloc, &part.who);
+    if !is_alone {
+        words.put(" ").put_number(part.value);
     }
-    format!(in alloc; "{who} {value}")
+    words
 }
 
 /// The least common multiple of all parts but one and some others.

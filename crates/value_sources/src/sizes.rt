@@ -2,8 +2,8 @@
 
 use crate::multiples::{Multiple, multiple_of, up};
 use crate::wishes::{Side, Wish, Wishes};
+use explanation_text::{Gathered, Words};
 use std::alloc::{AllocError, Global};
-use std::fmt::Write;
 use sysmem_formats::{
     Modifier, Offer, PixelFormat, bytes_per_pixel, own_alignment, own_row_divisor,
 };
@@ -65,17 +65,19 @@ impl<'a> Wishes<'a, '_> {
     /// are given.
     fn add_multiples(
         &self,
-        parts: &mut Vec<Multiple>,
+        parts: &mut Gathered<Multiple>,
         field: &str,
         wish: Wish,
     ) -> Result<(), AllocError> {
-        let alloc = *parts.allocator();
         for one in self.people {
             if let Some(entry) = entry_for(one.asked.entries(), &self.offer) {
                 let value = u128::from(wish.of(entry));
-                let name = one.name;
-                let who = format!(in alloc; "{name} {field}")?;
-                parts.push(Multiple { value, who })?;
+                let mut words = Words::of(parts.alloc(), one.name);
+                words.put(" ").put(field);
+                parts.add(Multiple {
+                    value,
+                    who: words.done()?,
+                });
             }
         }
         Ok(())
@@ -86,7 +88,7 @@ impl<'a> Wishes<'a, '_> {
         let (base, first) = self.side_asked(side);
         let mark = if first.is_some() { Some(" ") } else { None };
         let multiple = self.side_multiple(alloc, side)?;
-        rounded(u128::from(base), multiple, mark, side_words(alloc, first)?)
+        rounded(u128::from(base), multiple, mark, side_words(alloc, first))
     }
 
     /// The least width or height that anybody asks for, before it is rounded.
@@ -114,10 +116,10 @@ impl<'a> Wishes<'a, '_> {
     fn side_multiple(&self, alloc: Global, side: Side) -> Result<Derived, AllocError> {
         let (width, height) = own_alignment(&self.offer);
         let own = if side == Side::Width { width } else { height };
-        let who = format!(in alloc; "{} itself", format_of(&self.offer))?;
+        let who = itself(alloc, &self.offer);
         let mut parts = own_multiple(who, u128::from(own))?;
         self.add_multiples(&mut parts, "size_alignment", Wish::Alignment(side))?;
-        multiple_of(alloc, parts)
+        multiple_of(alloc, parts.done()?)
     }
 
     /// Where the least width and height come from.
@@ -127,71 +129,70 @@ impl<'a> Wishes<'a, '_> {
         if width == height {
             return Ok(width);
         }
-        format!(in alloc; "the width {width}; the height {height}")
+        let mut words = Words::of(alloc, "the width ");
+        words.put(&width).put("; the height ").put(&height);
+        words.done()
     }
 
     /// The least row in bytes; where the width comes from is said too if that is asked for.
     pub fn row(&self, alloc: Global, is_alone: bool) -> Result<Derived, AllocError> {
         let multiple = self.row_multiple(alloc)?;
-        let plain = self.plain_row(alloc, is_alone)?;
-        rounded(plain.value, multiple, Some(" = "), plain.why)
+        let (value, why) = self.plain_row(alloc, is_alone)?;
+        rounded(value, multiple, Some(" = "), why)
     }
 
-    /// The least row before it is rounded: that of the least width, or a longer one that somebody
-    /// asks for.
-    fn plain_row(&self, alloc: Global, is_alone: bool) -> Result<Derived, AllocError> {
-        let packed = self.packed_row(alloc, is_alone)?;
-        match self.greatest(Wish::LeastRow) {
-            Some((name, least)) if u128::from(least) > packed.value => Ok(Derived {
-                value: u128::from(least),
-                why: format!(in alloc; "{name} min_bytes_per_row")?,
-            }),
-            _ => Ok(packed),
-        }
-    }
-
-    /// A row of the least width in whole tiles.
-    fn packed_row(&self, alloc: Global, is_alone: bool) -> Result<Derived, AllocError> {
+    /// The least row before it is rounded, and where it comes from: that of the least width, or a
+    /// longer one that somebody asks for.
+    fn plain_row(&self, alloc: Global, is_alone: bool) -> Result<(u128, Words), AllocError> {
         let width = self.side(alloc, Side::Width)?;
-        let mut why = String::new(alloc);
-        let value = self.put_packed(&mut why, &width, is_alone)?;
-        Ok(Derived { value, why })
+        let packed = self.packed_row(width.value);
+        let mut words = Words::new(alloc);
+        match self.greatest(Wish::LeastRow) {
+            Some((name, least)) if u128::from(least) > packed => {
+                words.put(name).put(" min_bytes_per_row");
+                Ok((u128::from(least), words))
+            }
+            _ => {
+                self.put_packed(&mut words, &width, is_alone);
+                Ok((packed, words))
+            }
+        }
     }
 
-    /// Puts where that row comes from after a text, and gives its bytes.
-    fn put_packed(
-        &self,
-        text: &mut String,
-        width: &Derived,
-        is_alone: bool,
-    ) -> Result<u128, AllocError> {
+    /// The bytes of a row of a width in whole tiles.
+    fn packed_row(&self, width: u128) -> u128 {
         let pixel = u128::from(bytes_per_pixel(&self.offer));
-        let packed = width.value.saturating_mul(pixel);
-        let tile = tile_bytes(&self.offer);
-        let value = up(packed, tile);
-        put_pixels(text, width.value, pixel)?;
+        up(width.saturating_mul(pixel), tile_bytes(&self.offer))
+    }
+
+    /// Puts where that row comes from after a text.
+    fn put_packed(&self, text: &mut Words, width: &Derived, is_alone: bool) {
+        let pixel = u128::from(bytes_per_pixel(&self.offer));
+        put_pixels(text, width.value, pixel);
         if is_alone {
-            write!(text, " ({})", width.why)?;
+            text.put(" (").put(&width.why).put(")");
         }
-        if value != packed {
-            write!(text, ", rounded up to tiles of {tile} bytes")?;
+        if self.packed_row(width.value) != width.value.saturating_mul(pixel) {
+            let tile = tile_bytes(&self.offer);
+            text.put(", rounded up to tiles of ")
+                .put_number(tile)
+                .put(" bytes");
         }
-        Ok(value)
     }
 
     /// What a row has to be a multiple of.
     fn row_multiple(&self, alloc: Global) -> Result<Derived, AllocError> {
         let who = if modifier_of(&self.offer) == Modifier::Linear {
-            format!(in alloc; "{} itself", format_of(&self.offer))
+            itself(alloc, &self.offer)
         } else {
-            String::from_str(alloc, "tiles")
+            Words::of(alloc, "tiles")
         };
-        let mut parts = own_multiple(who?, u128::from(own_row_divisor(&self.offer)))?;
+        let mut parts = own_multiple(who, u128::from(own_row_divisor(&self.offer)))?;
         self.add_row_multiples(&mut parts)?;
-        multiple_of(alloc, parts)
+        multiple_of(alloc, parts.done()?)
     }
 
-    fn add_row_multiples(&self, parts: &mut Vec<Multiple>) -> Result<(), AllocError> {
+    fn add_row_multiples(&self, parts: &mut Gathered<Multiple>) -> Result<(), AllocError> {
         self.add_multiples(parts, "bytes_per_row_divisor", Wish::RowDivisor)?;
         let whole = Wish::WholePixels(bytes_per_pixel(&self.offer));
         self.add_multiples(parts, "whole pixels in a row", whole)
@@ -211,27 +212,28 @@ impl<'a> Wishes<'a, '_> {
                 return Ok(image);
             }
         }
-        let why = match least {
-            Some((name, _)) => format!(in alloc; "{name} min_size_bytes"),
-            None => String::from_str(alloc, "nobody asks for more"),
+        let mut words = Words::new(alloc);
+        match least {
+            Some((name, _)) => words.put(name).put(" min_size_bytes"),
+            None => words.put("nobody asks for more"),
         };
         Ok(Derived {
             value: stated,
-            why: why?,
+            why: words.done()?,
         })
     }
 
     /// The bytes of the smallest image.
     fn image(&self, alloc: Global, is_alone: bool) -> Result<Derived, AllocError> {
         let image = self.smallest(alloc)?;
-        let mut why = String::new(alloc);
-        image.put(&mut why)?;
+        let mut words = Words::new(alloc);
+        image.put(&mut words);
         if is_alone {
-            self.put_sides(&mut why, image)?;
+            self.put_sides(&mut words, image);
         }
         Ok(Derived {
             value: image.bytes(),
-            why,
+            why: words.done()?,
         })
     }
 
@@ -245,9 +247,15 @@ impl<'a> Wishes<'a, '_> {
     }
 
     /// Puts the sides of an image after a text, and where they come from.
-    fn put_sides(&self, text: &mut String, image: Image) -> Result<(), AllocError> {
-        let from = self.why_size(*text.allocator())?;
-        write!(text, ", for {}x{} ({from})", image.width, image.height)
+    fn put_sides(&self, text: &mut Words, image: Image) {
+        text.put(", for ").put_number(image.width);
+        text.put("x").put_number(image.height);
+        match self.why_size(text.alloc()) {
+            Ok(from) => {
+                text.put(" (").put(&from).put(")");
+            }
+            Err(AllocError) => text.refuse(),
+        }
     }
 }
 
@@ -276,33 +284,46 @@ impl Image {
     }
 
     /// Puts its bytes as a product after a text.
-    fn put(&self, text: &mut String) -> Result<(), AllocError> {
-        let (row, rows) = (self.row, self.rows());
+    fn put(&self, text: &mut Words) {
+        let rows = self.rows();
         let word = if rows == 1 { "row" } else { "rows" };
-        write!(text, "row {row} x {rows} {word}")?;
+        text.put("row ").put_number(self.row).put(" x ");
+        text.put_number(rows).put(" ").put(word);
         if rows != self.height {
-            write!(text, " ({}, rounded up to whole tiles)", self.height)?;
+            text.put(" (").put_number(self.height);
+            text.put(", rounded up to whole tiles)");
         }
         if has_half_plane(&self.offer) {
-            let format = format_of(&self.offer);
-            write!(text, " x 3/2 ({format})")?;
+            text.put(" x 3/2 (").put(format_of(&self.offer)).put(")");
         }
-        Ok(())
     }
 }
 
 /// Who asks for a side, and by which field.
-fn side_words(alloc: Global, first: Option<(&str, &str)>) -> Result<String, AllocError> {
+fn side_words(alloc: Global, first: Option<(&str, &str)>) -> Words {
+    let mut words = Words::new(alloc);
     match first {
-        Some((name, field)) => format!(in alloc; "{name} {field}"),
-        None => String::from_str(alloc, "nobody asks for more than 1"),
-    }
+        Some((name, field)) => words.put(name).put(" ").put(field),
+        None => words.put("nobody asks for more than 1"),
+    };
+    words
+}
+
+/// That an offer's format asks for it itself.
+fn itself(alloc: Global, offer: &Offer) -> Words {
+    let mut words = Words::of(alloc, format_of(offer));
+    words.put(" itself");
+    words
 }
 
 /// A list of one multiple.
-fn own_multiple(who: String, value: u128) -> Result<Vec<Multiple>, AllocError> {
-    let alloc = *who.allocator();
-    Ok(vec![in alloc; Multiple { value, who }]?)
+fn own_multiple(words: Words, value: u128) -> Result<Gathered<Multiple>, AllocError> {
+    let mut parts = Gathered::new(words.alloc());
+    parts.add(Multiple {
+        value,
+        who: words.done()?,
+    });
+    Ok(parts)
 }
 
 /// A number, rounded up to what it has to be a multiple of; where that changes it, it is shown
@@ -311,32 +332,32 @@ fn rounded(
     base: u128,
     multiple: Derived,
     mark: Option<&str>,
-    why: String,
+    why: Words,
 ) -> Result<Derived, AllocError> {
-    let mut why = why;
+    let mut words = why;
     let value = up(base, multiple.value);
     if value != base {
-        put_rounding(&mut why, base, &multiple, mark)?;
+        put_rounding(&mut words, base, &multiple, mark);
     }
-    Ok(Derived { value, why })
+    Ok(Derived {
+        value,
+        why: words.done()?,
+    })
 }
 
-fn put_rounding(
-    text: &mut String,
-    base: u128,
-    multiple: &Derived,
-    mark: Option<&str>,
-) -> Result<(), AllocError> {
+fn put_rounding(text: &mut Words, base: u128, multiple: &Derived, mark: Option<&str>) {
     if let Some(mark) = mark {
-        write!(text, "{mark}{base}")?;
+        text.put(mark).put_number(base);
     }
-    let Derived { value, why } = multiple;
-    write!(text, ", rounded up to a multiple of {value} ({why})")
+    text.put(", rounded up to a multiple of ")
+        .put_number(multiple.value);
+    text.put(" (").put(&multiple.why).put(")");
 }
 
 /// Puts how many pixels of how many bytes after a text.
-fn put_pixels(text: &mut String, width: u128, bytes: u128) -> Result<(), AllocError> {
+fn put_pixels(text: &mut Words, width: u128, bytes: u128) {
     let pixels = if width == 1 { "pixel" } else { "pixels" };
     let word = if bytes == 1 { "byte" } else { "bytes" };
-    write!(text, "{width} {pixels} of {bytes} {word}")
+    text.put_number(width).put(" ").put(pixels).put(" of ");
+    text.put_number(bytes).put(" ").put(word);
 }
