@@ -2,6 +2,7 @@
 //! later ones need as a token.
 
 use crate::story::{Deed, Made, Story};
+use explanation_text::Gathered;
 use script_reading::Act;
 use std::alloc::{AllocError, Global};
 use sysmem_tree::NodeKind;
@@ -16,30 +17,24 @@ pub struct Move {
 /// The calls that were refused since a later one binds what they are made on; and those that bind a
 /// token, or are made on it since, of which a later call was refused since it needs the token.
 pub fn moves_in(alloc: Global, story: &Story<'_>) -> Result<Vec<Move>, AllocError> {
-    let mut moves = Vec::new(alloc);
+    let mut moves = Gathered::new(alloc);
     for (index, call) in story.calls.iter().enumerate() {
-        add_moves(&mut moves, story, call, index.saturating_add(1))?;
+        add_moves(&mut moves, story, call, index.saturating_add(1));
     }
-    Ok(moves)
+    moves.done()
 }
 
 /// Adds what the answer to the call of a number says is to be moved.
-fn add_moves(
-    moves: &mut Vec<Move>,
-    story: &Story<'_>,
-    call: &Made<'_>,
-    number: usize,
-) -> Result<(), AllocError> {
+fn add_moves(moves: &mut Gathered<Move>, story: &Story<'_>, call: &Made<'_>, number: usize) {
     if let Some(after) = binding(story, call, number) {
-        moves.push(Move {
+        moves.add(Move {
             call: number,
             after,
-        })?;
+        });
     }
     if needs_token(call) && is_last(story, call, number) {
-        add_held(moves, story, call, number)?;
+        add_held(moves, story, call, number);
     }
-    Ok(())
 }
 
 /// Whether a call was refused that needs a token.
@@ -59,32 +54,26 @@ fn is_last(story: &Story<'_>, call: &Made<'_>, number: usize) -> bool {
 
 /// Adds the call that bound the token on which the call of a number was refused, and those made on
 /// it since: they are to stand after that call.
-fn add_held(
-    moves: &mut Vec<Move>,
-    story: &Story<'_>,
-    call: &Made<'_>,
-    number: usize,
-) -> Result<(), AllocError> {
+fn add_held(moves: &mut Gathered<Move>, story: &Story<'_>, call: &Made<'_>, number: usize) {
     let Some(node) = call.node else {
-        return Ok(());
+        return;
     };
     let Some(bound) = story.deed_before(node, Deed::Bind, number) else {
-        return Ok(());
+        return;
     };
     if story.deed_before(node, Deed::End, number).is_some() {
-        return Ok(());
+        return;
     }
     for (index, other) in story.calls.iter().enumerate() {
         let own = index.saturating_add(1);
         let is_between = bound <= own && own < number;
         if is_between && other.node == call.node && other.is_accepted() {
-            moves.push(Move {
+            moves.add(Move {
                 call: own,
                 after: number,
-            })?;
+            });
         }
     }
-    Ok(())
 }
 
 /// The later call that binds the token on which the call of a number was refused.

@@ -2,11 +2,10 @@
 
 use crate::story::{Deed, Made, Story};
 use explanation_text::wording::{MOST_NAMES, mark_after, put_few, put_joined};
-use explanation_text::{Items, Step};
+use explanation_text::{Gathered, Items, Step, Words};
 use script_faults::{Document, tell_record_fault};
 use script_reading::Act;
 use std::alloc::{AllocError, Global};
-use std::fmt::Write;
 use sysmem_sanitise::{Code, Fault, read_constraints};
 use sysmem_tree::NodeKind;
 
@@ -66,46 +65,44 @@ pub fn tell_refused(
     if rows.is_empty() {
         return Ok(());
     }
-    tell_rows(items, document, story, &rows)
+    tell_rows(items, document, story, &rows);
+    Ok(())
 }
 
-fn tell_rows(
-    items: &mut Items,
-    document: &Document<'_>,
-    story: &Story<'_>,
-    rows: &[Row],
-) -> Result<(), AllocError> {
+fn tell_rows(items: &mut Items, document: &Document<'_>, story: &Story<'_>, rows: &[Row]) {
     let most = if rows.len() <= MOST_ROWS.saturating_add(1) {
         rows.len()
     } else {
         MOST_ROWS
     };
-    items.title("calls to look at")?;
+    items.title("calls to look at");
     for row in rows.iter().take(most) {
-        tell_row(items, document, story, row)?;
+        tell_row(items, document, story, row);
     }
     tell_more(items, rows.len().saturating_sub(most))
 }
 
 /// Tells how many rows aren't told, if there are any.
-fn tell_more(items: &mut Items, more: usize) -> Result<(), AllocError> {
+fn tell_more(items: &mut Items, more: usize) {
     if more == 0 {
-        return Ok(());
+        return;
     }
-    let text = format!(in items.alloc(); "and {more} more")?;
-    items.say(1, "", text)
+    let mut words = Words::of(items.alloc(), "and ");
+    words.put_number(more).put(" more");
+    items.say(1, "", words)
 }
 
 /// What is told of the calls that were refused, those with one cause together; where their
 /// constraints have a fault only its field and its code.
 pub fn refused_words(alloc: Global, story: &Story<'_>) -> Result<Vec<String>, AllocError> {
-    let mut words: Vec<String> = Vec::new(alloc);
-    for row in &rows_of(alloc, story)? {
+    let rows = rows_of(alloc, story)?;
+    let mut texts = Gathered::new(alloc);
+    for row in &rows {
         if let Some(call) = story.call(number_of(row)) {
-            words.push(row_text(alloc, call, row)?)?;
+            texts.add_words(row_text(alloc, call, row));
         }
     }
-    Ok(words)
+    texts.done()
 }
 
 fn rows_of(alloc: Global, story: &Story<'_>) -> Result<Vec<Row>, AllocError> {
@@ -138,11 +135,11 @@ fn row_of(
     number: usize,
 ) -> Result<Row, AllocError> {
     let fault = fault_of(alloc, call)?;
-    let mut cause = String::new(alloc);
-    put_cause(&mut cause, story, call, number)?;
+    let mut words = Words::new(alloc);
+    put_cause(&mut words, story, call, number);
     Ok(Row {
         numbers: vec![in alloc; number]?,
-        cause,
+        cause: words.done()?,
         fault,
     })
 }
@@ -195,42 +192,39 @@ fn fault_of(alloc: Global, call: &Made<'_>) -> Result<Option<Fault>, AllocError>
     }
 }
 
-fn tell_row(
-    items: &mut Items,
-    document: &Document<'_>,
-    story: &Story<'_>,
-    row: &Row,
-) -> Result<(), AllocError> {
+fn tell_row(items: &mut Items, document: &Document<'_>, story: &Story<'_>, row: &Row) {
     let number = number_of(row);
     let Some(call) = story.call(number) else {
-        return Ok(());
+        return;
     };
-    let text = row_text(items.alloc(), call, row)?;
-    items.say(1, "", text)?;
+    let words = row_text(items.alloc(), call, row);
+    items.say(1, "", words);
     let Some(fault) = row.fault else {
-        return Ok(());
+        return;
     };
     let base = [
         Step::Key("calls"),
         Step::Item(number.saturating_sub(1)),
         Step::Key("constraints"),
     ];
-    tell_record_fault(items, 2, document, &base, fault, false)
+    let told = tell_record_fault(items, 2, document, &base, fault, false);
+    items.note(told)
 }
 
 /// Calls and why they were refused, and behind it their reply; of a fault only its field and its
 /// code, for it is told below.
-fn row_text(alloc: Global, call: &Made<'_>, row: &Row) -> Result<String, AllocError> {
-    let mut text = String::new(alloc);
-    put_calls(&mut text, call, &row.numbers)?;
+fn row_text(alloc: Global, call: &Made<'_>, row: &Row) -> Words {
+    let mut words = Words::new(alloc);
+    put_calls(&mut words, call, &row.numbers);
     let (code, reply) = (call.code(), call.reply);
     let (cause, field, answer) = match row.fault {
         None => (row.cause.as_str(), "", reply),
         Some(_) if code == "S2" => ("a key that isn't known", "", code),
         Some(_) => ("a fault in ", faulty_field(reply), code),
     };
-    write!(text, ": {cause}{field} ({answer})")?;
-    Ok(text)
+    words.put(": ").put(cause).put(field);
+    words.put(" (").put(answer).put(")");
+    words
 }
 
 /// The field of a reply that names a fault: `S4 usage`.
@@ -242,29 +236,29 @@ fn faulty_field<'a>(reply: &'a str) -> &'a str {
 }
 
 /// Puts which calls they are after a text: `call 3, bind a`, or `calls 3, 4 and 5`.
-fn put_calls(text: &mut String, call: &Made<'_>, numbers: &[usize]) -> Result<(), AllocError> {
+fn put_calls(text: &mut Words, call: &Made<'_>, numbers: &[usize]) {
     let Some((number, others)) = numbers.split_first() else {
-        return Ok(());
+        return;
     };
     if others.is_empty() {
         return put_call(text, call, *number);
     }
-    text.push_str("calls ")?;
+    text.put("calls ");
     put_numbers(text, numbers)
 }
 
-fn put_call(text: &mut String, call: &Made<'_>, number: usize) -> Result<(), AllocError> {
-    let name = call.name();
-    let on = call.on;
+fn put_call(text: &mut Words, call: &Made<'_>, number: usize) {
     let (space, made) = match call.act.name_made() {
         Some(made) => (" ", made),
         None => ("", ""),
     };
-    write!(text, "call {number}, {name} {on}{space}{made}")
+    text.put("call ").put_number(number).put(", ");
+    text.put(call.name()).put(" ").put(call.on);
+    text.put(space).put(made);
 }
 
 /// Puts the numbers of calls after a text: `3, 4 and 5`.
-fn put_numbers(text: &mut String, numbers: &[usize]) -> Result<(), AllocError> {
+fn put_numbers(text: &mut Words, numbers: &[usize]) {
     let most = if numbers.len() > MOST_NUMBERS.saturating_add(1) {
         MOST_NUMBERS
     } else {
@@ -273,33 +267,31 @@ fn put_numbers(text: &mut String, numbers: &[usize]) -> Result<(), AllocError> {
     let more = numbers.len().saturating_sub(most);
     let parts = most.saturating_add(usize::from(more > 0));
     for (k, number) in numbers.iter().take(most).enumerate() {
-        let mark = mark_after(k, parts);
-        write!(text, "{number}{mark}")?;
+        text.put_number(*number).put(mark_after(k, parts));
     }
     if more == 0 {
-        return Ok(());
+        return;
     }
-    write!(text, "{more} more")
+    text.put_number(more).put(" more");
 }
 
 /// Puts why a call was refused after a text.
-fn put_cause(
-    text: &mut String,
-    story: &Story<'_>,
-    call: &Made<'_>,
-    number: usize,
-) -> Result<(), AllocError> {
+fn put_cause(text: &mut Words, story: &Story<'_>, call: &Made<'_>, number: usize) {
     let on = call.on;
     let Some(node) = call.node else {
         return put_unmade(text, story, on);
     };
     match call.code() {
         "E2" => put_wrong_state(text, story, call, node, number),
-        "E4" => write!(text, "{on} has no child: create_child comes first"),
+        "E4" => {
+            text.put(on).put(" has no child: create_child comes first");
+        }
         "E5" => put_left_out(text, story, node),
         "E6" => put_ended(text, story, node),
         "E9" => put_too_early(text, story, node, number),
-        code => text.push_str(plain_cause(code)),
+        code => {
+            text.put(plain_cause(code));
+        }
     }
 }
 
@@ -313,55 +305,61 @@ fn plain_cause(code: &str) -> &'static str {
 }
 
 /// Puts why a call on a name was skipped after a text: the call that makes the name wasn't made.
-fn put_unmade(text: &mut String, story: &Story<'_>, on: &str) -> Result<(), AllocError> {
+fn put_unmade(text: &mut Words, story: &Story<'_>, on: &str) {
     for (index, other) in story.calls.iter().enumerate() {
         if other.act.name_made() == Some(on) {
             let number = index.saturating_add(1);
-            return write!(text, "call {number}, which makes {on}, wasn't made");
+            text.put("call ").put_number(number);
+            text.put(", which makes ").put(on).put(", wasn't made");
+            return;
         }
     }
-    write!(text, "{on} wasn't made")
+    text.put(on).put(" wasn't made");
 }
 
 /// Puts a domain with its root's name after a text: `domain /0 (camera)`.
-pub fn put_domain(text: &mut String, story: &Story<'_>, root: usize) -> Result<(), AllocError> {
-    let path = story.path(root);
-    let name = story.name(root);
-    write!(text, "domain {path} ({name})")
+pub fn put_domain(text: &mut Words, story: &Story<'_>, root: usize) {
+    text.put("domain ").put(story.path(root));
+    text.put(" (").put(story.name(root)).put(")");
 }
 
 /// Puts what became of the domain of a node, and after which call, after a text.
-fn put_ended(text: &mut String, story: &Story<'_>, node: usize) -> Result<(), AllocError> {
+fn put_ended(text: &mut Words, story: &Story<'_>, node: usize) {
     let Some(domain) = story.domain_of(node) else {
-        return Ok(());
+        return;
     };
-    put_domain(text, story, domain.root)?;
+    put_domain(text, story, domain.root);
     let number = domain.ended.unwrap_or(0);
     let verdict = domain.verdict();
     if verdict == "failed" {
-        write!(text, " failed after call {number}")
+        text.put(" failed after call ").put_number(number);
     } else {
-        write!(text, " was decided after call {number}: {verdict}")
+        text.put(" was decided after call ").put_number(number);
+        text.put(": ").put(verdict);
     }
 }
 
 /// Which group chose another child than the one above a node.
-pub fn left_out(alloc: Global, story: &Story<'_>, node: usize) -> Result<String, AllocError> {
-    let mut text = String::new(alloc);
-    put_left_out(&mut text, story, node)?;
-    Ok(text)
+pub fn left_out(alloc: Global, story: &Story<'_>, node: usize) -> Words {
+    let mut words = Words::new(alloc);
+    put_left_out(&mut words, story, node);
+    words
 }
 
-fn put_left_out(text: &mut String, story: &Story<'_>, node: usize) -> Result<(), AllocError> {
+fn put_left_out(text: &mut Words, story: &Story<'_>, node: usize) {
     let Some((group, below)) = chooser(story, node) else {
-        return text.push_str("another selection was chosen");
+        text.put("another selection was chosen");
+        return;
     };
-    let other = chosen_child(*text.allocator(), story, group)?.unwrap_or(below);
-    let name = story.name(group);
-    let yes = story.name(other);
-    let no = story.name(below);
+    let other = match chosen_child(text.alloc(), story, group) {
+        Ok(chosen) => chosen.unwrap_or(below),
+        Err(AllocError) => return text.refuse(),
+    };
     let number = end_of(story, node).unwrap_or(0);
-    write!(text, "{name} chose {yes} and not {no}, after call {number}")
+    text.put(story.name(group)).put(" chose ");
+    text.put(story.name(other)).put(" and not ");
+    text.put(story.name(below)).put(", after call ");
+    text.put_number(number);
 }
 
 /// The next selected node above a node, with its child above the node or the node itself.
@@ -394,75 +392,75 @@ fn chosen_child(
 }
 
 /// Puts who was still awaited when a verdict was asked for, and when it came, after a text.
-fn put_too_early(
-    text: &mut String,
-    story: &Story<'_>,
-    node: usize,
-    number: usize,
-) -> Result<(), AllocError> {
+fn put_too_early(text: &mut Words, story: &Story<'_>, node: usize, number: usize) {
     let index = match story.nodes.get(node) {
         Some(node) => node.domain,
         None => 0,
     };
-    text.push_str("asked too early, ")?;
-    put_awaited(text, story, index, number)?;
+    text.put("asked too early, ");
+    put_awaited(text, story, index, number);
     let Some(domain) = story.domain_of(node) else {
-        return Ok(());
+        return;
     };
     // Later there is no verdict to be had either.
     if domain.verdict() == "failed" {
-        return Ok(());
+        return;
     }
     let last = domain.ended.unwrap_or(0);
-    write!(text, ": move it after call {last}, or use wait")
+    text.put(": move it after call ").put_number(last);
+    text.put(", or use wait");
 }
 
 /// Puts for whom the domain of an index waits before the call of a number after a text.
-fn put_awaited(
-    text: &mut String,
-    story: &Story<'_>,
-    index: usize,
-    number: usize,
-) -> Result<(), AllocError> {
-    let alloc = *text.allocator();
-    let awaited = story.awaited(alloc, index, number)?;
-    let names = story.names(alloc, &awaited)?;
-    put_those_awaited(text, &names)
+fn put_awaited(text: &mut Words, story: &Story<'_>, index: usize, number: usize) {
+    match awaited(text.alloc(), story, index, number) {
+        Ok(names) => put_those_awaited(text, &names),
+        Err(AllocError) => text.refuse(),
+    }
 }
 
-fn put_those_awaited(text: &mut String, names: &[&str]) -> Result<(), AllocError> {
+/// The names of those for whom the domain of an index waits before the call of a number.
+fn awaited<'a>(
+    alloc: Global,
+    story: &Story<'a>,
+    index: usize,
+    number: usize,
+) -> Result<Vec<&'a str>, AllocError> {
+    let nodes = story.awaited(alloc, index, number)?;
+    story.names(alloc, &nodes)
+}
+
+fn put_those_awaited(text: &mut Words, names: &[&str]) {
     if names.is_empty() {
-        return text.push_str("the domain that it was attached to is still awaited");
+        text.put("the domain that it was attached to is still awaited");
+        return;
     }
-    put_few(text, names, MOST_NAMES)?;
+    put_few(text, names, MOST_NAMES);
     put_by_count(text, names, " is still awaited", " are still awaited")
 }
 
 /// Puts words on one name after a text, or those on several.
-fn put_by_count(
-    text: &mut String,
-    names: &[&str],
-    one: &str,
-    many: &str,
-) -> Result<(), AllocError> {
-    text.push_str(if names.len() == 1 { one } else { many })
+fn put_by_count(text: &mut Words, names: &[&str], one: &str, many: &str) {
+    text.put(if names.len() == 1 { one } else { many });
 }
 
 /// Puts which state of a node doesn't allow a call after a text.
 fn put_wrong_state(
-    text: &mut String,
+    text: &mut Words,
     story: &Story<'_>,
     call: &Made<'_>,
     node: usize,
     number: usize,
-) -> Result<(), AllocError> {
+) {
     let on = call.on;
     if let Some(gone) = story.deed_before(node, Deed::End, number) {
         return put_gone(text, story, call, number, gone);
     }
     let makes = matches!(call.act, Act::CreateChild(_) | Act::AllChildrenPresent);
     match story.kind_before(node, number) {
-        NodeKind::Token if makes => write!(text, "{on} is a token, no group"),
+        NodeKind::Token if makes => {
+            text.put(on).put(" is a token, no group");
+        }
         NodeKind::Token => put_unbound(text, story, call, node, number),
         NodeKind::Group => put_wrong_group(text, story, call, node, number, makes),
         NodeKind::Collection => put_wrong_collection(text, story, call, node, number),
@@ -470,56 +468,42 @@ fn put_wrong_state(
 }
 
 /// A call on a node that the call of the number `gone` released or closed.
-fn put_gone(
-    text: &mut String,
-    story: &Story<'_>,
-    call: &Made<'_>,
-    number: usize,
-    gone: usize,
-) -> Result<(), AllocError> {
+fn put_gone(text: &mut Words, story: &Story<'_>, call: &Made<'_>, number: usize, gone: usize) {
     let on = call.on;
     let actor = story.actor(gone);
     let how = match story.call(gone) {
         Some(deed) if matches!(deed.act, Act::Close) => "closed",
         _ => "released",
     };
-    write!(text, "{on} was {how} by call {gone} ({actor})")?;
+    text.put(on).put(" was ").put(how);
+    text.put(" by call ").put_number(gone);
+    text.put(" (").put(actor).put(")");
     put_unset(text, story, call, number, "; it may mean ")
 }
 
 /// A call that needs a collection, on a token.
-fn put_unbound(
-    text: &mut String,
-    story: &Story<'_>,
-    call: &Made<'_>,
-    node: usize,
-    number: usize,
-) -> Result<(), AllocError> {
+fn put_unbound(text: &mut Words, story: &Story<'_>, call: &Made<'_>, node: usize, number: usize) {
     let on = call.on;
     let Some(later) = story.deed(node, Deed::Bind) else {
-        return write!(text, "{on} is a token: bind makes it a collection");
+        text.put(on).put(" is a token: bind makes it a collection");
+        return;
     };
-    write!(
-        text,
-        "{on} is a token until call {later} binds it: move this call after call {later}"
-    )?;
+    text.put(on).put(" is a token until call ");
+    text.put_number(later).put(" binds it: ");
+    text.put("move this call after call ").put_number(later);
     put_unset(text, story, call, number, ", or it means ")
 }
 
 /// Of a call that states constraints puts who was bound before it and has none after a text, if
 /// somebody is, with words before it: it may be meant.
-fn put_unset(
-    text: &mut String,
-    story: &Story<'_>,
-    call: &Made<'_>,
-    number: usize,
-    before: &str,
-) -> Result<(), AllocError> {
+fn put_unset(text: &mut Words, story: &Story<'_>, call: &Made<'_>, number: usize, before: &str) {
     if !matches!(call.act, Act::SetConstraints(_)) {
-        return Ok(());
+        return;
     }
-    let names = unset(*text.allocator(), story, number)?;
-    put_those_unset(text, &names, before)
+    match unset(text.alloc(), story, number) {
+        Ok(names) => put_those_unset(text, &names, before),
+        Err(AllocError) => text.refuse(),
+    }
 }
 
 /// The names of those who were bound before the call of a number and have no constraints.
@@ -534,91 +518,87 @@ fn unset<'a>(alloc: Global, story: &Story<'a>, number: usize) -> Result<Vec<&'a 
     Ok(names)
 }
 
-fn put_those_unset(text: &mut String, names: &[&str], before: &str) -> Result<(), AllocError> {
+fn put_those_unset(text: &mut Words, names: &[&str], before: &str) {
     if names.is_empty() {
-        return Ok(());
+        return;
     }
-    text.push_str(before)?;
-    put_joined(text, names, "or")?;
+    text.put(before);
+    put_joined(text, names, "or");
     put_by_count(text, names, ", which isn't set", ", which aren't set")
 }
 
 fn put_wrong_group(
-    text: &mut String,
+    text: &mut Words,
     story: &Story<'_>,
     call: &Made<'_>,
     node: usize,
     number: usize,
     makes: bool,
-) -> Result<(), AllocError> {
+) {
     let on = call.on;
     if makes {
         let last = story.deed_before(node, Deed::Complete, number).unwrap_or(0);
-        return write!(
-            text,
-            "{on} got its last child before call {last}, all_children_present"
-        );
+        text.put(on).put(" got its last child before call ");
+        text.put_number(last).put(", all_children_present");
+        return;
     }
     let why = if matches!(call.act, Act::Release) {
         "isn't complete: all_children_present comes first"
     } else {
         "is a group: only create_child, all_children_present, release and close suit it"
     };
-    write!(text, "{on} {why}")
+    text.put(on).put(" ").put(why);
 }
 
 fn put_wrong_collection(
-    text: &mut String,
+    text: &mut Words,
     story: &Story<'_>,
     call: &Made<'_>,
     node: usize,
     number: usize,
-) -> Result<(), AllocError> {
+) {
     let on = call.on;
     match call.act {
         Act::SetConstraints(_) => put_set_before(text, story, call, node, number),
         Act::Duplicate(_) | Act::CreateGroup(_) | Act::Bind => {
             put_bound(text, story, call, node, number)
         }
-        _ => write!(text, "{on} is a collection, no group"),
+        _ => {
+            text.put(on).put(" is a collection, no group");
+        }
     }
 }
 
 /// A call that needs a token, on a collection.
-fn put_bound(
-    text: &mut String,
-    story: &Story<'_>,
-    call: &Made<'_>,
-    node: usize,
-    number: usize,
-) -> Result<(), AllocError> {
+fn put_bound(text: &mut Words, story: &Story<'_>, call: &Made<'_>, node: usize, number: usize) {
     let on = call.on;
     let bound = story.deed_before(node, Deed::Bind, number).unwrap_or(0);
-    write!(text, "{on} is no token any more: call {bound} bound it")?;
+    text.put(on).put(" is no token any more: call ");
+    text.put_number(bound).put(" bound it");
     if call.act.name_made().is_none() {
-        return Ok(());
+        return;
     }
-    write!(text, "; move call {bound} after this call")
+    text.put("; move call ").put_number(bound);
+    text.put(" after this call");
 }
 
 /// Constraints on a collection that has some; maybe a node whose name is that of the actor is
 /// meant.
 fn put_set_before(
-    text: &mut String,
+    text: &mut Words,
     story: &Story<'_>,
     call: &Made<'_>,
     node: usize,
     number: usize,
-) -> Result<(), AllocError> {
+) {
     let on = call.on;
     let actor = call.actor;
     let first = story
         .deed_before(node, Deed::SetConstraints, number)
         .unwrap_or(0);
-    write!(
-        text,
-        "call {first} already set {on}; call {number} changed nothing"
-    )?;
+    text.put("call ").put_number(first);
+    text.put(" already set ").put(on).put("; call ");
+    text.put_number(number).put(" changed nothing");
     if actor != on && is_name(story, actor) {
         put_meant(text, actor)
     } else {
@@ -637,6 +617,7 @@ fn is_name(story: &Story<'_>, name: &str) -> bool {
 }
 
 /// Puts who may be meant after a text.
-fn put_meant(text: &mut String, actor: &str) -> Result<(), AllocError> {
-    write!(text, " (is {actor} meant? its actor is {actor})")
+fn put_meant(text: &mut Words, actor: &str) {
+    text.put(" (is ").put(actor);
+    text.put(" meant? its actor is ").put(actor).put(")");
 }

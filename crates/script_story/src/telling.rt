@@ -10,6 +10,7 @@ ghost use Rattle.sysmem_tree.specs.Nodes.{HasNode};
 use crate::story::{Deeds, Domain, Made, Node, Story, first_word};
 use crate::words::{is_domain_line, reply_in, said_on};
 use certificate_text::push_path;
+use explanation_text::Gathered;
 use script_faults::actor_of;
 use script_reading::Call;
 use script_replay::Replayed;
@@ -78,13 +79,13 @@ fn calls_of<'a>(
 }
 
 fn nodes_of<'a>(alloc: Global, tree: &'a Tree) -> Result<Vec<Node<'a>>, AllocError> {
-    let mut nodes = Vec::new(alloc);
+    let mut nodes = Gathered::new(alloc);
     for number in 0..tree.node_count() {
         if let Some(node) = tree.node(number) {
-            nodes.push(node_of(alloc, tree, node)?)?;
+            nodes.add(node_of(alloc, tree, node)?);
         }
     }
-    Ok(nodes)
+    nodes.done()
 }
 
 fn node_of<'a>(alloc: Global, tree: &'a Tree, node: NodeId) -> Result<Node<'a>, AllocError>
