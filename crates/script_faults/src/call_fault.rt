@@ -3,7 +3,7 @@
 use crate::keys::{CALLS, KNOWN};
 use crate::record::{CONSTRAINTS, Document, Part, first_unknown, is_one_of, key_of, wrong_kind};
 use explanation_text::wording::{put_few, put_joined};
-use explanation_text::{Items, Step, nearest};
+use explanation_text::{Gathered, Items, Step, Words, nearest};
 use script_reading::ScriptFault;
 use serde_json::Value;
 use std::alloc::{AllocError, Global};
@@ -39,11 +39,12 @@ pub(crate) fn tell_call_fault<'a>(
         call,
     };
     match fault {
-        ScriptFault::TooManyActors(_) => tell_actors(items, faulty),
-        ScriptFault::BadName(_) => tell_name(items, faulty),
+        ScriptFault::TooManyActors(_) => tell_actors(items, faulty)?,
+        ScriptFault::BadName(_) => tell_name(items, faulty)?,
         ScriptFault::SharedName(_) => tell_shared(items, faulty),
-        _ => tell_shape(items, faulty),
+        _ => tell_shape(items, faulty)?,
     }
+    Ok(())
 }
 
 impl<'a> Faulty<'a, '_> {
@@ -52,50 +53,41 @@ impl<'a> Faulty<'a, '_> {
     }
 
     /// Points at a member's value, or at the call where there is none.
-    fn point(
-        &self,
-        items: &mut Items,
-        key: &'static str,
-        note: &str,
-        help: Result<String, AllocError>,
-    ) -> Result<(), AllocError> {
+    fn point(&self, items: &mut Items, key: &'static str, note: &str, help: Words) {
         let member = [Step::Key("calls"), Step::Item(self.index), Step::Key(key)];
         let steps = if self.call.get(key).is_some() { 3 } else { 2 };
         let path = member.get(..steps).unwrap_or(&member);
         self.document
-            .advise(items, 1, path, Part::Value, note, help?)
+            .advise(items, 1, path, Part::Value, note, help)
     }
 
     /// Points at the call, which lacks a member; or at a key that it can't have, which is likely
     /// meant.
-    fn lacks(
-        &self,
-        items: &mut Items,
-        key: &'static str,
-        help: Result<String, AllocError>,
-    ) -> Result<(), AllocError> {
+    fn lacks(&self, items: &mut Items, key: &'static str, help: Words) -> Result<(), AllocError> {
         let alloc = items.alloc();
         let path = self.path();
         let document = self.document;
         match first_unknown(alloc, document, &path, KNOWN)? {
-            Some(other) => self.tell_meant(items, &other, key),
+            Some(other) => {
+                // This help isn't said, but memory that was refused to it is told of.
+                let _unsaid = help.done()?;
+                self.tell_meant(items, &other, key)
+            }
             None => {
-                let note = format!(in alloc; "{key} is missing");
-                document.tell(items, 1, &path, Part::Begin, note, help)
+                let mut words = Words::of(alloc, key);
+                words.put(" is missing");
+                document.tell(items, 1, &path, Part::Begin, words, help)
             }
         }
+        Ok(())
     }
 
     /// Tells a key that the call can't have, in the place of which one that it lacks is meant.
-    fn tell_meant(
-        &self,
-        items: &mut Items,
-        other: &[Step<'_>],
-        key: &str,
-    ) -> Result<(), AllocError> {
-        let meant = format!(in items.alloc(); "did you mean {key}? It is missing")?;
+    fn tell_meant(&self, items: &mut Items, other: &[Step<'_>], key: &str) {
+        let mut words = Words::of(items.alloc(), "did you mean ");
+        words.put(key).put("? It is missing");
         self.document
-            .advise(items, 1, other, Part::Key, "unknown key", meant)
+            .advise(items, 1, other, Part::Key, "unknown key", words)
     }
 
     fn text(&self, key: &str) -> Option<&'a str> {
@@ -114,7 +106,8 @@ pub fn actor_of(call: &Value) -> &str {
 fn tell_actors(items: &mut Items, faulty: Faulty<'_, '_>) -> Result<(), AllocError> {
     let actors = actors_before(items.alloc(), faulty)?;
     let help = listed(items.alloc(), "at most 16 may call: ", &actors);
-    faulty.point(items, "actor", "the 17th actor", help)
+    faulty.point(items, "actor", "the 17th actor", help);
+    Ok(())
 }
 
 /// The first 16 actors of the calls before one.
@@ -130,10 +123,10 @@ fn actors_before<'a>(alloc: Global, faulty: Faulty<'a, '_>) -> Result<Vec<&'a st
 }
 
 /// Names after a text.
-fn listed(alloc: Global, text: &str, names: &[&str]) -> Result<String, AllocError> {
-    let mut words = String::from_str(alloc, text)?;
-    put_joined(&mut words, names, "and")?;
-    Ok(words)
+fn listed(alloc: Global, text: &str, names: &[&str]) -> Words {
+    let mut words = Words::of(alloc, text);
+    put_joined(&mut words, names, "and");
+    words
 }
 
 /// Whether a call makes a name.
@@ -148,62 +141,73 @@ fn is_maker(name: &str) -> bool {
 fn tell_shape(items: &mut Items, faulty: Faulty<'_, '_>) -> Result<(), AllocError> {
     let alloc = items.alloc();
     if !faulty.call.is_object() {
-        return tell_no_object(items, faulty);
+        tell_no_object(items, faulty);
+        return Ok(());
     }
     let Some(value) = faulty.call.get("call") else {
         return faulty.lacks(items, "call", calls_known(alloc));
     };
     let Some(name) = value.as_str() else {
-        return tell_kind(items, faulty, "call", value);
+        tell_kind(items, faulty, "call", value);
+        return Ok(());
     };
     if !is_one_of(name, CALLS) {
-        return faulty.point(items, "call", "unknown call", hint_of_call(alloc, name));
+        faulty.point(items, "call", "unknown call", hint_of_call(alloc, name));
+        return Ok(());
     }
     tell_members(items, faulty, name)
 }
 
-fn tell_no_object(items: &mut Items, faulty: Faulty<'_, '_>) -> Result<(), AllocError> {
-    let note = wrong_kind(items.alloc(), faulty.call, "a call is")?;
-    faulty
-        .document
-        .point(items, 1, &faulty.path(), Part::Value, &note, &[])
+fn tell_no_object(items: &mut Items, faulty: Faulty<'_, '_>) {
+    match wrong_kind(items.alloc(), faulty.call, "a call is").done() {
+        Ok(note) => {
+            faulty
+                .document
+                .point(items, 1, &faulty.path(), Part::Value, &note, &[])
+        }
+        Err(AllocError) => items.refuse(),
+    }
 }
 
 /// What an unknown call may mean.
-fn hint_of_call(alloc: Global, name: &str) -> Result<String, AllocError> {
-    if let Some(near) = nearest(alloc, name, CALLS)? {
-        return format!(in alloc; "did you mean {near}?");
+fn hint_of_call(alloc: Global, name: &str) -> Words {
+    let mut words = Words::new(alloc);
+    match nearest(alloc, name, CALLS) {
+        Ok(Some(near)) => {
+            words.put("did you mean ").put(near).put("?");
+        }
+        Ok(None) => return calls_known(alloc),
+        Err(AllocError) => words.refuse(),
     }
-    calls_known(alloc)
+    words
 }
 
-fn calls_known(alloc: Global) -> Result<String, AllocError> {
+fn calls_known(alloc: Global) -> Words {
     listed(alloc, "calls: ", CALLS)
 }
 
-fn tell_kind(
-    items: &mut Items,
-    faulty: Faulty<'_, '_>,
-    key: &'static str,
-    value: &Value,
-) -> Result<(), AllocError> {
+fn tell_kind(items: &mut Items, faulty: Faulty<'_, '_>, key: &'static str, value: &Value) {
     let alloc = items.alloc();
-    let note = wrong_kind(alloc, value, "a name is")?;
-    let help = String::from_str(alloc, "names stand in double quotes");
-    faulty.point(items, key, &note, help)
+    let help = Words::of(alloc, "names stand in double quotes");
+    match wrong_kind(alloc, value, "a name is").done() {
+        Ok(note) => faulty.point(items, key, &note, help),
+        Err(AllocError) => items.refuse(),
+    }
 }
 
 /// Tells what is wrong with the members of a call that has a name.
 fn tell_members(items: &mut Items, faulty: Faulty<'_, '_>, name: &str) -> Result<(), AllocError> {
     if is_maker(name) && faulty.call.get("as").is_none() {
-        let help = format!(in items.alloc(); "{name} makes a node: as gives it its name");
-        return faulty.lacks(items, "as", help);
+        let mut words = Words::of(items.alloc(), name);
+        words.put(" makes a node: as gives it its name");
+        return faulty.lacks(items, "as", words);
     }
     if let Some((key, value)) = no_text(faulty, &["as"], is_maker(name)) {
-        return tell_kind(items, faulty, key, value);
+        tell_kind(items, faulty, key, value);
+        return Ok(());
     }
     if faulty.call.get("on").is_none() {
-        let help = String::from_str(items.alloc(), "on names the node that the call is made on");
+        let help = Words::of(items.alloc(), "on names the node that the call is made on");
         return faulty.lacks(items, "on", help);
     }
     tell_keys(items, faulty, name)
@@ -216,13 +220,13 @@ fn tell_keys(items: &mut Items, faulty: Faulty<'_, '_>, name: &str) -> Result<()
         Some(unknown) => tell_key(items, faulty, name, keys, &unknown),
         None => tell_texts(items, faulty),
     }
+    Ok(())
 }
 
 /// Tells which of the members that name a node or an actor is no text.
-fn tell_texts(items: &mut Items, faulty: Faulty<'_, '_>) -> Result<(), AllocError> {
-    match no_text(faulty, &["on", "actor"], true) {
-        Some((key, value)) => tell_kind(items, faulty, key, value),
-        None => Ok(()),
+fn tell_texts(items: &mut Items, faulty: Faulty<'_, '_>) {
+    if let Some((key, value)) = no_text(faulty, &["on", "actor"], true) {
+        tell_kind(items, faulty, key, value);
     }
 }
 
@@ -261,36 +265,38 @@ fn tell_key(
     name: &str,
     keys: &'static [&'static str],
     path: &[Step<'_>],
-) -> Result<(), AllocError> {
-    let help = help_of_key(items.alloc(), key_of(path), name, keys)?;
+) {
+    let help = help_of_key(items.alloc(), key_of(path), name, keys);
     faulty
         .document
         .advise(items, 1, path, Part::Key, "unknown key", help)
 }
 
 /// What helps with such a key of a call that has a name.
-fn help_of_key(
-    alloc: Global,
-    key: &str,
-    name: &str,
-    keys: &[&'static str],
-) -> Result<String, AllocError> {
+fn help_of_key(alloc: Global, key: &str, name: &str, keys: &[&'static str]) -> Words {
     if is_one_of(key, CONSTRAINTS) {
-        String::from_str(alloc, "it belongs in constraints")
+        Words::of(alloc, "it belongs in constraints")
     } else if key == "as" {
-        format!(in alloc; "{name} makes no node")
+        let mut words = Words::of(alloc, name);
+        words.put(" makes no node");
+        words
     } else if key == "constraints" {
-        String::from_str(alloc, "only set_constraints has constraints")
+        Words::of(alloc, "only set_constraints has constraints")
     } else {
         hint_of_key(alloc, key, keys)
     }
 }
 
-fn hint_of_key(alloc: Global, key: &str, keys: &[&'static str]) -> Result<String, AllocError> {
-    if let Some(near) = nearest(alloc, key, keys)? {
-        return format!(in alloc; "did you mean {near}?");
+fn hint_of_key(alloc: Global, key: &str, keys: &[&'static str]) -> Words {
+    let mut words = Words::new(alloc);
+    match nearest(alloc, key, keys) {
+        Ok(Some(near)) => {
+            words.put("did you mean ").put(near).put("?");
+        }
+        Ok(None) => return listed(alloc, "keys of this call: ", keys),
+        Err(AllocError) => words.refuse(),
     }
-    listed(alloc, "keys of this call: ", keys)
+    words
 }
 
 /// Whether a text is 1 to 32 ASCII letters, digits, `_` and `-`.
@@ -310,15 +316,19 @@ fn has_name_letters(text: &str) -> bool {
 /// Tells a bad name, a name that no earlier call made, or one that is made again.
 fn tell_name(items: &mut Items, faulty: Faulty<'_, '_>) -> Result<(), AllocError> {
     if let Some(key) = bad_name(faulty) {
-        let words = "a name is 1 to 32 ASCII letters, digits, _ or -";
-        let help = String::from_str(items.alloc(), words);
-        return faulty.point(items, key, "a bad name", help);
+        let help = Words::of(
+            items.alloc(),
+            "a name is 1 to 32 ASCII letters, digits, _ or -",
+        );
+        faulty.point(items, key, "a bad name", help);
+        return Ok(());
     }
     let on = faulty.text("on").unwrap_or("");
     if on != "root" && maker_of(faulty, on).is_none() {
         return tell_unmade(items, faulty, on);
     }
-    tell_made(items, faulty)
+    tell_made(items, faulty);
+    Ok(())
 }
 
 /// The first member that is to be a name, and has a wrong length or character.
@@ -333,30 +343,35 @@ fn bad_name(faulty: Faulty<'_, '_>) -> Option<&'static str> {
 }
 
 /// Tells a name that is made again.
-fn tell_made(items: &mut Items, faulty: Faulty<'_, '_>) -> Result<(), AllocError> {
+fn tell_made(items: &mut Items, faulty: Faulty<'_, '_>) {
     let alloc = items.alloc();
     let made = faulty.text("as").unwrap_or("");
     let help = match maker_of(faulty, made) {
         Some(index) => {
-            let number = index.saturating_add(1);
-            format!(in alloc; "call {number} makes it")
+            let mut words = Words::of(alloc, "call ");
+            words.put_number(index.saturating_add(1)).put(" makes it");
+            words
         }
-        None => String::from_str(alloc, "the program makes root"),
+        None => Words::of(alloc, "the program makes root"),
     };
     faulty.point(items, "as", "made before", help)
 }
 
 /// Tells a name on which another actor made a call.
-fn tell_shared(items: &mut Items, faulty: Faulty<'_, '_>) -> Result<(), AllocError> {
+fn tell_shared(items: &mut Items, faulty: Faulty<'_, '_>) {
     let alloc = items.alloc();
     let on = faulty.text("on").unwrap_or("");
     let actor = actor_of(faulty.call);
     let help = match another_on(faulty, on, actor) {
         Some(index) => {
             let number = index.saturating_add(1);
-            format!(in alloc; "call {number} is made on it by another actor")
+            let mut words = Words::of(alloc, "call ");
+            words
+                .put_number(number)
+                .put(" is made on it by another actor");
+            words
         }
-        None => String::from_str(alloc, "an earlier call on it is another actor's"),
+        None => Words::of(alloc, "an earlier call on it is another actor's"),
     };
     faulty.point(items, "on", "another actor's name", help)
 }
@@ -403,40 +418,48 @@ fn tell_unmade(items: &mut Items, faulty: Faulty<'_, '_>, on: &str) -> Result<()
     let alloc = items.alloc();
     let note = "no earlier call makes this name";
     let help = match first_maker(faulty.calls, on) {
-        Some(index) if index == faulty.index => {
-            String::from_str(alloc, "this call itself makes it")
-        }
+        Some(index) if index == faulty.index => { Words::of(alloc, "this call itself makes it") }
         Some(index) => {
             let number = index.saturating_add(1);
-            format!(in alloc; "call {number} makes it, and that comes later")
+            let mut words = Words::of(alloc, "call ");
+            words
+                .put_number(number)
+                .put(" makes it, and that comes later");
+            words
         }
-        None => hint_of_made(alloc, faulty, on),
+        None => hint_of_made(alloc, faulty, on)?,
     };
-    faulty.point(items, "on", note, help)
+    faulty.point(items, "on", note, help);
+    Ok(())
 }
 
 /// The name that was made and is near, or the names that were.
-fn hint_of_made(alloc: Global, faulty: Faulty<'_, '_>, on: &str) -> Result<String, AllocError> {
+fn hint_of_made(alloc: Global, faulty: Faulty<'_, '_>, on: &str) -> Result<Words, AllocError> {
     let made = names_made(alloc, faulty)?;
-    match nearest(alloc, on, &made)? {
-        Some(near) => format!(in alloc; "did you mean {near}?"),
+    Ok(match nearest(alloc, on, &made)? {
+        Some(near) => {
+            let mut words = Words::of(alloc, "did you mean ");
+            words.put(near).put("?");
+            words
+        }
         None => names_so_far(alloc, &made),
-    }
+    })
 }
 
 /// The names of the root and of what the calls before one make.
 fn names_made<'a>(alloc: Global, faulty: Faulty<'a, '_>) -> Result<Vec<&'a str>, AllocError> {
-    let mut made: Vec<&str> = vec![in alloc; "root"]?;
+    let mut made: Gathered<&str> = Gathered::new(alloc);
+    made.add("root");
     for call in faulty.calls.iter().take(faulty.index) {
         if let Some(name) = call.get("as").and_then(Value::as_str) {
-            made.push(name)?;
+            made.add(name);
         }
     }
-    Ok(made)
+    made.done()
 }
 
-fn names_so_far(alloc: Global, made: &[&str]) -> Result<String, AllocError> {
-    let mut words = String::from_str(alloc, "names so far: ")?;
-    put_few(&mut words, made, 8)?;
-    Ok(words)
+fn names_so_far(alloc: Global, made: &[&str]) -> Words {
+    let mut words = Words::of(alloc, "names so far: ");
+    put_few(&mut words, made, 8);
+    words
 }

@@ -4,7 +4,7 @@
 //! ```
 //! let mut items = Items::new(rt.alloc());
 //! tell_fault(&mut items, &Document { file: "camera.json", bytes, value: &value }, fault)?;
-//! print!(rt; "{}", text_of(rt.alloc(), &items.into_list())?)?;
+//! print!(rt; "{}", text_of(rt.alloc(), &items.into_list()?)?)?;
 //! ```
 #![tactic(auto)]
 

@@ -3,7 +3,7 @@
 use crate::call_fault::tell_call_fault;
 use crate::keys::SCRIPT;
 use crate::record::{Document, Part, first_unknown, key_of, tell_record_fault, wrong_kind};
-use explanation_text::{Items, Kind, Mark, Span, Step, nearest, show, stop_of};
+use explanation_text::{Item, Items, Kind, Mark, Span, Step, Words, nearest, show, stop_of};
 use script_reading::{LONGEST, ScriptFault};
 use serde_json::Value;
 use std::alloc::{AllocError, Global};
@@ -14,60 +14,66 @@ pub fn tell_fault<'a>(
     document: &Document<'a>,
     fault: ScriptFault,
 ) -> Result<(), AllocError> {
-    put_answer(items, fault)?;
+    put_answer(items, fault);
     match fault {
         ScriptFault::TooLong => tell_length(items),
-        ScriptFault::NotJson => Ok(()),
-        ScriptFault::Misshapen => tell_misshapen(items, document),
+        ScriptFault::NotJson => {}
+        ScriptFault::Misshapen => tell_misshapen(items, document)?,
         ScriptFault::CallMisshapen(number)
         | ScriptFault::BadName(number)
         | ScriptFault::TooManyActors(number)
-        | ScriptFault::SharedName(number) => { tell_call_fault(items, document, fault, number) }
+        | ScriptFault::SharedName(number) => { tell_call_fault(items, document, fault, number)? }
         ScriptFault::Platform(record) => {
             let base = [Step::Key("platform")];
-            tell_record_fault(items, 1, document, &base, record, true)
+            tell_record_fault(items, 1, document, &base, record, true)?
         }
         ScriptFault::TooManyCalls => tell_calls(items, document),
     }
+    Ok(())
 }
 
 /// The answer of a script that is refused.
-fn put_answer(items: &mut Items, fault: ScriptFault) -> Result<(), AllocError> {
+fn put_answer(items: &mut Items, fault: ScriptFault) {
     let alloc = items.alloc();
     let what = match fault {
         ScriptFault::NotJson => ", no JSON",
         ScriptFault::Platform(_) => ", the platform",
         _ => "",
     };
-    let text = format!(in alloc; "script refused: {fault}{what}")?;
-    items.push(Kind::Answer, 0, "", text)
+    match format!(in alloc; "script refused: {fault}{what}") {
+        Ok(text) => items.add(Item {
+            label: "",
+            text,
+            depth: 0,
+            kind: Kind::Answer,
+        }),
+        Err(AllocError) => items.refuse(),
+    }
 }
 
-fn tell_length(items: &mut Items) -> Result<(), AllocError> {
-    let alloc = items.alloc();
-    let text = format!(in alloc; "the script has more than {LONGEST} bytes; no more are read")?;
-    items.say(1, "", text)
+fn tell_length(items: &mut Items) {
+    let mut words = Words::of(items.alloc(), "the script has more than ");
+    words.put_number(LONGEST).put(" bytes; no more are read");
+    items.say(1, "", words)
 }
 
-fn tell_calls(items: &mut Items, document: &Document<'_>) -> Result<(), AllocError> {
-    let alloc = items.alloc();
+fn tell_calls(items: &mut Items, document: &Document<'_>) {
     let count = match document.at(&[Step::Key("calls")]) {
         Some(Value::Array(calls)) => calls.len(),
         _ => 0,
     };
-    let text = format!(in alloc; "the script has {count} calls, at most 4096 are made")?;
-    items.say(1, "", text)
+    let mut words = Words::of(items.alloc(), "the script has ");
+    words.put_number(count).put(" calls, at most 4096 are made");
+    items.say(1, "", words)
 }
 
 /// Tells where a text stops being JSON.
 pub fn tell_no_json(items: &mut Items, file: &str, bytes: &[u8]) -> Result<(), AllocError> {
-    put_answer(items, ScriptFault::NotJson)?;
+    put_answer(items, ScriptFault::NotJson);
     if is_blank(bytes) {
-        let text = String::from_str(
-            items.alloc(),
-            "the file is empty: a script is an object with platform and calls",
-        )?;
-        return items.say(1, "", text);
+        let text = "the file is empty: a script is an object with platform and calls";
+        items.say_text(1, "", text);
+        return Ok(());
     }
     tell_break(items, file, bytes)
 }
@@ -117,13 +123,16 @@ fn tell_stop(
     } else {
         ""
     };
-    let note = format!(in items.alloc(); "expected {expected}{end}")?;
+    let mut words = Words::of(items.alloc(), "expected ");
+    words.put(expected).put(end);
+    let note = words.done()?;
     let mark = Mark {
         span: byte_at(at),
         said: "",
         note: &note,
     };
-    show(items, 1, file, bytes, mark, &helps)
+    show(items, 1, file, bytes, mark, &helps);
+    Ok(())
 }
 
 /// A list of what helps, where something does.
@@ -151,38 +160,44 @@ fn tell_byte(items: &mut Items, file: &str, bytes: &[u8], at: usize) -> Result<(
         said: "",
         note: &note,
     };
-    show(items, 1, file, bytes, mark, &[])
+    show(items, 1, file, bytes, mark, &[]);
+    Ok(())
 }
 
 /// Tells a script that is no object with a platform and a list of calls.
 fn tell_misshapen(items: &mut Items, document: &Document<'_>) -> Result<(), AllocError> {
     if !document.value.is_object() {
         let due = "an object with platform and calls is";
-        return tell_wrong(items, document, &[], document.value, due);
+        tell_wrong(items, document, &[], document.value, due);
+        return Ok(());
     }
     match first_unknown(items.alloc(), document, &[], SCRIPT)? {
-        Some(path) => tell_key(items, document, &path),
+        Some(path) => tell_key(items, document, &path)?,
         None => tell_members(items, document),
     }
+    Ok(())
 }
 
 /// Tells a member that is missing, or calls that are no list.
-fn tell_members(items: &mut Items, document: &Document<'_>) -> Result<(), AllocError> {
+fn tell_members(items: &mut Items, document: &Document<'_>) {
     for key in SCRIPT {
         if document.value.get(*key).is_none() {
             return tell_missing(items, document, key);
         }
     }
     let path = [Step::Key("calls")];
-    match document.at(&path) {
-        Some(calls) => tell_wrong(items, document, &path, calls, "a list is"),
-        None => Ok(()),
+    if let Some(calls) = document.at(&path) {
+        tell_wrong(items, document, &path, calls, "a list is");
     }
 }
 
-fn tell_missing(items: &mut Items, document: &Document<'_>, key: &str) -> Result<(), AllocError> {
-    let note = format!(in items.alloc(); "{key} is missing")?;
-    document.point(items, 1, &[], Part::Begin, &note, &[])
+fn tell_missing(items: &mut Items, document: &Document<'_>, key: &str) {
+    let mut words = Words::of(items.alloc(), key);
+    words.put(" is missing");
+    match words.done() {
+        Ok(note) => document.point(items, 1, &[], Part::Begin, &note, &[]),
+        Err(AllocError) => items.refuse(),
+    }
 }
 
 /// Tells a value of a wrong kind.
@@ -192,9 +207,11 @@ fn tell_wrong(
     path: &[Step<'_>],
     value: &Value,
     due: &str,
-) -> Result<(), AllocError> {
-    let note = wrong_kind(items.alloc(), value, due)?;
-    document.point(items, 1, path, Part::Value, &note, &[])
+) {
+    match wrong_kind(items.alloc(), value, due).done() {
+        Ok(note) => document.point(items, 1, path, Part::Value, &note, &[]),
+        Err(AllocError) => items.refuse(),
+    }
 }
 
 /// Tells a key that a script can't have.
@@ -205,8 +222,13 @@ fn tell_key(
 ) -> Result<(), AllocError> {
     let alloc = items.alloc();
     let help = match nearest(alloc, key_of(path), SCRIPT)? {
-        Some(near) => format!(in alloc; "did you mean {near}?"),
-        None => String::from_str(alloc, "a script has just platform and calls"),
+        Some(near) => {
+            let mut words = Words::of(alloc, "did you mean ");
+            words.put(near).put("?");
+            words
+        }
+        None => Words::of(alloc, "a script has just platform and calls"),
     };
-    document.advise(items, 1, path, Part::Key, "unknown key", help?)
+    document.advise(items, 1, path, Part::Key, "unknown key", help);
+    Ok(())
 }

@@ -1,14 +1,14 @@
 //! Records with a list cut off, by which the item with a fault is found.
 
 use crate::record::paths::{Path, extended};
-use explanation_text::{Step, value_at};
+use explanation_text::{Step, Words, value_at};
 use serde_json::Value;
 use std::alloc::{AllocError, Global};
 use sysmem_sanitise::{Code, Fault, read_constraints, read_platform};
 
 /// A copy of a value in which the list at a path has its first items alone, as many as are said.
 fn cut(alloc: Global, value: &Value, path: &[Step<'_>], most: usize) -> Result<Value, AllocError> {
-    let pointer = pointer_of(alloc, path)?;
+    let pointer = pointer_of(alloc, path).done()?;
     let mut copy = value.clone()?;
     if let Some(at) = copy.pointer_mut(&pointer) {
         if let Some(list) = at.as_array_mut() {
@@ -19,15 +19,19 @@ fn cut(alloc: Global, value: &Value, path: &[Step<'_>], most: usize) -> Result<V
 }
 
 /// A path as a JSON pointer; a record's keys have no `/` and no `~`.
-fn pointer_of(alloc: Global, path: &[Step<'_>]) -> Result<String, AllocError> {
-    let mut pointer = String::new(alloc);
+fn pointer_of(alloc: Global, path: &[Step<'_>]) -> Words {
+    let mut words = Words::new(alloc);
     for step in path {
         match *step {
-            Step::Key(key) => write!(pointer, "/{key}")?,
-            Step::Item(index) => write!(pointer, "/{index}")?,
+            Step::Key(key) => {
+                words.put("/").put(key);
+            }
+            Step::Item(index) => {
+                words.put("/").put_number(index);
+            }
         }
     }
-    Ok(pointer)
+    words
 }
 
 /// A record with its first fault, whose lists are cut where the fault stays.

@@ -6,9 +6,10 @@ ghost use Rattle.explanation_text.specs.Places.{IsPlaceOf, value_on};
 ghost use Rattle.script_faults.specs.declared.record.document.Part.TheVariants.{Key};
 
 use crate::record::paths::put_path;
-use explanation_text::{Items, Mark, Span, Step, key_span_of, show, span_of, value_at};
+use explanation_text::{Items, Mark, Span, Step, Words, key_span_of, show, span_of, value_at};
 use serde_json::Value;
 use std::alloc::{AllocError, Global};
+use std::slice::from_ref;
 
 /// What of a place is marked: where something is missing its first byte alone.
 fn pointed(span: Span, part: Part) -> Span {
@@ -22,16 +23,17 @@ fn pointed(span: Span, part: Part) -> Span {
 }
 
 /// Says what is wrong at a path that isn't found in the text.
-fn say_unplaced(items: &mut Items, depth: usize, said: &str, note: &str) -> Result<(), AllocError> {
-    let text = format!(in items.alloc(); "{said}: {note}")?;
-    items.say(depth, "", text)
+fn say_unplaced(items: &mut Items, depth: usize, said: &str, note: &str) {
+    let mut words = Words::of(items.alloc(), said);
+    words.put(": ").put(note);
+    items.say(depth, "", words)
 }
 
 /// `: calls[4].constraints`.
-fn path_words(alloc: Global, path: &[Step<'_>]) -> Result<String, AllocError> {
-    let mut words = String::from_str(alloc, ": ")?;
-    put_path(&mut words, path)?;
-    Ok(words)
+fn path_words(alloc: Global, path: &[Step<'_>]) -> Words {
+    let mut words = Words::of(alloc, ": ");
+    put_path(&mut words, path);
+    words
 }
 
 /// A script's text.
@@ -95,13 +97,14 @@ impl<'a> Document<'a> {
         part: Part,
         note: &str,
         helps: &[String],
-    ) -> Result<(), AllocError> {
+    ) {
         let alloc = items.alloc();
-        let span = self.span(alloc, path, part)?;
-        let said = path_words(alloc, path)?;
-        match span {
-            Some(span) => self.show(items, depth, pointed(span, part), &said, note, helps),
-            None => say_unplaced(items, depth, &said, note),
+        match (self.span(alloc, path, part), path_words(alloc, path).done()) {
+            (Ok(Some(span)), Ok(said)) => {
+                self.show(items, depth, pointed(span, part), &said, note, helps)
+            }
+            (Ok(None), Ok(said)) => say_unplaced(items, depth, &said, note),
+            _ => items.refuse(),
         }
     }
 
@@ -113,25 +116,28 @@ impl<'a> Document<'a> {
         path: &[Step<'_>],
         part: Part,
         note: &str,
-        help: String,
-    ) -> Result<(), AllocError> {
-        let helps = vec![in items.alloc(); help]?;
-        self.point(items, depth, path, part, note, &helps)
+        help: Words,
+    ) {
+        match help.done() {
+            Ok(help) => self.point(items, depth, path, part, note, from_ref(&help)),
+            Err(AllocError) => items.refuse(),
+        }
     }
 
-    /// The same, if there was memory for the note and for what helps.
+    /// The same with a note that is put together.
     pub fn tell(
         &self,
         items: &mut Items,
         depth: usize,
         path: &[Step<'_>],
         part: Part,
-        note: Result<String, AllocError>,
-        help: Result<String, AllocError>,
-    ) -> Result<(), AllocError> {
-        let help = help?;
-        let note = note?;
-        self.advise(items, depth, path, part, &note, help)
+        note: Words,
+        help: Words,
+    ) {
+        match note.done() {
+            Ok(note) => self.advise(items, depth, path, part, &note, help),
+            Err(AllocError) => items.refuse(),
+        }
     }
 
     /// The same of a part that is known, with what stands after its line and column.
@@ -143,7 +149,7 @@ impl<'a> Document<'a> {
         said: &str,
         note: &str,
         helps: &[String],
-    ) -> Result<(), AllocError> {
+    ) {
         show(
             items,
             depth,

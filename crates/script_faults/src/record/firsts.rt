@@ -1,30 +1,29 @@
 //! Where what a list has twice stands first.
 
 use crate::record::paths::put_longer;
-use explanation_text::{Step, value_at};
+use explanation_text::{Step, Words, value_at};
 use serde_json::Value;
-use std::alloc::AllocError;
 use sysmem_sanitise::Code;
 
 /// Puts where the value at a path, which its list has twice, stands first after a text, if it is
 /// found.
 pub(crate) fn put_first_like(
-    text: &mut String,
+    text: &mut Words,
     script: &Value,
     path: &[Step<'_>],
     code: Code,
-) -> Result<bool, AllocError> {
+) -> bool {
     if code == Code::RepeatedPair {
         return put_first_pair(text, script, path);
     }
     let Some((Step::Item(index), list)) = path.split_last() else {
-        return Ok(false);
+        return false;
     };
     let Some(first) = first_item(script, path, list, *index) else {
-        return Ok(false);
+        return false;
     };
-    put_longer(text, list, &[Step::Item(first)])?;
-    Ok(true)
+    put_longer(text, list, &[Step::Item(first)]);
+    true
 }
 
 /// The index of the first item of a list, before an index, that is the same as the value at a path.
@@ -82,31 +81,27 @@ enum Place {
 }
 
 /// Puts where the pair at a path stands first among the pairs of a record's entries.
-fn put_first_pair(
-    text: &mut String,
-    script: &Value,
-    path: &[Step<'_>],
-) -> Result<bool, AllocError> {
+fn put_first_pair(text: &mut Words, script: &Value, path: &[Step<'_>]) -> bool {
     let Some(end) = path.iter().position(|step| matches!(
         *step,
         Step::Key("image_format_constraints")
     ))
     else {
-        return Ok(false);
+        return false;
     };
     let base = path.get(..end.saturating_add(1)).unwrap_or(path);
     let Some((index, place)) = first_pair(script, path, base) else {
-        return Ok(false);
+        return false;
     };
     let entry = Step::Item(index);
     match place {
-        Place::Own => put_longer(text, base, &[entry, Step::Key("pixel_format")])?,
+        Place::Own => put_longer(text, base, &[entry, Step::Key("pixel_format")]),
         Place::Further(index) => {
             let pairs = Step::Key("pixel_format_and_modifiers");
-            put_longer(text, base, &[entry, pairs, Step::Item(index)])?;
+            put_longer(text, base, &[entry, pairs, Step::Item(index)])
         }
     }
-    Ok(true)
+    true
 }
 
 /// The first entry of the list at a path that has the pair at another path, by its index, and where

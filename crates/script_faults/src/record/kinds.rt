@@ -1,8 +1,9 @@
 //! What is wrong with a value, in words.
 
 use crate::record::keys::{Due, due_at, range_of};
+use explanation_text::Words;
 use serde_json::{Number, Value};
-use std::alloc::{AllocError, Global};
+use std::alloc::Global;
 
 /// What a value is, in words.
 fn kind_of(value: &Value) -> &'static str {
@@ -24,7 +25,7 @@ pub(crate) fn wrong_value(
     value: &Value,
     written: &[u8],
     is_item: bool,
-) -> Result<String, AllocError> {
+) -> Words {
     match due_at(field) {
         Due::Flag => wrong_kind(alloc, value, "true or false is"),
         Due::Size => wrong_kind(alloc, value, "an object is"),
@@ -48,24 +49,25 @@ fn item_of(field: &str) -> &'static str {
 }
 
 /// `a string, where a list is due`.
-pub fn wrong_kind(alloc: Global, value: &Value, due: &str) -> Result<String, AllocError> {
-    let kind = kind_of(value);
-    format!(in alloc; "{kind}, where {due} due")
+pub fn wrong_kind(alloc: Global, value: &Value, due: &str) -> Words {
+    let mut words = Words::of(alloc, kind_of(value));
+    words.put(", where ").put(due).put(" due");
+    words
 }
 
 /// What is wrong with a heap's type, or with what stands for a name.
-fn wrong_name(alloc: Global, value: &Value) -> Result<String, AllocError> {
+fn wrong_name(alloc: Global, value: &Value) -> Words {
     let Some(text) = value.as_str() else {
         return wrong_kind(alloc, value, "a name is");
     };
-    let words = if text.is_empty() {
+    let what = if text.is_empty() {
         "empty"
     } else if text.len() > 128 {
         "longer than 128"
     } else {
         "a wrong character"
     };
-    String::from_str(alloc, words)
+    Words::of(alloc, what)
 }
 
 /// What is wrong with what stands for a number.
@@ -75,19 +77,21 @@ pub(crate) fn wrong_number(
     written: &[u8],
     least: u64,
     most: u64,
-) -> Result<String, AllocError> {
+) -> Words {
     let Value::Number(number) = value else {
         return wrong_kind(alloc, value, "a number is");
     };
     if number.is_f64() {
-        return String::from_str(alloc, wrong_float(written));
+        return Words::of(alloc, wrong_float(written));
     }
     match number.as_u64() {
-        None => String::from_str(alloc, "below 0"),
+        None => Words::of(alloc, "below 0"),
         Some(n) => if n < least {
-            String::from_str(alloc, "too small")
+            Words::of(alloc, "too small")
         } else {
-            format!(in alloc; "above {most}")
+            let mut words = Words::of(alloc, "above ");
+            words.put_number(most);
+            words
         },
     }
 }

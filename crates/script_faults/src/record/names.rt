@@ -1,8 +1,8 @@
 //! The names of the profile, and other people's names for what it has.
 
 use crate::record::keys::{Table, found, is_one_of};
-use explanation_text::nearest;
 use explanation_text::wording::put_joined;
+use explanation_text::{Words, nearest};
 use std::alloc::{AllocError, Global};
 
 pub(crate) const USAGES: &[&str] = &["none", "cpu", "vulkan", "display", "video"];
@@ -170,53 +170,56 @@ const LEFT_OUT: &[&str] = &[
 ];
 
 /// What an unknown name at a field may mean, in words; or else the names that the field takes.
-pub(crate) fn hint_of_name(
-    alloc: Global,
-    field: &str,
-    name: &str,
-    is_platform: bool,
-) -> Result<String, AllocError> {
+pub(crate) fn hint_of_name(alloc: Global, field: &str, name: &str, is_platform: bool) -> Words {
     let known = names_for(field, is_platform);
     if field == "pixel_format" {
         return hint_of_format(alloc, name, known);
     }
     match found(others_for(field), name) {
-        Some(meant) => format!(in alloc; "it is {meant} here"),
+        Some(meant) => {
+            let mut words = Words::of(alloc, "it is ");
+            words.put(meant).put(" here");
+            words
+        }
         None => hint_of_known(alloc, name, known),
     }
 }
 
 /// The same of a format.
-fn hint_of_format(alloc: Global, name: &str, known: &[&str]) -> Result<String, AllocError> {
+fn hint_of_format(alloc: Global, name: &str, known: &[&str]) -> Words {
     let drm = name.strip_prefix("DRM_FORMAT_").unwrap_or(name);
     if let Some(format) = found(FORMATS_OF_DRM, drm) {
-        return format!(in alloc; "DRM's {drm} is {format} here");
+        let mut words = Words::of(alloc, "DRM's ");
+        words.put(drm).put(" is ").put(format).put(" here");
+        return words;
     }
     if is_one_of(drm, FORMATS) {
-        return format!(in alloc; "it is written {drm}");
+        let mut words = Words::of(alloc, "it is written ");
+        words.put(drm);
+        return words;
     }
     hint_of_known(alloc, name, known)
 }
 
 /// The same of a name that nobody else is known to have.
-fn hint_of_known(alloc: Global, name: &str, known: &[&str]) -> Result<String, AllocError> {
+fn hint_of_known(alloc: Global, name: &str, known: &[&str]) -> Words {
     if is_one_of(name, LEFT_OUT) {
-        return String::from_str(alloc, "Fuchsia has it, this profile doesn't");
+        return Words::of(alloc, "Fuchsia has it, this profile doesn't");
     }
-    match nearest(alloc, name, known)? {
-        Some(near) => format!(in alloc; "did you mean {near}?"),
-        None => listed(alloc, "allowed: ", known, "or"),
+    let mut words = Words::new(alloc);
+    match nearest(alloc, name, known) {
+        Ok(Some(near)) => {
+            words.put("did you mean ").put(near).put("?");
+        }
+        Ok(None) => return listed(alloc, "allowed: ", known, "or"),
+        Err(AllocError) => words.refuse(),
     }
+    words
 }
 
 /// Names after a text, the last with a word before it.
-pub(crate) fn listed(
-    alloc: Global,
-    text: &str,
-    names: &[&str],
-    word: &str,
-) -> Result<String, AllocError> {
-    let mut words = String::from_str(alloc, text)?;
-    put_joined(&mut words, names, word)?;
-    Ok(words)
+pub(crate) fn listed(alloc: Global, text: &str, names: &[&str], word: &str) -> Words {
+    let mut words = Words::of(alloc, text);
+    put_joined(&mut words, names, word);
+    words
 }

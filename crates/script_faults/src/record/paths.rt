@@ -1,7 +1,7 @@
 //! Paths to values in a script.
 
-use explanation_text::Step;
 use explanation_text::wording::put_visible;
+use explanation_text::{Step, Words};
 use std::alloc::{AllocError, Global};
 
 /// How many characters of a key are shown.
@@ -41,38 +41,35 @@ pub(crate) fn extended<'a>(
 }
 
 /// Puts a path after a text: `calls[4].constraints.usage[0]`, or `the script`.
-pub(crate) fn put_path(text: &mut String, path: &[Step<'_>]) -> Result<(), AllocError> {
+pub(crate) fn put_path(text: &mut Words, path: &[Step<'_>]) {
     if path.is_empty() {
-        return text.push_str("the script");
+        text.put("the script");
     }
     for (k, step) in path.iter().enumerate() {
         match *step {
-            Step::Key(key) => {
-                put_key(text, if 0 < k { "." } else { "" }, key)?;
+            Step::Key(key) => put_key(text, if 0 < k { "." } else { "" }, key),
+            Step::Item(index) => {
+                text.put("[").put_number(index).put("]");
             }
-            Step::Item(index) => write!(text, "[{index}]")?,
         }
     }
-    Ok(())
 }
 
 /// Puts a path with further steps after a text.
-pub(crate) fn put_longer<'a>(
-    text: &mut String,
-    path: &[Step<'a>],
-    steps: &[Step<'a>],
-) -> Result<(), AllocError> {
-    let longer = joined(*text.allocator(), path, steps)?;
-    put_path(text, &longer)
+pub(crate) fn put_longer<'a>(text: &mut Words, path: &[Step<'a>], steps: &[Step<'a>]) {
+    match joined(text.alloc(), path, steps) {
+        Ok(longer) => put_path(text, &longer),
+        Err(AllocError) => text.refuse(),
+    }
 }
 
 /// Puts a key after a text and a mark, the front of it where it is long.
-fn put_key(text: &mut String, mark: &str, key: &str) -> Result<(), AllocError> {
+fn put_key(text: &mut Words, mark: &str, key: &str) {
     let front = match key.char_indices().nth(MOST) {
         Some((end, _)) => key.get(..end).unwrap_or(key),
         None => key,
     };
-    text.push_str(mark)?;
-    put_visible(text, front)?;
-    text.push_str(if front.len() < key.len() { "..." } else { "" })
+    text.put(mark);
+    put_visible(text, front);
+    text.put(if front.len() < key.len() { "..." } else { "" });
 }

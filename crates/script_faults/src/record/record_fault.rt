@@ -12,7 +12,7 @@ use crate::record::names::{hint_of_name, listed};
 use crate::record::paths::{Path, joined, with};
 use crate::record::record_place::place_of;
 use crate::record::unknown::{first_unknown, key_of};
-use explanation_text::{Items, Step, nearest};
+use explanation_text::{Gathered, Items, Step, Words, nearest};
 use serde_json::Value;
 use std::alloc::{AllocError, Global};
 use sysmem_sanitise::{Code, Fault};
@@ -50,9 +50,10 @@ pub fn tell_record_fault<'a>(
         is_platform,
     };
     match document.at(&path) {
-        Some(value) => tell_value(items, faulty, value),
+        Some(value) => tell_value(items, faulty, value)?,
         None => tell_missing(items, faulty),
     }
+    Ok(())
 }
 
 /// The path from the script to the value that the first fault of the record at a path is about.
@@ -75,32 +76,31 @@ fn tell_value<'a>(
 ) -> Result<(), AllocError> {
     let is_size = due_at(faulty.fault.at.name()) == Due::Size;
     match faulty.fault.code {
-        Code::UnknownField => tell_object(items, faulty, value),
-        Code::WrongKind if is_size && value.is_object() => tell_object(items, faulty, value),
+        Code::UnknownField => tell_object(items, faulty, value)?,
+        Code::WrongKind if is_size && value.is_object() => tell_object(items, faulty, value)?,
         Code::UnknownName => tell_name(items, faulty, value),
-        Code::WrongKind => tell_kind(items, faulty, value),
-        Code::BadMultiple => tell_multiple(items, faulty, value),
-        _ => tell_list(items, faulty, value),
+        Code::WrongKind => tell_kind(items, faulty, value)?,
+        Code::BadMultiple => tell_multiple(items, faulty, value)?,
+        _ => tell_list(items, faulty, value)?,
     }
+    Ok(())
 }
 
 /// What is allowed at a field, after a word.
-fn help_allowed(
-    alloc: Global,
-    word: &str,
-    at: &str,
-    is_platform: bool,
-) -> Result<String, AllocError> {
-    let what = allowed(at, is_platform);
-    format!(in alloc; "{word}: {what}")
+fn help_allowed(alloc: Global, word: &str, at: &str, is_platform: bool) -> Words {
+    let mut words = Words::of(alloc, word);
+    words.put(": ").put(allowed(at, is_platform));
+    words
 }
 
-fn missing_note(alloc: Global, name: &str) -> Result<String, AllocError> {
-    format!(in alloc; "{name} is missing")
+fn missing_note(alloc: Global, name: &str) -> Words {
+    let mut words = Words::of(alloc, name);
+    words.put(" is missing");
+    words
 }
 
 /// A field that isn't there: the object that lacks it is pointed at.
-fn tell_missing(items: &mut Items, faulty: Faulty<'_, '_>) -> Result<(), AllocError> {
+fn tell_missing(items: &mut Items, faulty: Faulty<'_, '_>) {
     let at = faulty.fault.at.name();
     let last = faulty.path.len().saturating_sub(1);
     let object = faulty.path.get(..last).unwrap_or(&[]);
@@ -161,6 +161,7 @@ fn tell_key(
         Some(help) => document.advise(items, faulty.depth, path, Part::Key, note, help),
         None => document.point(items, faulty.depth, path, Part::Key, note, &[]),
     }
+    Ok(())
 }
 
 /// The side of a size that isn't within bounds: the height where the width is.
@@ -179,7 +180,7 @@ fn tell_side(items: &mut Items, faulty: Faulty<'_, '_>, value: &Value) -> Result
         Some(number) => {
             let path = with(items.alloc(), faulty.path, Step::Key(side))?;
             let help = help_allowed(items.alloc(), "allowed", at, faulty.is_platform);
-            tell_number(items, faulty, &path, number, (0, 4294967295), help)
+            tell_number(items, faulty, &path, number, (0, 4294967295), help)?;
         }
         None => {
             let note = missing_note(items.alloc(), side);
@@ -189,6 +190,7 @@ fn tell_side(items: &mut Items, faulty: Faulty<'_, '_>, value: &Value) -> Result
                 .tell(items, faulty.depth, faulty.path, Part::Begin, note, help)
         }
     }
+    Ok(())
 }
 
 /// A number at a path that isn't within its least and greatest value.
@@ -198,19 +200,20 @@ fn tell_number(
     path: &[Step<'_>],
     number: &Value,
     bounds: (u64, u64),
-    help: Result<String, AllocError>,
+    help: Words,
 ) -> Result<(), AllocError> {
     let written = faulty.document.written(items.alloc(), path)?;
     let note = wrong_number(items.alloc(), number, written, bounds.0, bounds.1);
     faulty
         .document
-        .tell(items, faulty.depth, path, Part::Value, note, help)
+        .tell(items, faulty.depth, path, Part::Value, note, help);
+    Ok(())
 }
 
-fn tell_name(items: &mut Items, faulty: Faulty<'_, '_>, value: &Value) -> Result<(), AllocError> {
+fn tell_name(items: &mut Items, faulty: Faulty<'_, '_>, value: &Value) {
     let name = value.as_str().unwrap_or("");
     let at = faulty.fault.at.name();
-    let hint = hint_of_name(items.alloc(), at, name, faulty.is_platform)?;
+    let hint = hint_of_name(items.alloc(), at, name, faulty.is_platform);
     faulty.document.advise(
         items,
         faulty.depth,
@@ -229,7 +232,8 @@ fn tell_kind(items: &mut Items, faulty: Faulty<'_, '_>, value: &Value) -> Result
     let help = help_allowed(items.alloc(), "allowed", at, faulty.is_platform);
     faulty
         .document
-        .tell(items, faulty.depth, faulty.path, Part::Value, note, help)
+        .tell(items, faulty.depth, faulty.path, Part::Value, note, help);
+    Ok(())
 }
 
 /// An alignment or a divisor out of its range.
@@ -238,7 +242,7 @@ fn tell_multiple(
     faulty: Faulty<'_, '_>,
     value: &Value,
 ) -> Result<(), AllocError> {
-    let help = String::from_str(
+    let help = Words::of(
         items.alloc(),
         "an alignment or divisor is from 1 to 65536; 1 asks for nothing",
     );
@@ -255,18 +259,14 @@ fn tell_multiple(
 /// modifier that doesn't go with its format.
 fn tell_list(items: &mut Items, faulty: Faulty<'_, '_>, value: &Value) -> Result<(), AllocError> {
     let is_empty = matches!(value.as_array(), Some(list) if list.is_empty());
-    let note = note_of_list(items.alloc(), faulty.fault.code, value, is_empty)?;
     let helps = helps_of_list(items.alloc(), faulty, is_empty)?;
-    faulty.document.point(items, faulty.depth, faulty.path, Part::Value, &note, &helps)
+    let note = note_of_list(items.alloc(), faulty.fault.code, value, is_empty).done()?;
+    faulty.document.point(items, faulty.depth, faulty.path, Part::Value, &note, &helps);
+    Ok(())
 }
 
 /// What is wrong with a list, with one of its items, or with what stands for an object.
-fn note_of_list(
-    alloc: Global,
-    code: Code,
-    value: &Value,
-    is_empty: bool,
-) -> Result<String, AllocError> {
+fn note_of_list(alloc: Global, code: Code, value: &Value, is_empty: bool) -> Words {
     let note = match code {
         Code::NotAnObject => return wrong_kind(alloc, value, "an object is"),
         Code::TooMany => "the 65th",
@@ -275,7 +275,7 @@ fn note_of_list(
         Code::BadUsage => "no other usage may stand beside \"none\"",
         _ => "given before",
     };
-    String::from_str(alloc, note)
+    Words::of(alloc, note)
 }
 
 /// What helps there.
@@ -287,8 +287,8 @@ fn helps_of_list(
     let at = faulty.fault.at.name();
     let help = match faulty.fault.code {
         Code::NotAnObject => return Ok(Vec::new(alloc)),
-        Code::TooMany => String::from_str(alloc, "allowed: at most 64"),
-        Code::TiledMisfit => String::from_str(
+        Code::TooMany => Words::of(alloc, "allowed: at most 64"),
+        Code::TiledMisfit => Words::of(
             alloc,
             "tiles go with formats of 4 bytes: R8G8B8A8, B8G8R8A8, R8G8B8X8 and B8G8R8X8",
         ),
@@ -296,7 +296,8 @@ fn helps_of_list(
         _ if is_empty => help_allowed(alloc, "needed", at, faulty.is_platform),
         code => return first_like(alloc, faulty, code),
     };
-    Ok(vec![in alloc; help?]?)
+    let help = help.done()?;
+    Ok(vec![in alloc; help]?)
 }
 
 /// Where what is given twice stands first, and which names count as equal.
@@ -305,14 +306,14 @@ fn first_like(
     faulty: Faulty<'_, '_>,
     code: Code,
 ) -> Result<Vec<String>, AllocError> {
-    let mut helps = Vec::new(alloc);
+    let mut helps = Gathered::new(alloc);
     if let Some(first) = first_words(alloc, faulty, code)? {
-        helps.push(first)?;
+        helps.add(first);
     }
     if code == Code::RepeatedPair {
-        helps.push(String::from_str(alloc, "an absent modifier is LINEAR")?)?;
+        helps.add_words(Words::of(alloc, "an absent modifier is LINEAR"));
     }
-    Ok(helps)
+    helps.done()
 }
 
 /// `first at calls[4].constraints.usage[0]`.
@@ -321,11 +322,10 @@ fn first_words(
     faulty: Faulty<'_, '_>,
     code: Code,
 ) -> Result<Option<String>, AllocError> {
-    let mut first = String::from_str(alloc, "first at ")?;
-    if put_first_like(&mut first, faulty.document.value, faulty.path, code)? {
-        return Ok(Some(first));
-    }
-    Ok(None)
+    let mut words = Words::of(alloc, "first at ");
+    let is_found = put_first_like(&mut words, faulty.document.value, faulty.path, code);
+    let first = words.done()?;
+    Ok(if is_found { Some(first) } else { None })
 }
 
 /// What an unknown key may be: one of another object, or a known one that is misspelt.
@@ -334,27 +334,33 @@ fn help_of_key(
     key: &str,
     keys: &'static [&'static str],
     is_platform: bool,
-) -> Result<Option<String>, AllocError> {
+) -> Result<Option<Words>, AllocError> {
     match owner_of(key, keys) {
-        Some(owner) if !is_platform => Ok(Some(format!(in alloc; "{key} belongs in {owner}")?)),
+        Some(owner) if !is_platform => {
+            let mut words = Words::of(alloc, key);
+            words.put(" belongs in ").put(owner);
+            Ok(Some(words))
+        }
         _ => match nearest(alloc, key, keys)? {
-            Some(near) => did_you_mean(alloc, near),
-            None if is_platform => keys_here(alloc, keys),
+            Some(near) => Ok(Some(did_you_mean(alloc, near))),
+            None if is_platform => Ok(keys_here(alloc, keys)),
             None => help_elsewhere(alloc, key, keys),
         },
     }
 }
 
-fn did_you_mean(alloc: Global, near: &str) -> Result<Option<String>, AllocError> {
-    Ok(Some(format!(in alloc; "did you mean {near}?")?))
+fn did_you_mean(alloc: Global, near: &str) -> Words {
+    let mut words = Words::of(alloc, "did you mean ");
+    words.put(near).put("?");
+    words
 }
 
 /// The keys that an object can have, where they are few.
-fn keys_here(alloc: Global, keys: &[&str]) -> Result<Option<String>, AllocError> {
+fn keys_here(alloc: Global, keys: &[&str]) -> Option<Words> {
     if keys.len() > 5 {
-        return Ok(None);
+        return None;
     }
-    Ok(Some(listed(alloc, "keys here: ", keys, "and")?))
+    Some(listed(alloc, "keys here: ", keys, "and"))
 }
 
 /// The objects of constraints, with their keys.
@@ -382,15 +388,16 @@ fn help_elsewhere(
     alloc: Global,
     key: &str,
     keys: &'static [&'static str],
-) -> Result<Option<String>, AllocError> {
+) -> Result<Option<Words>, AllocError> {
     if let Some((near, name)) = near_elsewhere(alloc, key, keys)? {
-        let help = format!(in alloc; "did you mean {near}? It belongs in {name}")?;
-        return Ok(Some(help));
+        let mut words = did_you_mean(alloc, near);
+        words.put(" It belongs in ").put(name);
+        return Ok(Some(words));
     }
-    match begins_alike(key, keys) {
-        Some(near) => did_you_mean(alloc, near),
+    Ok(match begins_alike(key, keys) {
+        Some(near) => Some(did_you_mean(alloc, near)),
         None => keys_here(alloc, keys),
-    }
+    })
 }
 
 /// A key of another object that is near, with that object.
