@@ -1,6 +1,6 @@
 //! Numbers and sizes that records state.
 
-use std::fmt;
+use explanation_text::Words;
 use sysmem_counts::Field;
 use sysmem_image::{ImageBounds, Size};
 
@@ -24,11 +24,14 @@ impl Amount {
     }
 }
 
-impl fmt::Display for Amount {
-    fn fmt<W: fmt::Write>(&self, f: &mut fmt::Formatter<W>) -> fmt::Result {
-        match self {
-            Amount::Number(number) => write!(f, "{number}"),
-            Amount::Sides(size) => write!(f, "{}x{}", size.width, size.height),
+/// Puts what a field states after the text.
+pub(crate) fn put_amount(text: &mut Words, amount: Amount) {
+    match amount {
+        Amount::Number(number) => {
+            text.put_number(number);
+        }
+        Amount::Sides(size) => {
+            text.put_number(size.width).put("x").put_number(size.height);
         }
     }
 }

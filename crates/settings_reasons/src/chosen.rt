@@ -5,8 +5,8 @@ use crate::offer_words::{least_side, offer_name};
 use crate::offering::{are_refused, offers_of};
 use crate::placing::{place_name, places_of};
 use crate::refusing::{place_rows, tell_offers};
-use crate::rows::{tell, tell_rows};
-use explanation_text::Items;
+use crate::rows::tell_rows;
+use explanation_text::{Items, Words};
 use std::alloc::{AllocError, Global};
 use sysmem_formats::{Offer, Pair, bytes_per_pixel};
 use sysmem_merge::Settings;
@@ -20,7 +20,7 @@ pub fn tell_settings(
     people: &[Asked<'_>],
     settings: &Settings,
 ) -> Result<(), AllocError> {
-    tell_count(items, people, settings)?;
+    tell_count(items, people, settings);
     tell_place(items, platform, people, settings)?;
     tell_offer(items, platform, people, settings)?;
     let wishes = Wishes {
@@ -29,38 +29,35 @@ pub fn tell_settings(
     };
     tell_sides(items, wishes)?;
     let size = wishes.size(items.alloc(), false);
-    tell_derived(items, "size", size)?;
+    tell_derived(items, "size", size);
     note_size(items, wishes)
 }
 
-fn tell_count(
-    items: &mut Items,
-    people: &[Asked<'_>],
-    settings: &Settings,
-) -> Result<(), AllocError> {
-    let why = why_needed(items.alloc(), people)?;
-    let mark = if why.contains('(') { " =" } else { ":" };
-    let words = format!(in items.alloc(); "{}{mark} {why}", settings.count);
-    tell(items, 1, "count", words)
+fn tell_count(items: &mut Items, people: &[Asked<'_>], settings: &Settings) {
+    let why = why_needed(items.alloc(), people);
+    let mark = if why.as_str().contains('(') {
+        " = "
+    } else {
+        ": "
+    };
+    let mut words = Words::new(items.alloc());
+    words.put_number(settings.count).put(mark).put_words(&why);
+    items.say(1, "count", words)
 }
 
-/// Tells a number, and where it comes from, if there was memory for that.
-fn tell_derived(
-    items: &mut Items,
-    label: &'static str,
-    derived: Result<Derived, AllocError>,
-) -> Result<(), AllocError> {
-    tell_number(items, label, &derived?)
+/// Tells a number, and where it comes from; refuses the items where memory was refused to that.
+fn tell_derived(items: &mut Items, label: &'static str, derived: Result<Derived, AllocError>) {
+    match derived {
+        Ok(derived) => tell_number(items, label, &derived),
+        Err(AllocError) => items.refuse(),
+    }
 }
 
 /// Tells a number, and where it comes from.
-fn tell_number(
-    items: &mut Items,
-    label: &'static str,
-    derived: &Derived,
-) -> Result<(), AllocError> {
-    let words = format!(in items.alloc(); "{}: {}", derived.value, derived.why);
-    tell(items, 1, label, words)
+fn tell_number(items: &mut Items, label: &'static str, derived: &Derived) {
+    let mut words = Words::new(items.alloc());
+    words.put_number(derived.value).put(": ").put(&derived.why);
+    items.say(1, label, words)
 }
 
 /// Notes sides and rows that come out more than twice as great as anybody asks: mostly a multiple
@@ -81,11 +78,12 @@ fn note_side(items: &mut Items, wishes: Wishes<'_, '_>, side: Side) -> Result<()
     if value <= asked.saturating_mul(2).max(32) {
         return Ok(());
     }
-    let name = side.name();
-    let words = format!(in items.alloc();
-        "the {name} is {value}, more than twice the {asked} that are asked for: is the size_alignment meant?"
-    );
-    tell(items, 1, "note", words)
+    let mut words = Words::of(items.alloc(), "the ");
+    words.put(side.name()).put(" is ").put_number(value);
+    words.put(", more than twice the ").put_number(asked);
+    words.put(" that are asked for: is the size_alignment meant?");
+    items.say(1, "note", words);
+    Ok(())
 }
 
 /// Notes rows that come out so long.
@@ -97,10 +95,13 @@ fn note_row(items: &mut Items, wishes: Wishes<'_, '_>) -> Result<(), AllocError>
     if row <= packed.saturating_mul(2).max(512) {
         return Ok(());
     }
-    let words = format!(in items.alloc();
-        "a row is {row} bytes, more than twice the {packed} of its pixels: are the row's fields meant?"
-    );
-    tell(items, 1, "note", words)
+    let mut words = Words::of(alloc, "a row is ");
+    words.put_number(row).put(" bytes, more than twice the ");
+    words
+        .put_number(packed)
+        .put(" of its pixels: are the row's fields meant?");
+    items.say(1, "note", words);
+    Ok(())
 }
 
 /// Tells the place, and who refused each of those before it.
@@ -111,12 +112,12 @@ fn tell_place(
     settings: &Settings,
 ) -> Result<(), AllocError> {
     let alloc = items.alloc();
-    let name = place_name(alloc, platform, settings.place);
-    tell(items, 1, "place", name)?;
+    items.say(1, "place", place_name(alloc, platform, settings.place));
     let places = places_of(alloc, platform)?;
     let earlier = before(&places, &settings.place);
     let rows = place_rows(alloc, platform, earlier, people, false)?;
-    tell_rows(items, 2, "not ", &rows, usize::MAX, "places before it")
+    tell_rows(items, 2, "not ", &rows, usize::MAX, "places before it");
+    Ok(())
 }
 
 /// Tells the offer, and who refused each of those before it.
@@ -128,10 +129,10 @@ fn tell_offer(
 ) -> Result<(), AllocError> {
     let alloc = items.alloc();
     let name = match settings.offer {
-        Offer::NoImage => String::from_str(alloc, "none"),
+        Offer::NoImage => Words::of(alloc, "none"),
         offer => offer_name(alloc, &offer),
     };
-    tell(items, 1, "image", name)?;
+    items.say(1, "image", name);
     let offers = offers_of(alloc, platform)?;
     let earlier = before(&offers, &settings.offer);
     tell_offers(items, platform, people, earlier, "not ", "offers before it")?;
@@ -196,16 +197,22 @@ fn tell_sides(items: &mut Items, wishes: Wishes<'_, '_>) -> Result<(), AllocErro
     };
     let alloc = items.alloc();
     let width = wishes.side(alloc, Side::Width)?;
-    tell_width(items, &width, &wishes.side(alloc, Side::Height)?)?;
-    tell_derived(items, "row", wishes.row(alloc, false))
+    tell_width(items, &width, &wishes.side(alloc, Side::Height)?);
+    tell_derived(items, "row", wishes.row(alloc, false));
+    Ok(())
 }
 
 /// Tells where an image's width and height come from: both at once, if from the same.
-fn tell_width(items: &mut Items, width: &Derived, height: &Derived) -> Result<(), AllocError> {
+fn tell_width(items: &mut Items, width: &Derived, height: &Derived) {
     if width.why == height.why {
-        let words = format!(in items.alloc(); "{}x{}: {}", width.value, height.value, width.why);
-        return tell(items, 1, "pixels", words);
+        let mut words = Words::new(items.alloc());
+        words
+            .put_number(width.value)
+            .put("x")
+            .put_number(height.value);
+        words.put(": ").put(&width.why);
+        return items.say(1, "pixels", words);
     }
-    tell_number(items, "width", width)?;
+    tell_number(items, "width", width);
     tell_number(items, "height", height)
 }

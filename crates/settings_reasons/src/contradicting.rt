@@ -1,9 +1,8 @@
 //! Who contradicts itself: a least value in a record above a greatest one in the same.
 
-use crate::amounts::{Amount, amount_at};
+use crate::amounts::{Amount, amount_at, put_amount};
 use crate::offer_words::pair_name;
-use explanation_text::Items;
-use std::alloc::AllocError;
+use explanation_text::{Items, Words};
 use sysmem_counts::Field;
 use sysmem_image::{Entry, ImageBounds};
 use sysmem_sanitise::Constraints;
@@ -31,52 +30,43 @@ struct Clash {
 }
 
 /// Tells who contradicts itself, before all else that is in the way.
-pub(crate) fn tell_contradictions(
-    items: &mut Items,
-    depth: usize,
-    people: &[Asked<'_>],
-) -> Result<(), AllocError> {
+pub(crate) fn tell_contradictions(items: &mut Items, depth: usize, people: &[Asked<'_>]) {
     let most = items.len().saturating_add(MOST);
     for one in people {
         if let Some(clash) = whole_clash(one.asked) {
-            tell_clash(items, depth, one.name, clash, None)?;
+            tell_clash(items, depth, one.name, clash, None);
         }
         for entry in one.asked.entries() {
             if items.len() >= most {
-                return Ok(());
+                return;
             }
             if let Some(clash) = entry_clash(&entry.bounds.asked) {
-                tell_clash(items, depth, one.name, clash, Some(entry))?;
+                tell_clash(items, depth, one.name, clash, Some(entry));
             }
         }
     }
-    Ok(())
 }
 
-fn tell_clash(
-    items: &mut Items,
-    depth: usize,
-    name: &str,
-    clash: Clash,
-    entry: Option<&Entry>,
-) -> Result<(), AllocError> {
-    let mut text = format!(in items.alloc();
-        "{name} contradicts itself: {} {} is above its own {} {}",
-        clash.least.name(),
-        clash.low,
-        clash.most.name(),
-        clash.high
-    )?;
+fn tell_clash(items: &mut Items, depth: usize, name: &str, clash: Clash, entry: Option<&Entry>) {
+    let mut text = Words::of(items.alloc(), name);
+    text.put(" contradicts itself: ")
+        .put(clash.least.name())
+        .put(" ");
+    put_amount(&mut text, clash.low);
+    text.put(" is above its own ")
+        .put(clash.most.name())
+        .put(" ");
+    put_amount(&mut text, clash.high);
     if let Some(entry) = entry {
-        put_entry(&mut text, entry)?;
+        put_entry(&mut text, entry);
     }
     items.say(depth, "", text)
 }
 
 /// Puts in which entry it is after a text.
-fn put_entry(text: &mut String, entry: &Entry) -> Result<(), AllocError> {
-    let pair = pair_name(*text.allocator(), entry.format, entry.modifier)?;
-    write!(text, ", in its entry for {pair}")
+fn put_entry(text: &mut Words, entry: &Entry) {
+    let pair = pair_name(text.alloc(), entry.format, entry.modifier);
+    text.put(", in its entry for ").put_words(&pair);
 }
 
 /// Two fields with their values, where the first is above the second.

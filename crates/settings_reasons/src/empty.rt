@@ -10,9 +10,9 @@ use crate::lacking::{tell_no_heaps, tell_no_images};
 use crate::offering::{are_refused, offers_of};
 use crate::placing::{has_no_place, places_of};
 use crate::refusing::{offer_rows, place_rows};
-use crate::rows::{nearest, tell, tell_rows};
-use explanation_text::Items;
+use crate::rows::{nearest, tell_rows};
 use explanation_text::wording::MOST_NAMES;
+use explanation_text::{Items, Words};
 use std::alloc::{AllocError, Global};
 use sysmem_counts::Field;
 use sysmem_formats::Offer;
@@ -31,22 +31,21 @@ pub fn tell_conflict(
     people: &[Asked<'_>],
     whole: bool,
 ) -> Result<(), AllocError> {
-    tell_contradictions(items, depth, people)?;
+    tell_contradictions(items, depth, people);
     tell_in_the_way(items, depth, platform, people)?;
-    tell_counts(items, depth, people)?;
+    tell_counts(items, depth, people);
     tell_places(items, depth, platform, people)?;
     tell_offers(items, depth, platform, people, whole)
 }
 
 /// Tells why no count suits participants, where none does.
-fn tell_counts(items: &mut Items, depth: usize, people: &[Asked<'_>]) -> Result<(), AllocError> {
+fn tell_counts(items: &mut Items, depth: usize, people: &[Asked<'_>]) {
     for field in COUNTS {
         if is_count_line(field, people) {
             let text = count_text(items.alloc(), field, people);
-            tell(items, depth, "count", text)?;
+            items.say(depth, "count", text);
         }
     }
-    Ok(())
 }
 
 /// Tells who refuses each place, where somebody does.
@@ -72,8 +71,7 @@ fn tell_place_rows(
 ) -> Result<(), AllocError> {
     let alloc = items.alloc();
     let places = places_of(alloc, platform)?;
-    let head = none_of(alloc, "place", places.len());
-    tell(items, depth, "place", head)?;
+    items.say(depth, "place", none_of(alloc, "place", places.len()));
     let rows = place_rows(alloc, platform, &places, people, true)?;
     let below = depth.saturating_add(1);
     tell_rows(
@@ -83,7 +81,8 @@ fn tell_place_rows(
         &rows,
         usize::MAX,
         "places are refused too",
-    )
+    );
+    Ok(())
 }
 
 /// Tells who refuses each offer, where somebody does.
@@ -112,20 +111,28 @@ fn tell_offer_rows(
     whole: bool,
 ) -> Result<(), AllocError> {
     let alloc = items.alloc();
-    let head = none_of(alloc, "offer", offers.len());
-    tell(items, depth, "image", head)?;
+    items.say(depth, "image", none_of(alloc, "offer", offers.len()));
     let colours = platform.colours().len();
     let rows = offer_rows(alloc, offers, people, whole, true, colours)?;
     let far = nearest(&rows).saturating_add(1);
     let below = depth.saturating_add(1);
-    tell_rows(items, below, "", &rows, far, "offers are refused too")
+    tell_rows(items, below, "", &rows, far, "offers are refused too");
+    Ok(())
 }
 
-fn none_of(alloc: Global, what: &str, count: usize) -> Result<String, AllocError> {
+fn none_of(alloc: Global, what: &str, count: usize) -> Words {
+    let mut words = Words::new(alloc);
     if count == 1 {
-        return format!(in alloc; "the only {what} fails:");
+        words.put("the only ").put(what).put(" fails:");
+        return words;
     }
-    format!(in alloc; "each of the {count} {what}s fails; the nearest first:")
+    words
+        .put("each of the ")
+        .put_number(count)
+        .put(" ")
+        .put(what);
+    words.put("s fails; the nearest first:");
+    words
 }
 
 /// How many sets of those who are in the way are told beside the first.
@@ -189,7 +196,7 @@ fn tell_in_the_way(
     };
     let others = people.len().saturating_sub(kept.len());
     let text = unmet_text(alloc, "in the way", platform, &kept, others);
-    tell(items, depth, "", text)?;
+    items.say(depth, "", text);
     tell_others_in_the_way(items, depth, platform, people, &kept)
 }
 
@@ -201,23 +208,32 @@ fn unmet_text(
     platform: &Platform,
     people: &[Asked<'_>],
     others: usize,
-) -> Result<String, AllocError> {
-    let mut text = format!(in alloc; "{start}: ")?;
-    put_unmet(&mut text, people, others)?;
+) -> Words {
+    let mut text = Words::of(alloc, start);
+    text.put(": ");
+    put_unmet(&mut text, people, others);
     if people.len() == 1 && has_no_place(platform, people) {
-        text.push_str(": the platform has no place for it")?;
+        text.put(": the platform has no place for it");
     }
-    Ok(text)
+    text
 }
 
 /// Puts who leave no settings by themselves, whatever so many others ask, after a text.
-fn put_unmet(text: &mut String, people: &[Asked<'_>], others: usize) -> Result<(), AllocError> {
-    put_people(text, people)?;
+fn put_unmet(text: &mut Words, people: &[Asked<'_>], others: usize) {
+    put_people(text, people);
     match (people.len(), others) {
-        (1, _) => text.push_str(" can't be met even by itself"),
-        (0, _) | (_, 0) => Ok(()),
-        (_, 1) => text.push_str(", whatever the other asks"),
-        _ => write!(text, ", whatever the other {others} ask"),
+        (1, _) => {
+            text.put(" can't be met even by itself");
+        }
+        (0, _) | (_, 0) => {}
+        (_, 1) => {
+            text.put(", whatever the other asks");
+        }
+        _ => {
+            text.put(", whatever the other ")
+                .put_number(others)
+                .put(" ask");
+        }
     }
 }
 
@@ -252,7 +268,7 @@ fn tell_next<'a>(
     match without_one(alloc, platform, people, some)? {
         Some(others) if others.kept.len() <= MOST_NAMES => {
             let text = unmet_text(alloc, "also in the way", platform, &others.kept, 0);
-            tell(items, depth, "", text)?;
+            items.say(depth, "", text);
             Ok(Some(others))
         }
         _ => Ok(None),

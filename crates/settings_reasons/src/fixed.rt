@@ -3,13 +3,12 @@
 ghost use Rattle.std.specs.Prelude.{All, IfOk};
 ghost use Rattle.sysmem_merge.specs.Failing.{FailsOn};
 
-use crate::amounts::amount_at;
+use crate::amounts::{amount_at, put_amount};
 use crate::offer_words::{offer_name, put_offer_reason};
 use crate::offering::{are_refused, offers_of};
 use crate::placing::{put_place, put_place_reason};
 use crate::refusing::tell_offers;
-use crate::rows::tell;
-use explanation_text::Items;
+use explanation_text::{Gathered, Items, Words};
 use std::alloc::{AllocError, Global};
 use sysmem_counts::Field;
 use sysmem_formats::Offer;
@@ -58,11 +57,12 @@ pub fn tell_misfits(
         tell_misfit(items, platform, one, before, settings)?;
     }
     if items.len() == start {
-        let words = format!(in items.alloc();
-            "{} buffers were decided: too few for these beside all who came before, or more than one of these takes",
-            settings.count
-        );
-        return tell(items, 1, "count", words);
+        let mut words = Words::new(items.alloc());
+        words
+            .put_number(settings.count)
+            .put(" buffers were decided: too few for these");
+        words.put(" beside all who came before, or more than one of these takes");
+        items.say(1, "count", words);
     }
     Ok(())
 }
@@ -77,7 +77,7 @@ fn tell_misfit(
     let fields = failing(items.alloc(), platform, settings, one.asked)?;
     for field in &fields {
         let text = misfit_text(items.alloc(), platform, settings, one, *field);
-        tell(items, 1, "misfit", text)?;
+        items.say(1, "misfit", text);
         if matches!(field, Field::PixelFormat | Field::ColorSpaces) {
             tell_refused(items, platform, one, before)?;
         }
@@ -92,10 +92,10 @@ fn misfit_text(
     settings: &Settings,
     one: &Asked<'_>,
     field: Field,
-) -> Result<String, AllocError> {
-    let mut text = String::new(alloc);
-    put_misfit(&mut text, platform, settings, one, field)?;
-    Ok(text)
+) -> Words {
+    let mut text = Words::new(alloc);
+    put_misfit(&mut text, platform, settings, one, field);
+    text
 }
 
 /// Tells who of those before refuses the images that a participant takes; or that nobody does, and
@@ -109,7 +109,8 @@ fn tell_refused(
     let offers = taken(items.alloc(), platform, one.asked)?;
     for offer in &offers {
         if !are_refused(&[*offer], before, true) {
-            return tell_unrefused(items, offer);
+            tell_unrefused(items, offer);
+            return Ok(());
         }
     }
     tell_offers(
@@ -123,12 +124,10 @@ fn tell_refused(
 }
 
 /// Tells that nobody refuses an offer.
-fn tell_unrefused(items: &mut Items, offer: &Offer) -> Result<(), AllocError> {
-    let name = offer_name(items.alloc(), offer)?;
-    let words = format!(in items.alloc();
-        "{name} is refused by nobody before: the platform has what was decided before it"
-    );
-    tell(items, 2, "", words)
+fn tell_unrefused(items: &mut Items, offer: &Offer) {
+    let mut words = offer_name(items.alloc(), offer);
+    words.put(" is refused by nobody before: the platform has what was decided before it");
+    items.say(2, "", words)
 }
 
 /// The images of a platform that a participant takes.
@@ -138,14 +137,14 @@ fn taken(
     asked: &Constraints,
 ) -> Result<Vec<Offer>, AllocError> {
     let offers = offers_of(alloc, platform)?;
-    let mut taken = Vec::new(alloc);
+    let mut taken = Gathered::new(alloc);
     for offer in &offers {
         match offer {
-            Offer::Image(_, _) if takes(asked, offer) => taken.push(*offer)?,
+            Offer::Image(_, _) if takes(asked, offer) => taken.add(*offer),
             _ => {}
         }
     }
-    Ok(taken)
+    taken.done()
 }
 
 /// Whether a participant has an entry for an offer, in its colour space.
@@ -177,12 +176,12 @@ pub fn failing(
 
 /// Puts a sentence on a field in which settings fail a participant into an empty text.
 fn put_misfit(
-    text: &mut String,
+    text: &mut Words,
     platform: &Platform,
     settings: &Settings,
     one: &Asked<'_>,
     field: Field,
-) -> Result<(), AllocError> {
+) {
     match field {
         Field::PixelFormat | Field::ColorSpaces => put_offer(text, settings, one, field),
         Field::MinSizeBytes => put_size(text, settings, one, field),
@@ -198,65 +197,48 @@ fn put_misfit(
     }
 }
 
-fn put_offer(
-    text: &mut String,
-    settings: &Settings,
-    one: &Asked<'_>,
-    field: Field,
-) -> Result<(), AllocError> {
-    put_offer_reason(text, &settings.offer, field, &[*one])?;
-    let holds = offer_name(*text.allocator(), &settings.offer)?;
-    write!(text, "; the buffers are {holds}")
+fn put_offer(text: &mut Words, settings: &Settings, one: &Asked<'_>, field: Field) {
+    put_offer_reason(text, &settings.offer, field, &[*one]);
+    let holds = offer_name(text.alloc(), &settings.offer);
+    text.put("; the buffers are ").put_words(&holds);
 }
 
 fn put_heap(
-    text: &mut String,
+    text: &mut Words,
     platform: &Platform,
     settings: &Settings,
     one: &Asked<'_>,
     field: Field,
-) -> Result<(), AllocError> {
-    put_place_reason(text, field, &[*one])?;
-    text.push_str(": the buffers lie in ")?;
+) {
+    put_place_reason(text, field, &[*one]);
+    text.put(": the buffers lie in ");
     put_place(text, platform, settings.place)
 }
 
-fn put_size(
-    text: &mut String,
-    settings: &Settings,
-    one: &Asked<'_>,
-    field: Field,
-) -> Result<(), AllocError> {
+fn put_size(text: &mut Words, settings: &Settings, one: &Asked<'_>, field: Field) {
     let memory = one.asked.memory();
     let mine = match field {
         Field::MinSizeBytes => memory.min_size_bytes,
         _ => memory.max_size_bytes,
     };
-    write!(
-        text,
-        "{} says {} {mine}: the buffers have {} bytes",
-        one.name,
-        field.name(),
-        settings.size_bytes
-    )
+    text.put(one.name)
+        .put(" says ")
+        .put(field.name())
+        .put(" ")
+        .put_number(mine);
+    text.put(": the buffers have ")
+        .put_number(settings.size_bytes)
+        .put(" bytes");
 }
 
-fn put_bound(
-    text: &mut String,
-    settings: &Settings,
-    one: &Asked<'_>,
-    field: Field,
-) -> Result<(), AllocError> {
-    write!(text, "{} says {} ", one.name, field.name())?;
+fn put_bound(text: &mut Words, settings: &Settings, one: &Asked<'_>, field: Field) {
+    text.put(one.name).put(" says ").put(field.name()).put(" ");
     if let Some(entry) = entry_for(one.asked.entries(), &settings.offer) {
-        write!(text, "{}", amount_at(&entry.bounds.asked, field))?;
+        put_amount(text, amount_at(&entry.bounds.asked, field));
     }
-    write!(
-        text,
-        ", but {}{} was decided before",
-        how(field),
-        amount_at(&settings.bounds, field)
-    )
+    text.put(", but ").put(how(field));
+    put_amount(text, amount_at(&settings.bounds, field));
+    text.put(" was decided before");
 }
 
 /// How a field's values are merged.

@@ -2,8 +2,8 @@
 
 use crate::listed::is_taken;
 use crate::offer_words::pair_name;
-use crate::rows::{Row, add, tell, tell_rows};
-use explanation_text::Items;
+use crate::rows::{Row, add, tell_rows};
+use explanation_text::{Items, Words};
 use std::alloc::AllocError;
 use sysmem_image::{ColourSet, Entry};
 use sysmem_memory::Heap;
@@ -45,11 +45,11 @@ fn add_lacked<'a>(
     if has_pair && has_colour(platform, entry.colours) {
         return Ok(());
     }
-    let mut name = pair_name(*lacked.allocator(), entry.format, entry.modifier)?;
+    let mut name = pair_name(*lacked.allocator(), entry.format, entry.modifier);
     if has_pair {
-        name.push_str(" in any of its colour spaces")?;
+        name.put(" in any of its colour spaces");
     }
-    add_named(lacked, name, one)
+    add_named(lacked, name.done()?, one)
 }
 
 /// Tells which heaps participants permit and the platform lacks, those that most permit first.
@@ -64,8 +64,9 @@ pub(crate) fn tell_no_heaps(
     for one in people {
         for heap in &one.asked.memory().permitted_heaps {
             if !has_heap(platform, heap) {
-                let name = format!(in alloc; "{}#{}", heap.heap_type, heap.id)?;
-                add_named(&mut lacked, name, one)?;
+                let mut name = Words::of(alloc, &heap.heap_type);
+                name.put("#").put_number(heap.id);
+                add_named(&mut lacked, name.done()?, one)?;
             }
         }
     }
@@ -141,15 +142,15 @@ fn tell_lacked(
         return Ok(());
     }
     let alloc = items.alloc();
-    let head = String::from_str(alloc, "the platform doesn't have these:");
-    tell(items, depth, "lacks", head)?;
+    items.say_text(depth, "lacks", "the platform doesn't have these:");
     let mut rows: Vec<Row> = Vec::new(alloc);
     for named in lacked {
         let far = people.saturating_sub(named.people.len());
         add_lacked_row(&mut rows, named, far, one, many)?;
     }
     let below = depth.saturating_add(1);
-    tell_rows(items, below, "", &rows, usize::MAX, "aren't there either")
+    tell_rows(items, below, "", &rows, usize::MAX, "aren't there either");
+    Ok(())
 }
 
 /// Adds a name with what those do who name it to the rows.
@@ -161,8 +162,9 @@ fn add_lacked_row(
     many: &str,
 ) -> Result<(), AllocError> {
     let alloc = *rows.allocator();
-    let mut text = String::new(alloc);
-    put_has(&mut text, &named.people, one, many)?;
-    let reasons = vec![in alloc; text]?;
-    add(rows, String::from_str(alloc, &named.name)?, reasons, far, 1)
+    let mut text = Words::new(alloc);
+    put_has(&mut text, &named.people, one, many);
+    let reasons = vec![in alloc; text.done()?]?;
+    let name = Words::of(alloc, &named.name).done()?;
+    add(rows, name, reasons, far, 1)
 }

@@ -1,52 +1,54 @@
 //! What later entries of participants would take, of which an earlier one holds.
 
+use explanation_text::{Gathered, Words};
 use std::alloc::AllocError;
 use sysmem_formats::Offer;
 use sysmem_image::{Entry, entry_for, takes_colour};
 use value_sources::{Asked, Side, Wishes, put_people};
 
 /// Puts whose later entries take an offer after a text, if some do.
-pub(crate) fn put_later(
-    text: &mut String,
-    offer: &Offer,
-    people: &[Asked<'_>],
-) -> Result<(), AllocError> {
-    let mut those = Vec::new(*text.allocator());
+pub(crate) fn put_later(text: &mut Words, offer: &Offer, people: &[Asked<'_>]) {
+    let mut those = Gathered::new(text.alloc());
     for one in people {
         if takes_later(one, offer, None) {
-            those.push(*one)?;
+            those.add(*one);
         }
     }
-    put_would_take(text, &those)
+    match those.done() {
+        Ok(those) => put_would_take(text, &those),
+        Err(AllocError) => text.refuse(),
+    }
 }
 
 /// Puts that later entries of participants would take it after a text, if they are some.
-fn put_would_take(text: &mut String, people: &[Asked<'_>]) -> Result<(), AllocError> {
+fn put_would_take(text: &mut Words, people: &[Asked<'_>]) {
     let entries = match people.len() {
-        0 => return Ok(()),
+        0 => return,
         1 => "a later entry",
         _ => "later entries",
     };
-    write!(text, ", though {entries} of ")?;
-    put_people(text, people)?;
-    text.push_str(" would take it")
+    text.put(", though ").put(entries).put(" of ");
+    put_people(text, people);
+    text.put(" would take it");
 }
 
 /// Puts that a later entry of the participant of a name takes more than the one that holds for an
 /// offer, and at least so much in a side, after a text, if there is one.
 pub(crate) fn put_later_size(
-    text: &mut String,
+    text: &mut Words,
     wishes: Wishes<'_, '_>,
     name: &str,
     side: Side,
     least: u128,
-) -> Result<(), AllocError> {
+) {
     for one in wishes.people {
         if one.name == name && takes_later(one, &wishes.offer, Some((side, least))) {
-            return write!(text, ", though a later entry of {name} takes more");
+            text.put(", though a later entry of ")
+                .put(name)
+                .put(" takes more");
+            return;
         }
     }
-    Ok(())
 }
 
 /// Whether an entry of a participant takes an offer, though others before it take its format and

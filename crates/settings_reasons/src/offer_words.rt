@@ -1,10 +1,11 @@
 //! Why participants refuse an offer, in words.
 
-use crate::amounts::amount_at;
+use crate::amounts::{amount_at, put_amount};
 use crate::later::{put_later, put_later_size};
 use crate::listed::has_format;
 use crate::rows::{mark_after, put_those};
 use explanation_text::wording::{put_few, put_joined};
+use explanation_text::{Gathered, Words};
 use std::alloc::{AllocError, Global};
 use sysmem_counts::Field;
 use sysmem_formats::{ColourSpace, Modifier, Offer, PixelFormat};
@@ -23,14 +24,17 @@ const COLOURS: &[ColourSpace] = &[
 ];
 
 /// The name of an offer: `NV12 LINEAR REC709`, or `without an image`.
-pub(crate) fn offer_name(alloc: Global, offer: &Offer) -> Result<String, AllocError> {
+pub(crate) fn offer_name(alloc: Global, offer: &Offer) -> Words {
     match offer {
-        Offer::NoImage => String::from_str(alloc, "without an image"),
+        Offer::NoImage => Words::of(alloc, "without an image"),
         Offer::Image(pair, colour) => {
-            let format = pair.format.name();
-            let modifier = pair.modifier.name();
-            let colour = colour.name();
-            format!(in alloc; "{format} {modifier} {colour}")
+            let mut words = Words::of(alloc, pair.format.name());
+            words
+                .put(" ")
+                .put(pair.modifier.name())
+                .put(" ")
+                .put(colour.name());
+            words
         }
     }
 }
@@ -40,20 +44,22 @@ pub(crate) fn pair_name(
     alloc: Global,
     format: Option<PixelFormat>,
     modifier: Option<Modifier>,
-) -> Result<String, AllocError> {
-    let format = format.map_or("any format", PixelFormat::name);
-    let modifier = modifier.map_or("DO_NOT_CARE", Modifier::name);
-    format!(in alloc; "{format} {modifier}")
+) -> Words {
+    let mut words = Words::of(alloc, format.map_or("any format", PixelFormat::name));
+    words
+        .put(" ")
+        .put(modifier.map_or("DO_NOT_CARE", Modifier::name));
+    words
 }
 
 /// Puts the sentence of a reason against an offer, with the numbers of all participants, into an
 /// empty text.
 pub(crate) fn put_offer_reason(
-    text: &mut String,
+    text: &mut Words,
     offer: &Offer,
     field: Field,
     people: &[Asked<'_>],
-) -> Result<(), AllocError> {
+) {
     let wishes = Wishes {
         people,
         offer: *offer,
@@ -75,33 +81,33 @@ pub(crate) fn put_offer_reason(
 
 /// Puts who has no entry for an offer after a text, with the modifiers that they take its format
 /// with.
-fn put_no_entry(text: &mut String, offer: &Offer, people: &[Asked<'_>]) -> Result<(), AllocError> {
+fn put_no_entry(text: &mut Words, offer: &Offer, people: &[Asked<'_>]) {
     let Offer::Image(pair, _) = offer else {
         return put_has(text, people, "takes images only", "take images only");
     };
-    let mut none = Vec::new(*text.allocator());
+    let mut none = Gathered::new(text.alloc());
     for one in people {
-        if !put_only_as(text, one, pair.format)? {
-            none.push(*one)?;
+        match modifiers_of(text.alloc(), one, pair.format) {
+            Ok(modifiers) if modifiers.is_empty() => none.add(*one),
+            Ok(modifiers) => put_only_as(text, one, pair.format, &modifiers),
+            Err(AllocError) => text.refuse(),
         }
     }
-    put_those(text, &none, "has no entry for it", "have no entry for it")
+    match none.done() {
+        Ok(none) => put_those(text, &none, "has no entry for it", "have no entry for it"),
+        Err(AllocError) => text.refuse(),
+    }
 }
 
-/// Puts with which modifiers alone a participant takes a format after a text, if it takes it.
-fn put_only_as(
-    text: &mut String,
-    one: &Asked<'_>,
-    format: PixelFormat,
-) -> Result<bool, AllocError> {
-    let modifiers = modifiers_of(*text.allocator(), one, format)?;
-    if modifiers.is_empty() {
-        return Ok(false);
-    }
-    let mark = mark_after(text);
-    write!(text, "{mark}{} takes {} only as ", one.name, format.name())?;
-    put_joined(text, &modifiers, "and")?;
-    Ok(true)
+/// Puts with which modifiers alone a participant takes a format after a text.
+fn put_only_as(text: &mut Words, one: &Asked<'_>, format: PixelFormat, modifiers: &[&str]) {
+    let mark = mark_after(text.as_str());
+    text.put(mark)
+        .put(one.name)
+        .put(" takes ")
+        .put(format.name())
+        .put(" only as ");
+    put_joined(text, modifiers, "and")
 }
 
 /// The modifiers that a participant takes a format with.
@@ -120,30 +126,29 @@ fn modifiers_of(
 }
 
 /// Puts in which colour spaces participants take an offer after a text.
-fn put_colours(text: &mut String, offer: &Offer, people: &[Asked<'_>]) -> Result<(), AllocError> {
-    let mut done: Vec<ColourSet> = Vec::new(*text.allocator());
+fn put_colours(text: &mut Words, offer: &Offer, people: &[Asked<'_>]) {
+    let mut done: Vec<ColourSet> = Vec::new(text.alloc());
     for one in people {
         match entry_for(one.asked.entries(), offer) {
             Some(entry) if !done.contains(&entry.colours) => {
-                put_only_in(text, offer, people, entry.colours)?;
-                done.push(entry.colours)?;
+                put_only_in(text, offer, people, entry.colours);
+                if done.push(entry.colours).is_err() {
+                    return text.refuse();
+                }
             }
             _ => {}
         }
     }
-    Ok(())
 }
 
 /// Puts who takes an offer in these colour spaces only after a text.
-fn put_only_in(
-    text: &mut String,
-    offer: &Offer,
-    people: &[Asked<'_>],
-    colours: ColourSet,
-) -> Result<(), AllocError> {
-    let those = with_colours(*text.allocator(), offer, people, colours)?;
-    put_those(text, &those, "takes it only in ", "take it only in ")?;
-    put_colour_names(text, colours)?;
+fn put_only_in(text: &mut Words, offer: &Offer, people: &[Asked<'_>], colours: ColourSet) {
+    let those = match with_colours(text.alloc(), offer, people, colours) {
+        Ok(those) => those,
+        Err(AllocError) => return text.refuse(),
+    };
+    put_those(text, &those, "takes it only in ", "take it only in ");
+    put_colour_names(text, colours);
     put_later(text, offer, &those)
 }
 
@@ -164,76 +169,84 @@ fn with_colours<'a>(
     Ok(those)
 }
 
-fn put_colour_names(text: &mut String, colours: ColourSet) -> Result<(), AllocError> {
-    let mut names: Vec<&str> = Vec::new(*text.allocator());
+fn put_colour_names(text: &mut Words, colours: ColourSet) {
+    let mut names: Gathered<&str> = Gathered::new(text.alloc());
     for colour in COLOURS {
         if colours.lists(*colour) {
-            names.push(colour.name())?;
+            names.add(colour.name());
         }
     }
-    put_few(text, &names, 4)
+    match names.done() {
+        Ok(names) => put_few(text, &names, 4),
+        Err(AllocError) => text.refuse(),
+    }
 }
 
 /// Puts that nobody names a part of an image's name after a text.
-fn put_unnamed(text: &mut String, people: &[Asked<'_>], what: &str) -> Result<(), AllocError> {
-    put_has(text, people, "takes", "take")?;
-    write!(text, " any {what}, but nobody names the {what}")
+fn put_unnamed(text: &mut Words, people: &[Asked<'_>], what: &str) {
+    put_has(text, people, "takes", "take");
+    text.put(" any ")
+        .put(what)
+        .put(", but nobody names the ")
+        .put(what);
 }
 
 /// Puts that a least size is above what somebody will put after a text.
-fn put_required(text: &mut String, wishes: Wishes<'_, '_>) -> Result<(), AllocError> {
-    put_required_side(text, wishes, Side::Width)?;
+fn put_required(text: &mut Words, wishes: Wishes<'_, '_>) {
+    put_required_side(text, wishes, Side::Width);
     put_required_side(text, wishes, Side::Height)
 }
 
-fn put_required_side(
-    text: &mut String,
-    wishes: Wishes<'_, '_>,
-    side: Side,
-) -> Result<(), AllocError> {
+fn put_required_side(text: &mut Words, wishes: Wishes<'_, '_>, side: Side) {
     let low = wishes.greatest(Wish::Least(side));
     let top = wishes.least(Wish::RequiredLeast(side));
     let (Some((takes, least)), Some((puts, most))) = (low, top) else {
-        return Ok(());
+        return;
     };
     if least <= most {
-        return Ok(());
+        return;
     }
-    let mark = mark_after(text);
-    let name = side.name();
-    write!(
-        text,
-        "{mark}{takes} takes a {name} of {least} or more (min_size), {puts} will put {most} \
-         (required_min_size)"
-    )
+    let mark = mark_after(text.as_str());
+    text.put(mark).put(takes).put(" takes a ").put(side.name());
+    text.put(" of ")
+        .put_number(least)
+        .put(" or more (min_size), ");
+    text.put(puts)
+        .put(" will put ")
+        .put_number(most)
+        .put(" (required_min_size)");
 }
 
 /// Puts that the smallest image is larger than somebody takes after a text.
-fn put_too_large(text: &mut String, wishes: Wishes<'_, '_>) -> Result<(), AllocError> {
-    put_too_large_side(text, wishes, Side::Width)?;
+fn put_too_large(text: &mut Words, wishes: Wishes<'_, '_>) {
+    put_too_large_side(text, wishes, Side::Width);
     put_too_large_side(text, wishes, Side::Height)
 }
 
-fn put_too_large_side(
-    text: &mut String,
-    wishes: Wishes<'_, '_>,
-    side: Side,
-) -> Result<(), AllocError> {
+fn put_too_large_side(text: &mut Words, wishes: Wishes<'_, '_>, side: Side) {
     let Some((who, most)) = wishes.least(Wish::Most(side)) else {
-        return Ok(());
+        return;
     };
-    let least = wishes.side(*text.allocator(), side)?;
+    let least = match wishes.side(text.alloc(), side) {
+        Ok(least) => least,
+        Err(AllocError) => return text.refuse(),
+    };
     if least.value <= u128::from(most) {
-        return Ok(());
+        return;
     }
-    let mark = mark_after(text);
-    write!(
-        text,
-        "{mark}the least {} is {}: {}; {who} takes at most {most} (max_size)",
-        side.name(),
-        least.value,
-        least.why
-    )?;
+    let mark = mark_after(text.as_str());
+    text.put(mark)
+        .put("the least ")
+        .put(side.name())
+        .put(" is ");
+    text.put_number(least.value)
+        .put(": ")
+        .put(&least.why)
+        .put("; ");
+    text.put(who)
+        .put(" takes at most ")
+        .put_number(most)
+        .put(" (max_size)");
     put_later_size(text, wishes, who, side, least.value)
 }
 
@@ -248,19 +261,15 @@ pub(crate) fn least_side(
 
 /// Puts how great the smallest image, row or buffer is, of which a field bounds the greatest, and
 /// who takes less, after a text.
-fn put_too_great(
-    text: &mut String,
-    wishes: Wishes<'_, '_>,
-    field: Field,
-) -> Result<(), AllocError> {
-    let alloc = *text.allocator();
+fn put_too_great(text: &mut Words, wishes: Wishes<'_, '_>, field: Field) {
+    let alloc = text.alloc();
     let most = match field {
         Field::MaxWidthTimesHeight => {
-            put_pixels(text, wishes)?;
+            put_pixels(text, wishes);
             wishes.least(Wish::MostPixels)
         }
         Field::MaxBytesPerRow => {
-            put_derived(text, "the least row is", wishes.row(alloc, true), "bytes")?;
+            put_derived(text, "the least row is", wishes.row(alloc, true), "bytes");
             wishes.least(Wish::MostRow)
         }
         _ => {
@@ -269,50 +278,64 @@ fn put_too_great(
                 "a buffer has",
                 wishes.size(alloc, true),
                 "bytes at least",
-            )?;
+            );
             wishes.greatest_size()
         }
     };
-    match most {
-        Some((who, most)) => write!(text, "; {who} takes at most {most} ({})", field.name()),
-        None => Ok(()),
+    if let Some((who, most)) = most {
+        text.put("; ")
+            .put(who)
+            .put(" takes at most ")
+            .put_number(most);
+        text.put(" (").put(field.name()).put(")");
     }
 }
 
-fn put_pixels(text: &mut String, wishes: Wishes<'_, '_>) -> Result<(), AllocError> {
-    let alloc = *text.allocator();
-    let width = least_side(alloc, wishes, Side::Width)?;
-    let height = least_side(alloc, wishes, Side::Height)?;
-    let pixels = width.saturating_mul(height);
-    let why = wishes.why_size(alloc)?;
-    write!(
-        text,
-        "the smallest image has {width}x{height} = {pixels} pixels: {why}"
-    )
+fn put_pixels(text: &mut Words, wishes: Wishes<'_, '_>) {
+    let alloc = text.alloc();
+    let width = least_side(alloc, wishes, Side::Width);
+    let height = least_side(alloc, wishes, Side::Height);
+    match (width, height, wishes.why_size(alloc)) {
+        (Ok(width), Ok(height), Ok(why)) => {
+            text.put("the smallest image has ")
+                .put_number(width)
+                .put("x")
+                .put_number(height);
+            text.put(" = ").put_number(width.saturating_mul(height));
+            text.put(" pixels: ").put(&why);
+        }
+        _ => text.refuse(),
+    }
 }
 
-/// Puts a number of something, and where it comes from, after a text, if there was memory for that.
-fn put_derived(
-    text: &mut String,
-    start: &str,
-    derived: Result<Derived, AllocError>,
-    unit: &str,
-) -> Result<(), AllocError> {
-    let Derived { value, why } = derived?;
-    write!(text, "{start} {value} {unit}: {why}")
+/// Puts a number of something, and where it comes from, after a text; refuses the text where memory
+/// was refused to that.
+fn put_derived(text: &mut Words, start: &str, derived: Result<Derived, AllocError>, unit: &str) {
+    match derived {
+        Ok(Derived { value, why }) => {
+            text.put(start)
+                .put(" ")
+                .put_number(value)
+                .put(" ")
+                .put(unit)
+                .put(": ")
+                .put(&why);
+        }
+        Err(AllocError) => text.refuse(),
+    }
 }
 
 /// Puts that what participants want multiples of has no common multiple after a text.
-fn put_no_multiple(
-    text: &mut String,
-    wishes: Wishes<'_, '_>,
-    field: Field,
-) -> Result<(), AllocError> {
-    let amounts = amounts_of(*text.allocator(), wishes, field)?;
-    write!(text, "{} of ", field.name())?;
-    put_texts(text, &amounts, 4)?;
+fn put_no_multiple(text: &mut Words, wishes: Wishes<'_, '_>, field: Field) {
+    text.put(field.name()).put(" of ");
+    match amounts_of(text.alloc(), wishes, field) {
+        Ok(amounts) => put_texts(text, &amounts, 4),
+        Err(AllocError) => text.refuse(),
+    }
     let format = format_of(&wishes.offer);
-    write!(text, " have no common multiple up to 4294967295 ({format})")
+    text.put(" have no common multiple up to 4294967295 (")
+        .put(format)
+        .put(")");
 }
 
 /// What each participant who has an entry for an offer states at a field, with its name.
@@ -321,12 +344,14 @@ fn amounts_of(
     wishes: Wishes<'_, '_>,
     field: Field,
 ) -> Result<Vec<String>, AllocError> {
-    let mut amounts = Vec::new(alloc);
+    let mut amounts: Gathered<String> = Gathered::new(alloc);
     for one in wishes.people {
         if let Some(entry) = entry_for(one.asked.entries(), &wishes.offer) {
-            let amount = amount_at(&entry.bounds.asked, field);
-            amounts.push(format!(in alloc; "{} {amount}", one.name)?)?;
+            let mut words = Words::of(alloc, one.name);
+            words.put(" ");
+            put_amount(&mut words, amount_at(&entry.bounds.asked, field));
+            amounts.add_words(words);
         }
     }
-    Ok(amounts)
+    amounts.done()
 }

@@ -8,6 +8,7 @@ ghost use Rattle.value_sources.specs.Sources.{all_asked};
 
 use crate::rows::{Reason, put_those};
 use explanation_text::wording::put_visible;
+use explanation_text::{Gathered, Words};
 use std::alloc::{AllocError, Global};
 use sysmem_counts::Field;
 use sysmem_memory::{CoherencyDomain, Heap, HeapInfo, MemoryBounds, Place, refuses_in};
@@ -33,24 +34,23 @@ const DOMAINS: &[CoherencyDomain] = &[
 
 /// The places of a platform, in its order.
 pub(crate) fn places_of(alloc: Global, platform: &Platform) -> Result<Vec<Place>, AllocError> {
-    let mut places = Vec::new(alloc);
+    let mut places = Gathered::new(alloc);
     for (heap, info) in platform.heaps().iter().enumerate() {
-        add_places(&mut places, heap, info)?;
+        add_places(&mut places, heap, info);
     }
-    Ok(places)
+    places.done()
 }
 
 /// Adds the places of a heap.
-fn add_places(places: &mut Vec<Place>, heap: usize, info: &HeapInfo) -> Result<(), AllocError> {
+fn add_places(places: &mut Gathered<Place>, heap: usize, info: &HeapInfo) {
     for coherency in DOMAINS {
         if info.domains.has(*coherency) {
-            places.push(Place {
+            places.add(Place {
                 heap,
                 coherency: *coherency,
-            })?;
+            });
         }
     }
-    Ok(())
 }
 
 /// Those who refuse a place by a field.
@@ -136,36 +136,28 @@ pub(crate) fn has_no_place(platform: &Platform, people: &[Asked<'_>]) -> bool
 }
 
 /// The name of a place: `cma#0 ram`.
-pub(crate) fn place_name(
-    alloc: Global,
-    platform: &Platform,
-    place: Place,
-) -> Result<String, AllocError> {
-    let mut text = String::new(alloc);
-    put_place(&mut text, platform, place)?;
-    Ok(text)
+pub(crate) fn place_name(alloc: Global, platform: &Platform, place: Place) -> Words {
+    let mut text = Words::new(alloc);
+    put_place(&mut text, platform, place);
+    text
 }
 
 /// Puts the name of a place after a text.
-pub(crate) fn put_place(
-    text: &mut String,
-    platform: &Platform,
-    place: Place,
-) -> Result<(), AllocError> {
+pub(crate) fn put_place(text: &mut Words, platform: &Platform, place: Place) {
     let coherency = place.coherency.name();
     let Some(info) = platform.heaps().get(place.heap) else {
-        return text.push_str(coherency);
+        text.put(coherency);
+        return;
     };
-    put_visible(text, &info.heap.heap_type)?;
-    write!(text, "#{} {coherency}", info.heap.id)
+    put_visible(text, &info.heap.heap_type);
+    text.put("#")
+        .put_number(info.heap.id)
+        .put(" ")
+        .put(coherency);
 }
 
 /// Puts why participants refuse a place by a field into an empty text.
-pub(crate) fn put_place_reason(
-    text: &mut String,
-    field: Field,
-    people: &[Asked<'_>],
-) -> Result<(), AllocError> {
+pub(crate) fn put_place_reason(text: &mut Words, field: Field, people: &[Asked<'_>]) {
     let name = field.name();
     match field {
         Field::PermittedHeaps => put_permits(text, people),
@@ -182,19 +174,14 @@ pub(crate) fn put_place_reason(
 }
 
 /// Puts which memory participants need by a field after a text.
-fn put_needs(
-    text: &mut String,
-    people: &[Asked<'_>],
-    what: &str,
-    field: &str,
-) -> Result<(), AllocError> {
-    put_has(text, people, "needs", "need")?;
-    write!(text, " {what} memory ({field})")
+fn put_needs(text: &mut Words, people: &[Asked<'_>], what: &str, field: &str) {
+    put_has(text, people, "needs", "need");
+    text.put(" ").put(what).put(" memory (").put(field).put(")");
 }
 
 /// Puts which heaps participants permit after a text; of several with other lists only that it
 /// isn't this one.
-fn put_permits(text: &mut String, people: &[Asked<'_>]) -> Result<(), AllocError> {
+fn put_permits(text: &mut Words, people: &[Asked<'_>]) {
     let [one] = people else {
         return put_has(
             text,
@@ -203,17 +190,19 @@ fn put_permits(text: &mut String, people: &[Asked<'_>]) -> Result<(), AllocError
             "don't permit this heap",
         );
     };
-    put_has(text, people, "permits only", "permit only")?;
+    put_has(text, people, "permits only", "permit only");
     put_heaps(text, &one.asked.memory().permitted_heaps)
 }
 
 /// Puts at most four heaps after a text.
-fn put_heaps(text: &mut String, heaps: &[Heap]) -> Result<(), AllocError> {
+fn put_heaps(text: &mut Words, heaps: &[Heap]) {
     for (k, heap) in heaps.iter().take(4).enumerate() {
         let mark = if k == 0 { " " } else { ", " };
-        write!(text, "{mark}{}#{}", heap.heap_type, heap.id)?;
+        text.put(mark)
+            .put(&heap.heap_type)
+            .put("#")
+            .put_number(heap.id);
     }
-    Ok(())
 }
 
 /// Whether a participant states a field of its memory.
@@ -229,42 +218,35 @@ fn states(one: &Asked<'_>, field: &str) -> bool {
 
 /// Puts who says that it doesn't take a coherency domain into an empty text, and who doesn't say
 /// that it does.
-fn put_unsupported(text: &mut String, people: &[Asked<'_>], field: &str) -> Result<(), AllocError> {
-    put_stating(text, people, field, true)?;
+fn put_unsupported(text: &mut Words, people: &[Asked<'_>], field: &str) {
+    put_stating(text, people, field, true);
     put_stating(text, people, field, false)
 }
 
 /// Puts who states a field, or who doesn't, after a text, if somebody does.
-fn put_stating(
-    text: &mut String,
-    people: &[Asked<'_>],
-    field: &str,
-    is_stated: bool,
-) -> Result<(), AllocError> {
-    let mut those = Vec::new(*text.allocator());
+fn put_stating(text: &mut Words, people: &[Asked<'_>], field: &str, is_stated: bool) {
+    let mut those = Gathered::new(text.alloc());
     for one in people {
         if states(one, field) == is_stated {
-            those.push(*one)?;
+            those.add(*one);
         }
     }
-    put_stated(text, &those, field, is_stated)
+    match those.done() {
+        Ok(those) => put_stated(text, &those, field, is_stated),
+        Err(AllocError) => text.refuse(),
+    }
 }
 
 /// Puts that participants state a field, or don't, after a text, if they are some.
-fn put_stated(
-    text: &mut String,
-    people: &[Asked<'_>],
-    field: &str,
-    is_stated: bool,
-) -> Result<(), AllocError> {
+fn put_stated(text: &mut Words, people: &[Asked<'_>], field: &str, is_stated: bool) {
     if people.is_empty() {
-        return Ok(());
+        return;
     }
     let (one, many, end) = if is_stated {
         ("says", "say", " false")
     } else {
         ("doesn't say", "don't say", ", so it's false")
     };
-    put_those(text, people, one, many)?;
-    write!(text, " {field}{end}")
+    put_those(text, people, one, many);
+    text.put(" ").put(field).put(end);
 }

@@ -4,7 +4,7 @@ use crate::offer_words::{offer_name, pair_name, put_offer_reason};
 use crate::offering::{distance_of, offer_reasons};
 use crate::placing::{place_name, place_reasons, put_place_reason};
 use crate::rows::{Reason, Row, add, tell_rows};
-use explanation_text::Items;
+use explanation_text::{Gathered, Items, Words};
 use std::alloc::{AllocError, Global};
 use std::mem;
 use sysmem_formats::Offer;
@@ -40,7 +40,8 @@ fn add_place(
     let reasons = place_reasons(alloc, platform, place, people)?;
     let far = if all { refusals(&reasons) } else { 0 };
     let texts = texts_of(alloc, None, &reasons, all)?;
-    add(rows, place_name(alloc, platform, place)?, texts, far, 1)
+    let name = place_name(alloc, platform, place).done()?;
+    add(rows, name, texts, far, 1)
 }
 
 /// The reasons against an offer, or against a place where there is none, in words; or the first of
@@ -52,25 +53,21 @@ fn texts_of(
     all: bool,
 ) -> Result<Vec<String>, AllocError> {
     let most = if all { reasons.len() } else { 1 };
-    let mut texts = Vec::new(alloc);
+    let mut texts: Gathered<String> = Gathered::new(alloc);
     for reason in reasons.iter().take(most) {
-        texts.push(text_of(alloc, offer, reason)?)?;
+        texts.add_words(text_of(alloc, offer, reason));
     }
-    Ok(texts)
+    texts.done()
 }
 
 /// A reason in words.
-fn text_of(
-    alloc: Global,
-    offer: Option<&Offer>,
-    reason: &Reason<'_>,
-) -> Result<String, AllocError> {
-    let mut text = String::new(alloc);
+fn text_of(alloc: Global, offer: Option<&Offer>, reason: &Reason<'_>) -> Words {
+    let mut text = Words::new(alloc);
     match offer {
-        Some(offer) => put_offer_reason(&mut text, offer, reason.field, &reason.people)?,
-        None => put_place_reason(&mut text, reason.field, &reason.people)?,
+        Some(offer) => put_offer_reason(&mut text, offer, reason.field, &reason.people),
+        None => put_place_reason(&mut text, reason.field, &reason.people),
     }
-    Ok(text)
+    text
 }
 
 /// How many refusals these are: who refuses by two fields counts twice.
@@ -115,7 +112,8 @@ pub(crate) fn tell_offers(
 ) -> Result<(), AllocError> {
     let colours = platform.colours().len();
     let rows = offer_rows(items.alloc(), offers, people, true, false, colours)?;
-    tell_rows(items, 2, before, &rows, usize::MAX, what)
+    tell_rows(items, 2, before, &rows, usize::MAX, what);
+    Ok(())
 }
 
 /// An offer that is refused, and why.
@@ -176,14 +174,14 @@ fn add_pair(
         offers.truncate(1);
     }
     for refused in mem::replace(offers, Vec::new(alloc)) {
-        let name = name_of(alloc, &refused.offer, is_one)?;
+        let name = name_of(alloc, &refused.offer, is_one).done()?;
         add(rows, name, refused.texts, refused.distance, count)?;
     }
     Ok(())
 }
 
 /// The name of an offer, or of its pair where that stands for all its colour spaces.
-fn name_of(alloc: Global, offer: &Offer, is_pair: bool) -> Result<String, AllocError> {
+fn name_of(alloc: Global, offer: &Offer, is_pair: bool) -> Words {
     match offer {
         Offer::Image(pair, _) if is_pair => {
             pair_name(alloc, Some(pair.format), Some(pair.modifier))

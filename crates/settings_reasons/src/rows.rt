@@ -1,6 +1,6 @@
 //! Rows of what fails for the same reasons.
 
-use explanation_text::Items;
+use explanation_text::{Items, Words};
 use std::alloc::{AllocError, Global};
 use sysmem_counts::Field;
 use value_sources::{Asked, put_has, put_texts};
@@ -39,16 +39,6 @@ impl Drop for Row {
             count: _,
         } = self;
     }
-}
-
-/// Tells words with a label, if there was memory for them.
-pub(crate) fn tell(
-    items: &mut Items,
-    depth: usize,
-    label: &'static str,
-    words: Result<String, AllocError>,
-) -> Result<(), AllocError> {
-    items.say(depth, label, words?)
 }
 
 /// Puts what fails into the row of those with its reasons.
@@ -112,7 +102,7 @@ pub(crate) fn tell_rows(
     rows: &[Row],
     far: usize,
     what: &str,
-) -> Result<(), AllocError> {
+) {
     let most = shown(rows, far);
     let mut told = 0usize;
     let mut others = 0usize;
@@ -122,7 +112,7 @@ pub(crate) fn tell_rows(
                 continue;
             }
             if told < most {
-                tell_row(items, depth, before, row)?;
+                tell_row(items, depth, before, row);
                 told = told.saturating_add(1);
             } else {
                 others = others.saturating_add(row.count);
@@ -133,18 +123,17 @@ pub(crate) fn tell_rows(
 }
 
 /// Tells how many others there are, if there are some, with what is said of them.
-fn tell_others(
-    items: &mut Items,
-    depth: usize,
-    before: &str,
-    others: usize,
-    what: &str,
-) -> Result<(), AllocError> {
+fn tell_others(items: &mut Items, depth: usize, before: &str, others: usize, what: &str) {
     if others == 0 {
-        return Ok(());
+        return;
     }
-    let words = format!(in items.alloc(); "{before}the other {others} {what}");
-    tell(items, depth, "", words)
+    let mut words = Words::of(items.alloc(), before);
+    words
+        .put("the other ")
+        .put_number(others)
+        .put(" ")
+        .put(what);
+    items.say(depth, "", words)
 }
 
 /// The distance of the nearest row.
@@ -164,34 +153,36 @@ fn farthest(rows: &[Row]) -> usize {
     most
 }
 
-fn tell_row(items: &mut Items, depth: usize, before: &str, row: &Row) -> Result<(), AllocError> {
+fn tell_row(items: &mut Items, depth: usize, before: &str, row: &Row) {
     let head = head_of(items.alloc(), before, row);
-    tell(items, depth, "", head)?;
+    items.say(depth, "", head);
     if row.reasons.len() <= 1 {
-        return Ok(());
+        return;
     }
     let below = depth.saturating_add(1);
     for reason in &row.reasons {
-        let words = String::from_str(items.alloc(), reason);
-        tell(items, below, "", words)?;
+        items.say_text(below, "", reason);
     }
-    Ok(())
 }
 
 /// A row's names, with its reason where it has one alone.
-fn head_of(alloc: Global, before: &str, row: &Row) -> Result<String, AllocError> {
-    let mut text = String::from_str(alloc, before)?;
-    put_texts(&mut text, &row.names, MOST_ROW_NAMES)?;
-    put_reason(&mut text, &row.reasons)?;
-    Ok(text)
+fn head_of(alloc: Global, before: &str, row: &Row) -> Words {
+    let mut text = Words::of(alloc, before);
+    put_texts(&mut text, &row.names, MOST_ROW_NAMES);
+    put_reason(&mut text, &row.reasons);
+    text
 }
 
 /// Puts the reason of a row after its names, where it has one alone.
-fn put_reason(text: &mut String, reasons: &[String]) -> Result<(), AllocError> {
+fn put_reason(text: &mut Words, reasons: &[String]) {
     match reasons {
-        [] => Ok(()),
-        [reason] => write!(text, ": {reason}"),
-        _ => text.push_str(":"),
+        [] => {}
+        [reason] => {
+            text.put(": ").put(reason);
+        }
+        _ => {
+            text.put(":");
+        }
     }
 }
 
@@ -201,16 +192,11 @@ pub(crate) fn mark_after(text: &str) -> &'static str {
 }
 
 /// Puts a sentence on participants after a text, if they are some.
-pub(crate) fn put_those(
-    text: &mut String,
-    people: &[Asked<'_>],
-    one: &str,
-    many: &str,
-) -> Result<(), AllocError> {
+pub(crate) fn put_those(text: &mut Words, people: &[Asked<'_>], one: &str, many: &str) {
     if people.is_empty() {
-        return Ok(());
+        return;
     }
-    let mark = mark_after(text);
-    text.push_str(mark)?;
+    let mark = mark_after(text.as_str());
+    text.put(mark);
     put_has(text, people, one, many)
 }
