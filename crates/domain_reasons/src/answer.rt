@@ -1,24 +1,27 @@
 //! What the calls of a script came to, in one line.
 
+use explanation_text::Words;
 use explanation_text::wording::put_count;
 use script_story::{Made, Story, put_domain, refused_calls};
 use std::alloc::{AllocError, Global};
-use std::fmt::Write;
 
 /// The answer: how many calls were refused, and what became of each domain.
 pub fn answer_of(alloc: Global, story: &Story<'_>) -> Result<String, AllocError> {
-    let mut text = String::new(alloc);
-    put_count(&mut text, story.calls.len(), "call", "calls")?;
+    let mut words = Words::new(alloc);
+    put_count(&mut words, story.calls.len(), "call", "calls");
     match refused_calls(story) {
-        0 => text.push_str(", none refused")?,
-        count => write!(text, ", {count} refused")?,
-    }
+        0 => words.put(", none refused"),
+        count => words.put(", ").put_number(count).put(" refused"),
+    };
     let more = odd_answers(story);
     if more > 0 {
-        write!(text, ", {more} answered otherwise than ok")?;
+        words
+            .put(", ")
+            .put_number(more)
+            .put(" answered otherwise than ok");
     }
-    put_verdicts(&mut text, story)?;
-    Ok(text)
+    put_verdicts(&mut words, story);
+    words.done()
 }
 
 /// How many verdicts were asked for in vain, where the domain's own section doesn't tell why.
@@ -50,25 +53,22 @@ fn verdict_of(story: &Story<'_>, call: &Made<'_>) -> Option<usize> {
 }
 
 /// Puts what became of each domain after a text.
-fn put_verdicts(text: &mut String, story: &Story<'_>) -> Result<(), AllocError> {
+fn put_verdicts(text: &mut Words, story: &Story<'_>) {
     let all = story.domains.len();
     let most = if all > 9 { 8 } else { all };
     for index in 0..most {
-        put_verdict(text, story, index)?;
+        put_verdict(text, story, index);
     }
     let more = all.saturating_sub(most);
     if more > 0 {
-        write!(text, "; {more} more domains")?;
+        text.put("; ").put_number(more).put(" more domains");
     }
-    Ok(())
 }
 
-fn put_verdict(text: &mut String, story: &Story<'_>, index: usize) -> Result<(), AllocError> {
-    let Some(domain) = story.domains.get(index) else {
-        return Ok(());
-    };
-    text.push_str("; ")?;
-    put_domain(text, story, domain.root)?;
-    let verdict = domain.verdict();
-    write!(text, " {verdict}")
+fn put_verdict(text: &mut Words, story: &Story<'_>, index: usize) {
+    if let Some(domain) = story.domains.get(index) {
+        text.put("; ");
+        put_domain(text, story, domain.root);
+        text.put(" ").put(domain.verdict());
+    }
 }

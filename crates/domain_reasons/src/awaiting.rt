@@ -1,12 +1,10 @@
 //! Who is awaited, and what helps.
 
-use crate::short::tell;
-use explanation_text::Items;
 use explanation_text::wording::put_count;
+use explanation_text::{Gathered, Items, Words};
 use script_reading::Act;
 use script_story::{Deed, Domain, Story, put_domain};
 use std::alloc::{AllocError, Global};
-use std::fmt::Write;
 use sysmem_tree::NodeKind;
 
 /// How many who are awaited are named for one reason.
@@ -28,34 +26,31 @@ pub(crate) fn tell_pending(
     domain: &Domain<'_>,
 ) -> Result<(), AllocError> {
     let awaited = all_awaited(items.alloc(), story, index)?;
-    tell_awaited(items, story, &awaited)?;
-    match awaited_host(story, domain) {
-        Some(above) => tell_host(items, story, domain, above),
-        None => Ok(()),
+    tell_awaited(items, story, &awaited);
+    if let Some(above) = awaited_host(story, domain) {
+        tell_host(items, story, domain, above);
     }
+    Ok(())
 }
 
 /// Whom the domain of an index waits for.
 fn all_awaited(alloc: Global, story: &Story<'_>, index: usize) -> Result<Vec<Awaited>, AllocError> {
-    let mut awaited = Vec::new(alloc);
+    let mut awaited = Gathered::new(alloc);
     for node in &story.awaited(alloc, index, usize::MAX)? {
-        awaited.push(awaited_of(alloc, story, *node)?)?;
+        awaited.add(awaited_of(alloc, story, *node)?);
     }
-    Ok(awaited)
+    awaited.done()
 }
 
 /// Tells that the domain of a root is awaited, to which this one was attached.
-fn tell_host(
-    items: &mut Items,
-    story: &Story<'_>,
-    domain: &Domain<'_>,
-    above: usize,
-) -> Result<(), AllocError> {
-    let name = story.name(domain.root);
-    let mut text = String::new(items.alloc());
-    put_domain(&mut text, story, above)?;
-    write!(text, ", to which {name} was attached")?;
-    items.say(1, "awaits", text)
+fn tell_host(items: &mut Items, story: &Story<'_>, domain: &Domain<'_>, above: usize) {
+    let mut words = Words::new(items.alloc());
+    put_domain(&mut words, story, above);
+    words
+        .put(", to which ")
+        .put(story.name(domain.root))
+        .put(" was attached");
+    items.say(1, "awaits", words)
 }
 
 /// The root of the domain to which this one was attached, where that has no verdict.
@@ -97,17 +92,12 @@ fn is_one_refused(story: &Story<'_>, nodes: &[usize]) -> bool {
 }
 
 /// Tells who is awaited, those for whom the same helps together.
-fn tell_awaited(
-    items: &mut Items,
-    story: &Story<'_>,
-    awaited: &[Awaited],
-) -> Result<(), AllocError> {
+fn tell_awaited(items: &mut Items, story: &Story<'_>, awaited: &[Awaited]) {
     for (k, first) in awaited.iter().enumerate() {
         if !helps_before(awaited, k, &first.help) {
-            tell_those(items, story, awaited, &first.help)?;
+            tell_those(items, story, awaited, &first.help);
         }
     }
-    Ok(())
 }
 
 /// Whether the same helps for one of the first so many.
@@ -121,12 +111,7 @@ fn helps_before(awaited: &[Awaited], count: usize, help: &str) -> bool {
 }
 
 /// Tells those who are awaited for whom this helps.
-fn tell_those(
-    items: &mut Items,
-    story: &Story<'_>,
-    awaited: &[Awaited],
-    help: &str,
-) -> Result<(), AllocError> {
+fn tell_those(items: &mut Items, story: &Story<'_>, awaited: &[Awaited], help: &str) {
     let mut seen = 0usize;
     for one in awaited {
         if one.help.as_str() != help {
@@ -134,24 +119,22 @@ fn tell_those(
         }
         seen = seen.saturating_add(1);
         if seen <= MOST_ROWS {
-            tell_one(items, story, one)?;
+            tell_one(items, story, one);
         }
     }
     let more = seen.saturating_sub(MOST_ROWS);
-    if more == 0 {
-        return Ok(());
+    if more > 0 {
+        let mut words = Words::new(items.alloc());
+        words.put_number(more).put(" more: ").put(help);
+        items.say(1, "awaits", words);
     }
-    let text = format!(in items.alloc(); "{more} more: {help}");
-    tell(items, 1, "awaits", text)
 }
 
-fn tell_one(items: &mut Items, story: &Story<'_>, one: &Awaited) -> Result<(), AllocError> {
-    let name = story.name(one.node);
-    let path = story.path(one.node);
-    let what = one.what.as_str();
-    let help = one.help.as_str();
-    let text = format!(in items.alloc(); "{name} {path}, a {what}: {help}");
-    tell(items, 1, "awaits", text)
+fn tell_one(items: &mut Items, story: &Story<'_>, one: &Awaited) {
+    let mut words = Words::of(items.alloc(), story.name(one.node));
+    words.put(" ").put(story.path(one.node));
+    words.put(", a ").put(&one.what).put(": ").put(&one.help);
+    items.say(1, "awaits", words)
 }
 
 /// The last call on a node that was refused and would have helped.
@@ -176,8 +159,8 @@ fn is_helpful(act: &Act<'_>) -> bool {
 fn awaited_of(alloc: Global, story: &Story<'_>, node: usize) -> Result<Awaited, AllocError> {
     let kind = story.kind_before(node, usize::MAX);
     let tried = refused_on(story, node);
-    let what = what_of(alloc, story, node, kind, tried)?;
     let help = help_of(alloc, story, node, kind, tried)?;
+    let what = what_of(alloc, story, node, kind, tried).done()?;
     Ok(Awaited { node, what, help })
 }
 
@@ -188,55 +171,52 @@ fn what_of(
     node: usize,
     kind: NodeKind,
     tried: Option<usize>,
-) -> Result<String, AllocError> {
-    let mut what = String::new(alloc);
-    put_what(&mut what, story, node, kind)?;
+) -> Words {
+    let mut words = Words::new(alloc);
+    put_what(&mut words, story, node, kind);
     if let Some(call) = story.call(tried.unwrap_or(0)) {
-        let name = call.name();
-        write!(what, ", whose {name} was refused")?;
+        words.put(", whose ").put(call.name()).put(" was refused");
     }
-    Ok(what)
+    words
 }
 
 /// Puts what an awaited node is after a text: `a token of call 3 (main)`, without the article.
-fn put_what(
-    text: &mut String,
-    story: &Story<'_>,
-    node: usize,
-    kind: NodeKind,
-) -> Result<(), AllocError> {
+fn put_what(text: &mut Words, story: &Story<'_>, node: usize, kind: NodeKind) {
     let (what, origin) = match kind {
         NodeKind::Token => ("token", story.maker(node)),
         NodeKind::Collection => ("collection", story.deed(node, Deed::Bind)),
         NodeKind::Group => ("group", story.maker(node)),
     };
-    write!(text, "{what} of ")?;
-    put_origin(text, story, origin)?;
-    match kind {
-        NodeKind::Group => put_children(text, story, node),
-        _ => Ok(()),
+    text.put(what).put(" of ");
+    put_origin(text, story, origin);
+    if kind == NodeKind::Group {
+        put_children(text, story, node);
     }
 }
 
 /// Puts how many children a group has after a text.
-fn put_children(text: &mut String, story: &Story<'_>, node: usize) -> Result<(), AllocError> {
-    let count = story.children(*text.allocator(), node)?.len();
-    text.push_str(" of ")?;
-    put_count(text, count, "child", "children")
+fn put_children(text: &mut Words, story: &Story<'_>, node: usize) {
+    match story.children(text.alloc(), node) {
+        Ok(children) => {
+            text.put(" of ");
+            put_count(text, children.len(), "child", "children")
+        }
+        Err(AllocError) => text.refuse(),
+    }
 }
 
-fn put_origin(
-    text: &mut String,
-    story: &Story<'_>,
-    number: Option<usize>,
-) -> Result<(), AllocError> {
+fn put_origin(text: &mut Words, story: &Story<'_>, number: Option<usize>) {
     match number {
         Some(number) => {
             let actor = story.actor(number);
-            write!(text, "call {number} ({actor})")
+            text.put("call ")
+                .put_number(number)
+                .put(" (")
+                .put(actor)
+                .put(")")
         }
-        None => text.push_str("the program"),
-    }
+        None => text.put("the program"),
+    };
 }
 
 /// What makes that a domain no longer waits for a node.
@@ -248,9 +228,9 @@ fn help_of(
     tried: Option<usize>,
 ) -> Result<String, AllocError> {
     if let Some(number) = tried {
-        return help_after(alloc, story, node, kind, number);
+        return help_after(alloc, story, node, kind, number).done();
     }
-    let words = match kind {
+    let help = match kind {
         NodeKind::Token => "bind it and set_constraints, or release it",
         NodeKind::Collection => "set_constraints, or release it",
         NodeKind::Group => if story.children(alloc, node)?.is_empty() {
@@ -259,7 +239,7 @@ fn help_of(
             "all_children_present"
         },
     };
-    String::from_str(alloc, words)
+    Words::of(alloc, help).done()
 }
 
 /// What helps after the call of a number was refused.
@@ -269,20 +249,23 @@ fn help_after(
     node: usize,
     kind: NodeKind,
     number: usize,
-) -> Result<String, AllocError> {
+) -> Words {
     let is_set = match story.call(number) {
         Some(call) => matches!(call.act, Act::SetConstraints(_)),
         None => false,
     };
-    if !is_set {
-        return format!(in alloc; "correct call {number}");
-    }
-    if kind == NodeKind::Token {
-        return format!(in alloc; "bind it before call {number}");
-    }
-    if story.kind_before(node, number) == NodeKind::Token {
+    let mut words = Words::new(alloc);
+    if is_set && kind == NodeKind::Token {
+        words.put("bind it before call ").put_number(number);
+    } else if is_set && story.kind_before(node, number) == NodeKind::Token {
         let bound = story.deed(node, Deed::Bind).unwrap_or(0);
-        return format!(in alloc; "move call {number} after call {bound}, which binds it");
+        words.put("move call ").put_number(number);
+        words
+            .put(" after call ")
+            .put_number(bound)
+            .put(", which binds it");
+    } else {
+        words.put("correct call ").put_number(number);
     }
-    format!(in alloc; "correct call {number}")
+    words
 }

@@ -2,7 +2,7 @@
 
 use crate::passed_over::tell_passed_over;
 use crate::selecting::{Empty, tell_left_out};
-use explanation_text::Items;
+use explanation_text::{Gathered, Items, Words};
 use script_story::{Domain, Story, asked_in, put_domain};
 use settings_reasons::tell_settings;
 use std::alloc::{AllocError, Global};
@@ -22,7 +22,8 @@ pub(crate) fn tell_choice(
 ) -> Result<(), AllocError> {
     tell_children(items, story, index)?;
     if let Some(host) = domain.host {
-        return tell_from(items, story, host);
+        tell_from(items, story, host);
+        return Ok(());
     }
     let selections = Empty {
         platform,
@@ -39,13 +40,13 @@ pub(crate) fn tell_choice(
 }
 
 /// Tells from which domain an attached one has its settings.
-fn tell_from(items: &mut Items, story: &Story<'_>, host: usize) -> Result<(), AllocError> {
-    let mut text = String::new(items.alloc());
+fn tell_from(items: &mut Items, story: &Story<'_>, host: usize) {
+    let mut words = Words::new(items.alloc());
     if let Some(above) = story.domain_of(host) {
-        put_domain(&mut text, story, above.root)?;
+        put_domain(&mut words, story, above.root);
     }
-    text.push_str(", unchanged: these accept its settings")?;
-    items.say(1, "from", text)
+    words.put(", unchanged: these accept its settings");
+    items.say(1, "from", words)
 }
 
 /// Tells which child was chosen of each group that is selected.
@@ -55,20 +56,21 @@ fn tell_children(items: &mut Items, story: &Story<'_>, index: usize) -> Result<(
     if texts.is_empty() {
         return Ok(());
     }
-    let mut text = String::new(alloc);
-    put_texts(&mut text, &texts, MOST_CHOICES)?;
-    items.say(1, "choice", text)
+    let mut words = Words::new(alloc);
+    put_texts(&mut words, &texts, MOST_CHOICES);
+    items.say(1, "choice", words);
+    Ok(())
 }
 
 /// The child that was chosen of each group of a domain that is selected.
 fn choices_of(alloc: Global, story: &Story<'_>, index: usize) -> Result<Vec<String>, AllocError> {
-    let mut texts: Vec<String> = Vec::new(alloc);
+    let mut texts: Gathered<String> = Gathered::new(alloc);
     for group in &groups_in(alloc, story, index)? {
-        if let Some(text) = choice_of(alloc, story, *group)? {
-            texts.push(text)?;
+        if let Some(words) = choice_of(alloc, story, *group)? {
+            texts.add_words(words);
         }
     }
-    Ok(texts)
+    texts.done()
 }
 
 /// The groups of a domain.
@@ -87,7 +89,7 @@ pub(crate) fn groups_in(
 }
 
 /// The child that was chosen of a group, if the group is selected: `layouts: tiled (first of 2)`.
-fn choice_of(alloc: Global, story: &Story<'_>, group: usize) -> Result<Option<String>, AllocError> {
+fn choice_of(alloc: Global, story: &Story<'_>, group: usize) -> Result<Option<Words>, AllocError> {
     if !story.is_selected(group) {
         return Ok(None);
     }
@@ -95,7 +97,7 @@ fn choice_of(alloc: Global, story: &Story<'_>, group: usize) -> Result<Option<St
     for (place, child) in children.iter().enumerate() {
         if story.is_selected(*child) {
             let count = if place == 0 { children.len() } else { 0 };
-            return Ok(Some(choice_text(alloc, story, group, *child, count)?));
+            return Ok(Some(choice_text(alloc, story, group, *child, count)));
         }
     }
     Ok(None)
@@ -108,11 +110,11 @@ fn choice_text(
     group: usize,
     child: usize,
     count: usize,
-) -> Result<String, AllocError> {
-    let group = story.name(group);
-    let name = story.name(child);
+) -> Words {
+    let mut words = Words::of(alloc, story.name(group));
+    words.put(": ").put(story.name(child));
     if count > 1 {
-        return format!(in alloc; "{group}: {name} (first of {count})");
+        words.put(" (first of ").put_number(count).put(")");
     }
-    format!(in alloc; "{group}: {name}")
+    words
 }

@@ -4,11 +4,9 @@ use crate::awaiting::tell_pending;
 use crate::choosing::tell_choice;
 use crate::exchanged::{are_exchanged, is_named_so, states_usage, usage_meant, usages_of};
 use crate::failing::{tell_failed, tell_none, tell_too_many};
-use crate::short::tell;
-use explanation_text::{Items, Kind};
+use explanation_text::{Gathered, Items, Kind, Words};
 use script_story::{Deed, Domain, Story, asked_in, put_domain};
 use std::alloc::{AllocError, Global};
-use std::fmt::Write;
 use sysmem_sanitise::Platform;
 use value_sources::{Asked, put_texts};
 
@@ -25,11 +23,17 @@ pub fn tell_domain(
     let Some(domain) = story.domains.get(index) else {
         return Ok(());
     };
-    put_title(items, story, domain)?;
+    put_title(items, story, domain);
     match domain.verdict() {
         "pending" => tell_pending(items, story, index, domain),
-        "failed" => tell_failed(items, story, domain),
-        "too_many" => tell_too_many(items, story, index),
+        "failed" => {
+            tell_failed(items, story, domain);
+            Ok(())
+        }
+        "too_many" => {
+            tell_too_many(items, story, index);
+            Ok(())
+        }
         "chosen" => tell_chosen(items, platform, story, index, domain),
         _ => {
             tell_who(items, story, index, false)?;
@@ -46,33 +50,32 @@ fn tell_chosen(
     domain: &Domain<'_>,
 ) -> Result<(), AllocError> {
     tell_who(items, story, index, true)?;
-    let line = String::from_str(items.alloc(), domain.told)?;
-    items.push(Kind::Decision, 1, "told", line)?;
+    let line = Words::of(items.alloc(), domain.told);
+    items.push(Kind::Decision, 1, "told", line);
     tell_choice(items, platform, story, index, domain)
 }
 
 /// The title of a domain's section:
 /// `domain / (root): chosen, after call 7 (set_constraints encoder)`.
-fn put_title(items: &mut Items, story: &Story<'_>, domain: &Domain<'_>) -> Result<(), AllocError> {
-    let mut title = String::new(items.alloc());
-    put_domain(&mut title, story, domain.root)?;
-    let verdict = domain.verdict();
-    write!(title, ": {verdict}")?;
+fn put_title(items: &mut Items, story: &Story<'_>, domain: &Domain<'_>) {
+    let mut words = Words::new(items.alloc());
+    put_domain(&mut words, story, domain.root);
+    words.put(": ").put(domain.verdict());
     if let Some(number) = domain.ended {
-        put_ended(&mut title, story, number)?;
+        put_ended(&mut words, story, number);
     }
-    items.push(Kind::Title, 0, "", title)
+    items.push(Kind::Title, 0, "", words)
 }
 
 /// Puts after which call a verdict came after a text.
-fn put_ended(text: &mut String, story: &Story<'_>, number: usize) -> Result<(), AllocError> {
-    match story.call(number) {
-        Some(call) => {
-            let name = call.name();
-            let on = call.on;
-            write!(text, ", after call {number} ({name} {on})")
-        }
-        None => write!(text, ", after call {number}"),
+fn put_ended(text: &mut Words, story: &Story<'_>, number: usize) {
+    text.put(", after call ").put_number(number);
+    if let Some(call) = story.call(number) {
+        text.put(" (")
+            .put(call.name())
+            .put(" ")
+            .put(call.on)
+            .put(")");
     }
 }
 
@@ -85,7 +88,7 @@ fn tell_who(
 ) -> Result<(), AllocError> {
     let alloc = items.alloc();
     let people = asked_in(alloc, story, index, are_selected)?;
-    tell(items, 1, "who", who_text(alloc, story, &people))?;
+    items.say(1, "who", who_text(alloc, story, &people));
     for one in &people {
         note_usage(items, story, *one)?;
     }
@@ -104,12 +107,10 @@ fn note_usage(items: &mut Items, story: &Story<'_>, one: Asked<'_>) -> Result<()
     }
     let alloc = items.alloc();
     match exchanged_with(alloc, story, one)? {
-        None if !is_named_so(one) => Ok(()),
-        other => {
-            let text = note_of(alloc, story, one, usage, other);
-            tell(items, 1, "note", text)
-        }
+        None if !is_named_so(one) => {}
+        other => items.say(1, "note", note_of(alloc, story, one, usage, other)),
     }
+    Ok(())
 }
 
 /// The call by which a participant set its constraints, by number.
@@ -140,77 +141,75 @@ fn note_of(
     one: Asked<'_>,
     usage: &str,
     other: Option<Asked<'_>>,
-) -> Result<String, AllocError> {
-    let name = one.name;
-    let number = setting(story, one);
-    let mut text = format!(in alloc;
-        "{name} (call {number}) doesn't state usage {usage}: are these the constraints that are meant for it?"
-    )?;
+) -> Words {
+    let mut words = Words::of(alloc, one.name);
+    words.put(" (call ").put_number(setting(story, one));
+    words.put(") doesn't state usage ").put(usage);
+    words.put(": are these the constraints that are meant for it?");
     if let Some(other) = other {
-        let name = other.name;
-        let number = setting(story, other);
-        write!(
-            text,
-            " They may be exchanged with those of {name} (call {number})"
-        )?;
+        words
+            .put(" They may be exchanged with those of ")
+            .put(other.name);
+        words
+            .put(" (call ")
+            .put_number(setting(story, other))
+            .put(")");
     }
-    Ok(text)
+    words
 }
 
 /// Participants in words.
-fn who_text(alloc: Global, story: &Story<'_>, people: &[Asked<'_>]) -> Result<String, AllocError> {
+fn who_text(alloc: Global, story: &Story<'_>, people: &[Asked<'_>]) -> Words {
     if people.is_empty() {
-        return String::from_str(alloc, "nobody has constraints");
+        return Words::of(alloc, "nobody has constraints");
     }
-    let mut names: Vec<String> = Vec::new(alloc);
+    let mut names: Gathered<String> = Gathered::new(alloc);
     for one in people {
-        names.push(who(alloc, story, one.node)?)?;
+        names.add_words(who(alloc, story, one.node));
     }
-    let mut text = String::new(alloc);
-    put_texts(&mut text, &names, MOST_WHO)?;
-    Ok(text)
+    let mut words = Words::new(alloc);
+    match names.done() {
+        Ok(names) => put_texts(&mut words, &names, MOST_WHO),
+        Err(AllocError) => words.refuse(),
+    }
+    words
 }
 
 /// A participant with its path, its actor and what it uses the buffers for:
 /// `camera /0 (actor camera, usage video)`.
-fn who(alloc: Global, story: &Story<'_>, node: usize) -> Result<String, AllocError> {
-    let name = story.name(node);
-    let path = story.path(node);
-    let mut text = format!(in alloc; "{name} {path}")?;
+fn who(alloc: Global, story: &Story<'_>, node: usize) -> Words {
+    let mut words = Words::of(alloc, story.name(node));
+    words.put(" ").put(story.path(node));
     if let Some(number) = story.deed(node, Deed::SetConstraints) {
-        put_setter(&mut text, story, node, number)?;
-        put_usage(&mut text, story, number)?;
-        text.push_str(")")?;
+        put_setter(&mut words, story, node, number);
+        put_usage(&mut words, story, number);
+        words.put(")");
     }
-    Ok(text)
+    words
 }
 
 /// Puts who set a node's constraints after a text, and who bound it where that is somebody else.
-fn put_setter(
-    text: &mut String,
-    story: &Story<'_>,
-    node: usize,
-    number: usize,
-) -> Result<(), AllocError> {
+fn put_setter(text: &mut Words, story: &Story<'_>, node: usize, number: usize) {
     let setter = story.actor(number);
     match story.deed(node, Deed::Bind) {
         Some(bound) if story.actor(bound) != setter => {
             let binder = story.actor(bound);
-            write!(text, " (bound by {binder}, set by {setter}")
+            text.put(" (bound by ")
+                .put(binder)
+                .put(", set by ")
+                .put(setter)
         }
-        _ => write!(text, " (actor {setter}"),
-    }
+        _ => text.put(" (actor ").put(setter),
+    };
 }
 
 /// Puts the usage that a call states after a text.
-fn put_usage(text: &mut String, story: &Story<'_>, number: usize) -> Result<(), AllocError> {
+fn put_usage(text: &mut Words, story: &Story<'_>, number: usize) {
     let Some(usages) = usages_of(story, number) else {
-        return Ok(());
+        return;
     };
-    text.push_str(", usage")?;
+    text.put(", usage");
     for usage in usages.iter().take(5) {
-        let name = usage.as_str().unwrap_or("");
-        write!(text, " {name}")?;
+        text.put(" ").put(usage.as_str().unwrap_or(""));
     }
-    Ok(())
 }

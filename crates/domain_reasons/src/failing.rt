@@ -3,9 +3,8 @@
 
 use crate::choosing::groups_in;
 use crate::selecting::{Empty, MOST_TOLD, tell_empty};
-use crate::short::tell;
-use explanation_text::Items;
 use explanation_text::wording::{MOST_NAMES, put_few};
+use explanation_text::{Gathered, Items, Words};
 use script_reading::Act;
 use script_story::{Deed, Domain, Made, Story, asked_in, left_out};
 use settings_reasons::{failing, tell_misfits};
@@ -15,60 +14,59 @@ use sysmem_sanitise::Platform;
 use value_sources::{Asked, put_texts, why_needed};
 
 /// Tells why a domain failed.
-pub(crate) fn tell_failed(
-    items: &mut Items,
-    story: &Story<'_>,
-    domain: &Domain<'_>,
-) -> Result<(), AllocError> {
+pub(crate) fn tell_failed(items: &mut Items, story: &Story<'_>, domain: &Domain<'_>) {
     let alloc = items.alloc();
-    let text = match closing(story, domain) {
+    let words = match closing(story, domain) {
         Some(call) => why_of_close(alloc, story, domain, call),
         None => match domain.host {
             Some(host) => why_of_host(alloc, story, host),
-            None => return Ok(()),
+            None => return,
         },
     };
-    tell(items, 1, "why", text)
+    items.say(1, "why", words)
 }
 
 /// Why a domain failed that a call closed.
-fn why_of_close(
-    alloc: Global,
-    story: &Story<'_>,
-    domain: &Domain<'_>,
-    call: &Made<'_>,
-) -> Result<String, AllocError> {
-    let mut text = format!(in alloc; "{} closed {} while ", call.actor, call.on)?;
-    put_awaited(&mut text, story, domain)?;
-    text.push_str(" still awaited: a close then fails its domain, a release doesn't")?;
-    Ok(text)
+fn why_of_close(alloc: Global, story: &Story<'_>, domain: &Domain<'_>, call: &Made<'_>) -> Words {
+    let mut words = Words::of(alloc, call.actor);
+    words.put(" closed ").put(call.on).put(" while ");
+    put_awaited(&mut words, story, domain);
+    words.put(" still awaited: a close then fails its domain, a release doesn't");
+    words
 }
 
 /// Puts for whom a domain waited when the call was made after which it failed after a text: `camera
 /// and encoder were`.
-fn put_awaited(
-    text: &mut String,
-    story: &Story<'_>,
+fn put_awaited(text: &mut Words, story: &Story<'_>, domain: &Domain<'_>) {
+    match awaited_names(text.alloc(), story, domain) {
+        Ok(names) => put_waiting(text, &names),
+        Err(AllocError) => text.refuse(),
+    }
+}
+
+/// The names of those for whom a domain waited then.
+fn awaited_names<'a>(
+    alloc: Global,
+    story: &Story<'a>,
     domain: &Domain<'_>,
-) -> Result<(), AllocError> {
-    let alloc = *text.allocator();
+) -> Result<Vec<&'a str>, AllocError> {
     let number = domain.ended.unwrap_or(0);
     let index = match story.nodes.get(domain.root) {
         Some(root) => root.domain,
         None => 0,
     };
     let awaited = story.awaited(alloc, index, number)?;
-    let names = story.names(alloc, &awaited)?;
-    put_waiting(text, &names)
+    story.names(alloc, &awaited)
 }
 
 /// Puts who were awaited after a text; nobody but the domain above where there are no names.
-fn put_waiting(text: &mut String, names: &[&str]) -> Result<(), AllocError> {
+fn put_waiting(text: &mut Words, names: &[&str]) {
     if names.is_empty() {
-        return text.push_str("the domain that it was attached to was");
+        text.put("the domain that it was attached to was");
+        return;
     }
-    put_few(text, names, MOST_NAMES)?;
-    text.push_str(if names.len() == 1 { " was" } else { " were" })
+    put_few(text, names, MOST_NAMES);
+    text.put(if names.len() == 1 { " was" } else { " were" });
 }
 
 /// The call after which a domain failed, if it closes one of its nodes.
@@ -83,59 +81,61 @@ fn closing<'b, 'a>(story: &'b Story<'a>, domain: &Domain<'_>) -> Option<&'b Made
 }
 
 /// Why a domain failed that was attached to a node.
-fn why_of_host(alloc: Global, story: &Story<'_>, host: usize) -> Result<String, AllocError> {
-    let name = story.name(host);
+fn why_of_host(alloc: Global, story: &Story<'_>, host: usize) -> Words {
     let verdict = match story.domain_of(host) {
         Some(above) => above.verdict(),
         None => "",
     };
+    let mut words = Words::of(alloc, "it was attached to ");
+    words.put(story.name(host));
     match verdict {
-        "failed" => format!(in alloc; "it was attached to {name}, whose domain failed"),
-        "chosen" => {
-            let which = left_out(alloc, story, host)?;
-            format!(in alloc; "it was attached to {name}: {which}")
-        }
-        _ => format!(in alloc; "it was attached to {name}, whose domain is {verdict}"),
-    }
+        "failed" => words.put(", whose domain failed"),
+        "chosen" => words.put(": ").put_words(&left_out(alloc, story, host)),
+        _ => words.put(", whose domain is ").put(verdict),
+    };
+    words
 }
 
 /// Tells how many selections there are, and the groups' children that make them.
-pub(crate) fn tell_too_many(
-    items: &mut Items,
-    story: &Story<'_>,
-    index: usize,
-) -> Result<(), AllocError> {
+pub(crate) fn tell_too_many(items: &mut Items, story: &Story<'_>, index: usize) {
     let alloc = items.alloc();
-    let why = String::from_str(
-        alloc,
+    items.say_text(
+        1,
+        "why",
         "the groups' children make more selections than the 4096 that are tried",
     );
-    tell(items, 1, "why", why)?;
-    tell(items, 1, "groups", groups_text(alloc, story, index))
+    items.say(1, "groups", groups_text(alloc, story, index))
 }
 
 /// A domain's groups, and how many children each has.
-fn groups_text(alloc: Global, story: &Story<'_>, index: usize) -> Result<String, AllocError> {
-    let mut text = String::from_str(alloc, "children: ")?;
-    put_groups(&mut text, story, index)?;
-    Ok(text)
+fn groups_text(alloc: Global, story: &Story<'_>, index: usize) -> Words {
+    let mut words = Words::of(alloc, "children: ");
+    match groups_of(alloc, story, index) {
+        Ok(parts) => put_texts(&mut words, &parts, 12),
+        Err(AllocError) => words.refuse(),
+    }
+    words
 }
 
-/// Puts a domain's groups and how many children each has after a text.
-fn put_groups(text: &mut String, story: &Story<'_>, index: usize) -> Result<(), AllocError> {
-    let alloc = *text.allocator();
-    let mut parts: Vec<String> = Vec::new(alloc);
+/// Each of a domain's groups, with how many children it has.
+fn groups_of(alloc: Global, story: &Story<'_>, index: usize) -> Result<Vec<String>, AllocError> {
+    let mut parts: Gathered<String> = Gathered::new(alloc);
     for group in &groups_in(alloc, story, index)? {
-        parts.push(children_of(alloc, story, *group)?)?;
+        parts.add_words(children_of(alloc, story, *group));
     }
-    put_texts(text, &parts, 12)
+    parts.done()
 }
 
 /// How many children a group has: `layouts 2`.
-fn children_of(alloc: Global, story: &Story<'_>, group: usize) -> Result<String, AllocError> {
-    let count = story.children(alloc, group)?.len();
-    let name = story.name(group);
-    format!(in alloc; "{name} {count}")
+fn children_of(alloc: Global, story: &Story<'_>, group: usize) -> Words {
+    let mut words = Words::of(alloc, story.name(group));
+    match story.children(alloc, group) {
+        Ok(children) => {
+            words.put(" ").put_number(children.len());
+        }
+        Err(AllocError) => words.refuse(),
+    }
+    words
 }
 
 /// Tells why a domain has no settings.
@@ -156,11 +156,10 @@ pub(crate) fn tell_none(
     };
     let mut told = 0usize;
     tell_empty(items, 1, empty, &[], &mut told, story.nodes.len())?;
-    if told < MOST_TOLD {
-        return Ok(());
+    if told >= MOST_TOLD {
+        items.say_text(1, "", "further selections fail too");
     }
-    let text = String::from_str(items.alloc(), "further selections fail too");
-    tell(items, 1, "", text)
+    Ok(())
 }
 
 /// Tells why settings that were decided before don't suit those of an attached domain.
@@ -177,7 +176,7 @@ fn tell_late(
     let people = asked_in(items.alloc(), story, index, false)?;
     let before = accepted_before(items.alloc(), story, index)?;
     tell_room(items, &before, &people, settings.count)?;
-    tell_fewer(items, &people, settings.count)?;
+    tell_fewer(items, &people, settings.count);
     tell_unsuited(items, platform, &people, &before, settings)
 }
 
@@ -238,7 +237,7 @@ pub fn accepted_before<'a>(
         Some(domain) => domain.ended.unwrap_or(usize::MAX),
         None => usize::MAX,
     };
-    let mut accepted: Vec<Asked<'a>> = Vec::new(alloc);
+    let mut accepted: Gathered<Asked<'a>> = Gathered::new(alloc);
     for earlier in &story.order {
         if *earlier == index {
             break;
@@ -247,7 +246,7 @@ pub fn accepted_before<'a>(
             add_open(&mut accepted, story, *earlier, decided)?;
         }
     }
-    Ok(accepted)
+    accepted.done()
 }
 
 /// Whether settings were chosen in the domain of an index.
@@ -260,14 +259,14 @@ fn is_chosen(story: &Story<'_>, index: usize) -> bool {
 
 /// Adds those of a domain who weren't released or closed before the call of a number.
 fn add_open<'a>(
-    accepted: &mut Vec<Asked<'a>>,
+    accepted: &mut Gathered<Asked<'a>>,
     story: &Story<'a>,
     index: usize,
     number: usize,
 ) -> Result<(), AllocError> {
-    for one in &asked_in(*accepted.allocator(), story, index, true)? {
+    for one in &asked_in(accepted.alloc(), story, index, true)? {
         if story.deed_before(one.node, Deed::End, number).is_none() {
-            accepted.push(*one)?;
+            accepted.add(*one);
         }
     }
     Ok(())
@@ -299,36 +298,37 @@ fn tell_room<'a>(
 ) -> Result<(), AllocError> {
     let mut all = Vec::from_slice(items.alloc(), before)?;
     all.extend_from_slice(people)?;
-    tell_lacking(items, &all, count)
+    tell_lacking(items, &all, count);
+    Ok(())
 }
 
 /// Tells how many buffers all need together, where more than were decided.
-fn tell_lacking(items: &mut Items, all: &[Asked<'_>], count: u32) -> Result<(), AllocError> {
+fn tell_lacking(items: &mut Items, all: &[Asked<'_>], count: u32) {
     let alloc = items.alloc();
     let most = needed_by(all);
     let lacking = most.saturating_sub(u64::from(count));
     if lacking == 0 {
-        return Ok(());
+        return;
     }
     let were = if count == 1 { "was" } else { "were" };
-    let why = why_needed(alloc, all)?;
-    let text = format!(in alloc;
-        "{most} buffers are needed, {count} {were} decided, {lacking} too few: {why}"
-    );
-    tell(items, 1, "count", text)
+    let mut words = Words::new(alloc);
+    words.put_number(most).put(" buffers are needed, ");
+    words.put_number(count).put(" ").put(were).put(" decided, ");
+    words.put_number(lacking).put(" too few: ");
+    words.put_words(&why_needed(alloc, all));
+    items.say(1, "count", words)
 }
 
 /// Tells who takes fewer buffers than were decided.
-fn tell_fewer(items: &mut Items, people: &[Asked<'_>], count: u32) -> Result<(), AllocError> {
+fn tell_fewer(items: &mut Items, people: &[Asked<'_>], count: u32) {
     for one in people {
         let most = one.asked.counts().max_buffer_count;
         if most < count {
-            let name = one.name;
-            let text = format!(in items.alloc();
-                "{name} takes at most {most} buffers (max_buffer_count), {count} were decided"
-            );
-            tell(items, 1, "count", text)?;
+            let mut words = Words::of(items.alloc(), one.name);
+            words.put(" takes at most ").put_number(most);
+            words.put(" buffers (max_buffer_count), ");
+            words.put_number(count).put(" were decided");
+            items.say(1, "count", words);
         }
     }
-    Ok(())
 }

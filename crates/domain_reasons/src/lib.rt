@@ -3,7 +3,7 @@
 //!
 //! ```
 //! tell_domain(&mut items, &script.platform, &story, 0)?;
-//! print!(rt; "{}", text_of(rt.alloc(), &items.into_list())?)?;
+//! print!(rt; "{}", text_of(rt.alloc(), &items.into_list()?)?)?;
 //! ```
 #![tactic(auto)]
 

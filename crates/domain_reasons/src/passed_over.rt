@@ -1,8 +1,7 @@
 //! Children of groups after the chosen one that couldn't have been chosen.
 
 use crate::selecting::{Choice, Empty, Reached, open_group, reach, with_choice};
-use crate::short::tell;
-use explanation_text::Items;
+use explanation_text::{Items, Words};
 use settings_reasons::{is_unmet, tell_conflict};
 use std::alloc::{AllocError, Global};
 
@@ -99,8 +98,12 @@ fn tell_why(
     reached: &Reached<'_>,
 ) -> Result<(), AllocError> {
     let (later, before) = (empty.story.name(child), empty.story.name(chosen.child));
-    let text = format!(in items.alloc(); "{later}, which comes after {before}, can't be met:");
-    tell(items, 2, "", text)?;
+    let mut words = Words::of(items.alloc(), later);
+    words
+        .put(", which comes after ")
+        .put(before)
+        .put(", can't be met:");
+    items.say(2, "", words);
     tell_conflict(
         items,
         3,

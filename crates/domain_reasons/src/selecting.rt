@@ -1,9 +1,8 @@
 //! Why no selection of groups' children has settings.
 
 use crate::choosing::MOST_CHOICES;
-use crate::short::tell;
 use explanation_text::wording::put_joined;
-use explanation_text::{Items, are_same};
+use explanation_text::{Gathered, Items, Words, are_same};
 use script_story::{Story, asked_by};
 use settings_reasons::{is_unmet, tell_conflict};
 use std::alloc::{AllocError, Global};
@@ -182,7 +181,8 @@ fn tell_group(
         )?;
         add_case(&mut cases, empty.story.name(child), below)?;
     }
-    put_cases(items, depth, empty.story.name(group), cases)
+    put_cases(items, depth, empty.story.name(group), cases);
+    Ok(())
 }
 
 /// Children of a group of which the same is told.
@@ -206,36 +206,26 @@ fn add_case<'a>(cases: &mut Vec<Case<'a>>, name: &'a str, below: Items) -> Resul
 }
 
 /// Puts what holds for each child of a group after the items.
-fn put_cases(
-    items: &mut Items,
-    depth: usize,
-    group: &str,
-    cases: Vec<Case<'_>>,
-) -> Result<(), AllocError> {
+fn put_cases(items: &mut Items, depth: usize, group: &str, cases: Vec<Case<'_>>) {
     for case in cases {
-        put_case(items, depth, group, case)?;
+        put_case(items, depth, group, case);
     }
-    Ok(())
 }
 
 /// Puts what holds for some children of a group after the items.
-fn put_case(
-    items: &mut Items,
-    depth: usize,
-    group: &str,
-    case: Case<'_>,
-) -> Result<(), AllocError> {
+fn put_case(items: &mut Items, depth: usize, group: &str, case: Case<'_>) {
     let head = head_of(items.alloc(), group, &case.names);
-    tell(items, depth, "", head)?;
+    items.say(depth, "", head);
     items.append(case.below)
 }
 
 /// What stands above what is told of some children of a group.
-fn head_of(alloc: Global, group: &str, names: &[&str]) -> Result<String, AllocError> {
-    let mut text = format!(in alloc; "{group} as ")?;
-    put_joined(&mut text, names, "or")?;
-    text.push_str(":")?;
-    Ok(text)
+fn head_of(alloc: Global, group: &str, names: &[&str]) -> Words {
+    let mut words = Words::of(alloc, group);
+    words.put(" as ");
+    put_joined(&mut words, names, "or");
+    words.put(":");
+    words
 }
 
 /// Tells of each group in a chosen selection why its children before the chosen one aren't chosen.
@@ -283,9 +273,9 @@ fn tell_not(
     told: &mut usize,
     other: Choice,
 ) -> Result<(), AllocError> {
-    let name = empty.story.name(other.child);
-    let text = format!(in items.alloc(); "not {name}:");
-    tell(items, 2, "", text)?;
+    let mut words = Words::of(items.alloc(), "not ");
+    words.put(empty.story.name(other.child)).put(":");
+    items.say(2, "", words);
     let longer = with_choice(items.alloc(), choices, other.group, other.child)?;
     tell_empty(items, 3, empty, &longer, told, empty.story.nodes.len())
 }
@@ -298,14 +288,16 @@ pub fn choices_in(
     root: usize,
     line: &str,
 ) -> Result<String, AllocError> {
-    let mut texts: Vec<String> = Vec::new(alloc);
+    let mut texts: Gathered<String> = Gathered::new(alloc);
     for choice in &choices_of(alloc, story, root, line)? {
-        let (name, chosen) = (story.name(choice.group), story.name(choice.child));
-        texts.push(format!(in alloc; "{name}: {chosen}")?)?;
+        let mut words = Words::of(alloc, story.name(choice.group));
+        words.put(": ").put(story.name(choice.child));
+        texts.add_words(words);
     }
-    let mut text = String::new(alloc);
-    put_texts(&mut text, &texts, MOST_CHOICES)?;
-    Ok(text)
+    let texts = texts.done()?;
+    let mut words = Words::new(alloc);
+    put_texts(&mut words, &texts, MOST_CHOICES);
+    words.done()
 }
 
 /// The choices of a line on a domain.

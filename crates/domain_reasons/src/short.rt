@@ -11,16 +11,6 @@ use sysmem_sanitise::Platform;
 /// How many lines are told of a domain.
 const MOST: usize = 8;
 
-/// Tells words with a label, if there was memory for them.
-pub(crate) fn tell(
-    items: &mut Items,
-    depth: usize,
-    label: &'static str,
-    words: Result<String, AllocError>,
-) -> Result<(), AllocError> {
-    items.say(depth, label, words?)
-}
-
 /// Tells the answer of a story, which calls are refused, and why each domain has no settings, or
 /// none with an earlier child.
 pub fn tell_in_short(
@@ -29,9 +19,9 @@ pub fn tell_in_short(
     story: &Story<'_>,
 ) -> Result<(), AllocError> {
     let alloc = items.alloc();
-    tell(items, 2, "", answer_of(alloc, story))?;
-    for words in refused_words(alloc, story)? {
-        items.say(2, "", words)?;
+    items.say_text(2, "", &answer_of(alloc, story)?);
+    for text in &refused_words(alloc, story)? {
+        items.say_text(2, "", text);
     }
     for index in 0..story.domains.len() {
         tell_shortly(items, platform, story, index)?;
@@ -49,13 +39,13 @@ fn tell_shortly(
     let mut section = Items::new(items.alloc());
     tell_reasons(&mut section, &*platform, &*story, index)?;
     let mut told = 0usize;
-    for mut item in section.into_list() {
+    for mut item in section.into_list()? {
         if item.kind == Kind::Title || item.label == "who" || told >= MOST {
             continue;
         }
         told = told.saturating_add(1);
         item.depth = item.depth.saturating_add(1);
-        items.add(item)?;
+        items.add(item);
     }
     Ok(())
 }
