@@ -5,7 +5,7 @@ ghost use Rattle.std.specs.String.{string_bytes};
 ghost use Rattle.other_outcomes.specs.Exchanged.{IsPromisedExchanged, on_other};
 
 use crate::pending::place_of;
-use explanation_text::{Items, Kind};
+use explanation_text::{Gathered, Item, Items, Kind, Words};
 use script_reading::Call;
 use script_story::{Made, Setting, Story, first_word};
 use std::alloc::{AllocError, Global};
@@ -50,17 +50,19 @@ fn tell_exchanged(
     let Some(line) = outcome_with(items.alloc(), setting, story, pair, path)? else {
         return Ok(());
     };
-    say_exchanged(items, story, pair)?;
-    put_promised(items, setting, path, line)
+    say_exchanged(items, story, pair);
+    put_promised(items, setting, path, line);
+    Ok(())
 }
 
-fn say_exchanged(items: &mut Items, story: &Story<'_>, pair: Siblings) -> Result<(), AllocError> {
-    let (later, chosen) = (story.name(pair.later), story.name(pair.chosen));
-    let (first, second) = (pair.first, pair.second);
-    let text = format!(in items.alloc();
-        "{later} would do too, but is created after {chosen}, and the first child that does is chosen; with their names exchanged in calls {first} and {second} it would be:"
-    )?;
-    items.say(1, "then", text)
+fn say_exchanged(items: &mut Items, story: &Story<'_>, pair: Siblings) {
+    let mut words = Words::of(items.alloc(), story.name(pair.later));
+    words.put(" would do too, but is created after ");
+    words.put(story.name(pair.chosen));
+    words.put(", and the first child that does is chosen; with their names exchanged in calls ");
+    words.put_number(pair.first).put(" and ");
+    words.put_number(pair.second).put(" it would be:");
+    items.say(1, "then", words)
 }
 
 /// The chosen child of each group of a domain that isn't attached, with each later child.
@@ -69,7 +71,7 @@ fn siblings_in(
     story: &Story<'_>,
     index: usize,
 ) -> Result<Vec<Siblings>, AllocError> {
-    let mut pairs = Vec::new(alloc);
+    let mut pairs = Gathered::new(alloc);
     let is_first = match story.domains.get(index) {
         Some(domain) => domain.host.is_none(),
         None => false,
@@ -79,27 +81,27 @@ fn siblings_in(
             add_siblings(&mut pairs, story, group)?;
         }
     }
-    Ok(pairs)
+    pairs.done()
 }
 
 fn add_siblings(
-    pairs: &mut Vec<Siblings>,
+    pairs: &mut Gathered<Siblings>,
     story: &Story<'_>,
     group: usize,
 ) -> Result<(), AllocError> {
     let mut known = None;
-    for later in &story.children(*pairs.allocator(), group)? {
+    for later in &story.children(pairs.alloc(), group)? {
         let later = *later;
         let Some(second) = story.maker(later) else {
             continue;
         };
         if let Some((chosen, first)) = known {
-            pairs.push(Siblings {
+            pairs.add(Siblings {
                 chosen,
                 later,
                 first,
                 second,
-            })?;
+            });
         }
         if story.is_selected(later) {
             known = Some((later, second));
@@ -205,14 +207,14 @@ fn on_other<'a>(call: &Call<'a>, a: usize, b: usize) -> Call<'a>
 }
 
 /// Puts the decision that comes once two names are exchanged.
-fn put_promised(
-    items: &mut Items,
-    setting: &Setting<'_>,
-    path: &str,
-    line: String,
-) -> Result<(), AllocError>
+fn put_promised(items: &mut Items, setting: &Setting<'_>, path: &str, line: String)
     requires { IsPromisedExchanged setting.now.platform.now setting.now.calls.now path.now
         (string_bytes line) }
 {
-    items.push(Kind::Decision, 2, "->", line)
+    items.add(Item {
+        label: "->",
+        text: line,
+        depth: 2,
+        kind: Kind::Decision,
+    })
 }

@@ -8,11 +8,10 @@ ghost use Rattle.other_outcomes.specs.Moved.{IsMoved, IsPromisedMoved};
 use crate::moved::step;
 use domain_reasons::{accepted_before, room_needed};
 use explanation_text::wording::{MOST_NAMES, mark_after, put_few};
-use explanation_text::{Items, Kind};
+use explanation_text::{Gathered, Item, Items, Kind, Words};
 use script_reading::{Act, Call};
 use script_story::{Deed, Setting, Story};
 use std::alloc::{AllocError, Global};
-use std::fmt::Write;
 use value_sources::Asked;
 
 /// Over how many calls one is moved at most: for each of these the calls are gone through.
@@ -67,8 +66,8 @@ fn tell_ends(
     if ends.is_empty() || tell_before(items, setting, story, ends, decided, path)? {
         return Ok(());
     }
-    let text = still_text(items.alloc(), story, ends)?;
-    items.say(1, "note", text)
+    items.say(1, "note", still_text(items.alloc(), story, ends));
+    Ok(())
 }
 
 /// Tells what the domain at a path would be if those ended before the call of a number, if it would
@@ -84,8 +83,8 @@ fn tell_before(
     let Some(line) = outcome_before(items.alloc(), setting, ends, decided, path)? else {
         return Ok(false);
     };
-    put_head(items, story, ends, decided)?;
-    put_promised(items, setting, path, line)?;
+    put_head(items, story, ends, decided);
+    put_promised(items, setting, path, line);
     Ok(true)
 }
 
@@ -125,52 +124,50 @@ fn ended_by(story: &Story<'_>, people: &[Asked<'_>], call: usize) -> Option<usiz
 
 /// Puts what is tried: `recorder still counts here, since call 18 releases it only after call 16;
 /// with call 18 before call 16 it would be:`.
-fn put_head(
-    items: &mut Items,
-    story: &Story<'_>,
-    ends: &[End],
-    decided: usize,
-) -> Result<(), AllocError> {
-    let mut text = still_text(items.alloc(), story, ends)?;
-    put_tried(&mut text, ends, decided)?;
+fn put_head(items: &mut Items, story: &Story<'_>, ends: &[End], decided: usize) {
+    let mut text = still_text(items.alloc(), story, ends);
+    put_tried(&mut text, ends, decided);
     items.say(1, "then", text)
 }
 
 /// Puts that those are to end before the call of a number after a text.
-fn put_tried(text: &mut String, ends: &[End], decided: usize) -> Result<(), AllocError> {
-    text.push_str("; with ")?;
-    put_calls(text, ends)?;
-    write!(text, " before call {decided} it would be:")
+fn put_tried(text: &mut Words, ends: &[End], decided: usize) {
+    text.put("; with ");
+    put_calls(text, ends);
+    text.put(" before call ")
+        .put_number(decided)
+        .put(" it would be:");
 }
 
 /// That those still count.
-fn still_text(alloc: Global, story: &Story<'_>, ends: &[End]) -> Result<String, AllocError> {
-    let mut text = String::new(alloc);
-    put_names(&mut text, story, ends)?;
-    put_still(&mut text, story, ends)?;
-    Ok(text)
+fn still_text(alloc: Global, story: &Story<'_>, ends: &[End]) -> Words {
+    let mut text = Words::new(alloc);
+    put_names(&mut text, story, ends);
+    put_still(&mut text, story, ends);
+    text
 }
 
-fn put_names(text: &mut String, story: &Story<'_>, ends: &[End]) -> Result<(), AllocError> {
-    let mut names: Vec<&str> = Vec::new(*text.allocator());
+fn put_names(text: &mut Words, story: &Story<'_>, ends: &[End]) {
+    let mut names = Gathered::new(text.alloc());
     for end in ends {
-        names.push(story.name(end.node))?;
+        names.add(story.name(end.node));
     }
-    put_few(text, &names, MOST_NAMES)
+    match names.done() {
+        Ok(names) => put_few(text, &names, MOST_NAMES),
+        Err(AllocError) => text.refuse(),
+    }
 }
 
 /// Puts that those still count after their names.
-fn put_still(text: &mut String, story: &Story<'_>, ends: &[End]) -> Result<(), AllocError> {
+fn put_still(text: &mut Words, story: &Story<'_>, ends: &[End]) {
     let (counts, is) = if ends.len() == 1 {
         ("counts", "is")
     } else {
         ("count", "are")
     };
-    let verb = ending(story, ends);
-    write!(
-        text,
-        " still {counts} here, and {is} {verb} only later, by "
-    )?;
+    text.put(" still ").put(counts).put(" here, and ");
+    text.put(is).put(" ").put(ending(story, ends));
+    text.put(" only later, by ");
     put_calls(text, ends)
 }
 
@@ -191,13 +188,11 @@ fn ending(story: &Story<'_>, ends: &[End]) -> &'static str {
 }
 
 /// Puts the numbers of the calls after a text: `call 18`, `calls 18 and 20`.
-fn put_calls(text: &mut String, ends: &[End]) -> Result<(), AllocError> {
-    text.push_str(if ends.len() == 1 { "call " } else { "calls " })?;
+fn put_calls(text: &mut Words, ends: &[End]) {
+    text.put(if ends.len() == 1 { "call " } else { "calls " });
     for (k, end) in ends.iter().enumerate() {
-        let mark = mark_after(k, ends.len());
-        write!(text, "{}{mark}", end.call)?;
+        text.put_number(end.call).put(mark_after(k, ends.len()));
     }
-    Ok(())
 }
 
 /// What the domain at a path becomes once these calls, in their order, stand before the call of a
@@ -258,14 +253,14 @@ fn carried<'a>(
 }
 
 /// Puts the decision that comes once calls are moved.
-fn put_promised(
-    items: &mut Items,
-    setting: &Setting<'_>,
-    path: &str,
-    line: String,
-) -> Result<(), AllocError>
+fn put_promised(items: &mut Items, setting: &Setting<'_>, path: &str, line: String)
     requires { IsPromisedMoved setting.now.platform.now setting.now.calls.now path.now
         (string_bytes line) }
 {
-    items.push(Kind::Decision, 2, "->", line)
+    items.add(Item {
+        label: "->",
+        text: line,
+        depth: 2,
+        kind: Kind::Decision,
+    })
 }

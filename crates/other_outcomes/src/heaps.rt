@@ -1,7 +1,7 @@
 //! A platform one of whose heaps is contiguous or secure, where participants need that.
 
 use crate::platforms::{heaps_of, outcome_on};
-use explanation_text::{Items, Kind};
+use explanation_text::{Item, Items, Kind, Words};
 use script_story::Setting;
 use std::alloc::{AllocError, Global};
 use sysmem_memory::Heap;
@@ -69,21 +69,25 @@ fn tell_first(
     let alloc = items.alloc();
     for (index, info) in setting.platform.heaps().iter().enumerate() {
         if let Some(line) = outcome_so(alloc, setting, path, index, wanted)? {
-            say_heap(items, &info.heap, wanted)?;
-            return items.push(Kind::Decision, 2, "->", line);
+            say_heap(items, &info.heap, wanted);
+            items.add(Item {
+                label: "->",
+                text: line,
+                depth: 2,
+                kind: Kind::Decision,
+            });
+            return Ok(());
         }
     }
     Ok(())
 }
 
-fn say_heap(items: &mut Items, heap: &Heap, wanted: Trait) -> Result<(), AllocError> {
-    let name = heap.heap_type.as_str();
-    let id = heap.id;
-    let word = wanted.name();
-    let text = format!(in items.alloc();
-        "with {name}#{id} {word} on the platform, which doesn't say so, it would be:"
-    )?;
-    items.say(1, "then", text)
+fn say_heap(items: &mut Items, heap: &Heap, wanted: Trait) {
+    let mut words = Words::of(items.alloc(), "with ");
+    words.put(&heap.heap_type).put("#").put_number(heap.id);
+    words.put(" ").put(wanted.name());
+    words.put(" on the platform, which doesn't say so, it would be:");
+    items.say(1, "then", words)
 }
 
 /// What the domain at a path would be if the heap of an index were so that isn't, if it would be

@@ -1,7 +1,7 @@
 //! A platform that has another pair first, where participants list that before the chosen one.
 
 use crate::platforms::{heaps_of, outcome_on};
-use explanation_text::{Items, Kind};
+use explanation_text::{Gathered, Item, Items, Kind, Words};
 use script_story::{Setting, Story, asked_in};
 use settings_reasons::listed_before;
 use std::alloc::{AllocError, Global};
@@ -55,8 +55,14 @@ fn tell_pair(
     let Some(line) = outcome_first(items.alloc(), setting, path, pair)? else {
         return Ok(());
     };
-    say_pair(items, pair, chosen)?;
-    items.push(Kind::Decision, 2, "->", line)
+    say_pair(items, pair, chosen);
+    items.add(Item {
+        label: "->",
+        text: line,
+        depth: 2,
+        kind: Kind::Decision,
+    });
+    Ok(())
 }
 
 /// The pair that was chosen for a domain that isn't attached.
@@ -71,13 +77,15 @@ fn pair_of(story: &Story<'_>, index: usize) -> Option<Pair> {
     }
 }
 
-fn say_pair(items: &mut Items, pair: Pair, chosen: Pair) -> Result<(), AllocError> {
-    let (format, modifier) = (pair.format.name(), pair.modifier.name());
-    let (first, its) = (chosen.format.name(), chosen.modifier.name());
-    let text = format!(in items.alloc();
-        "{format} {modifier} would do too, but stands after {first} {its} on the platform, whose order decides, not the entries'; with it first there it would be:"
-    )?;
-    items.say(1, "then", text)
+fn say_pair(items: &mut Items, pair: Pair, chosen: Pair) {
+    let mut words = Words::of(items.alloc(), pair.format.name());
+    words.put(" ").put(pair.modifier.name());
+    words.put(" would do too, but stands after ");
+    words.put(chosen.format.name()).put(" ");
+    words.put(chosen.modifier.name());
+    words.put(" on the platform, whose order decides, not the entries'; ");
+    words.put("with it first there it would be:");
+    items.say(1, "then", words)
 }
 
 /// What the domain at a path would be if a pair stood first on the platform, if that would be
@@ -98,19 +106,22 @@ fn outcome_first(
 
 /// The pairs of a platform with one of them first.
 fn pairs_from(alloc: Global, platform: &Platform, first: Pair) -> Result<Vec<Pair>, AllocError> {
-    let mut pairs = vec![in alloc; first]?;
+    let mut pairs = Gathered::new(alloc);
+    pairs.add(first);
     for other in platform.pairs() {
         if *other != first {
-            pairs.push(*other)?;
+            pairs.add(*other);
         }
     }
-    Ok(pairs)
+    pairs.done()
 }
 
 /// What was chosen, if that is an image of a pair.
 fn if_of(alloc: Global, line: String, pair: Pair) -> Result<Option<String>, AllocError> {
-    let (format, modifier) = (pair.format.name(), pair.modifier.name());
-    let image = format!(in alloc; " image {format} {modifier} ")?;
+    let mut words = Words::of(alloc, " image ");
+    words.put(pair.format.name()).put(" ");
+    words.put(pair.modifier.name()).put(" ");
+    let image = words.done()?;
     if line.as_str().contains(image.as_str()) {
         Ok(Some(line))
     } else {

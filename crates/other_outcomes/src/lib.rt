@@ -4,7 +4,7 @@
 //!
 //! ```
 //! tell_moved(&mut items, &setting, &value, &story)?;
-//! print!(rt; "{}", text_of(rt.alloc(), &items.into_list())?)?;
+//! print!(rt; "{}", text_of(rt.alloc(), &items.into_list()?)?)?;
 //! ```
 #![tactic(auto)]
 

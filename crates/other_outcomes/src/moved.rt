@@ -6,13 +6,12 @@ ghost use Rattle.script_reading.specs.declared.call.Call.{Call as Called};
 ghost use Rattle.other_outcomes.specs.Moved.{IsMoved, IsPromisedMoved, moving};
 
 use domain_reasons::tell_in_short;
-use explanation_text::{Items, Kind};
+use explanation_text::{Gathered, Item, Items, Kind, Words};
 use script_reading::{Call, ParseFault, read_script};
 use script_replay::Replayed;
 use script_story::{Move, Setting, Story, moves_in, story_of};
 use serde_json::Value;
 use std::alloc::{AllocError, Global};
-use std::fmt::Write;
 
 /// Tells what would be refused and pending next, and what each domain would be, once the calls that
 /// stand too early are moved.
@@ -76,26 +75,25 @@ fn tell_story(
     moves: &[Move],
     then: &Story<'_>,
 ) -> Result<(), AllocError> {
-    say_moves(items, moves, " the script has, its calls numbered anew:")?;
+    say_moves(items, moves, " the script has, its calls numbered anew:");
     tell_in_short(items, setting.platform, then)
 }
 
 /// Tells that calls are moved, with words after that.
-fn say_moves(items: &mut Items, moves: &[Move], end: &str) -> Result<(), AllocError> {
-    let mut text = String::from_str(items.alloc(), "with ")?;
-    put_moves(&mut text, moves)?;
-    text.push_str(end)?;
-    items.say(1, "then", text)
+fn say_moves(items: &mut Items, moves: &[Move], end: &str) {
+    let mut words = Words::of(items.alloc(), "with ");
+    put_moves(&mut words, moves);
+    words.put(end);
+    items.say(1, "then", words)
 }
 
 /// Puts which calls are moved after a text: `call 5 moved after call 6`.
-fn put_moves(text: &mut String, moves: &[Move]) -> Result<(), AllocError> {
+fn put_moves(text: &mut Words, moves: &[Move]) {
     for (k, one) in moves.iter().enumerate() {
-        let mark = if k > 0 { " and " } else { "" };
-        let (call, after) = (one.call, one.after);
-        write!(text, "{mark}call {call} moved after call {after}")?;
+        text.put(if k > 0 { " and call " } else { "call " });
+        text.put_number(one.call).put(" moved after call ");
+        text.put_number(one.after);
     }
-    Ok(())
 }
 
 /// The script with its calls in the order that they have once some are moved.
@@ -111,13 +109,13 @@ fn reordered(alloc: Global, value: &Value, moves: &[Move]) -> Result<Value, Allo
 /// Calls in the order that they have once some are moved.
 fn in_order(alloc: Global, calls: &[Value], moves: &[Move]) -> Result<Vec<Value>, AllocError> {
     let order = order_of(alloc, calls.len(), moves)?;
-    let mut list = Vec::new(alloc);
+    let mut list = Gathered::new(alloc);
     for place in &order {
         if let Some(call) = calls.get(*place) {
-            list.push(call.clone()?)?;
+            list.add(call.clone()?);
         }
     }
-    Ok(list)
+    list.done()
 }
 
 /// The places of so many calls, from 0, in the order that they have once some are moved, from the
@@ -135,16 +133,16 @@ fn order_of(alloc: Global, count: usize, moves: &[Move]) -> Result<Vec<usize>, A
 fn order_after(alloc: Global, order: &[usize], one: Move) -> Result<Vec<usize>, AllocError> {
     let from = place_in(order, one.call);
     let to = place_in(order, one.after);
-    let mut next = Vec::new(alloc);
+    let mut next = Gathered::new(alloc);
     for (k, place) in order.iter().enumerate() {
         if k != from {
-            next.push(*place)?;
+            next.add(*place);
         }
         if k == to {
-            next.push(one.call.saturating_sub(1))?;
+            next.add(one.call.saturating_sub(1));
         }
     }
-    Ok(next)
+    next.done()
 }
 
 /// Where the call of a number stands.
@@ -240,11 +238,12 @@ pub fn tell_then(
     }
     match outcome_moved(items.alloc(), setting, &moves, path)? {
         Some(line) if line.as_str() != "pending" => {
-            say_moves(items, &moves, " it would be:")?;
-            put_promised(items, setting, path, line)
+            say_moves(items, &moves, " it would be:");
+            put_promised(items, setting, path, line);
         }
-        _ => Ok(()),
+        _ => {}
     }
+    Ok(())
 }
 
 /// Whether a call that is moved makes a name: then the names stand in another order.
@@ -259,14 +258,14 @@ fn make_name(story: &Story<'_>, moves: &[Move]) -> bool {
 }
 
 /// Puts the decision that comes once calls are moved.
-fn put_promised(
-    items: &mut Items,
-    setting: &Setting<'_>,
-    path: &str,
-    line: String,
-) -> Result<(), AllocError>
+fn put_promised(items: &mut Items, setting: &Setting<'_>, path: &str, line: String)
     requires { IsPromisedMoved setting.now.platform.now setting.now.calls.now path.now
         (string_bytes line) }
 {
-    items.push(Kind::Decision, 2, "->", line)
+    items.add(Item {
+        label: "->",
+        text: line,
+        depth: 2,
+        kind: Kind::Decision,
+    })
 }

@@ -2,7 +2,7 @@
 
 use domain_reasons::who_holds_up;
 use explanation_text::wording::{MOST_NAMES, put_few};
-use explanation_text::{Items, Kind};
+use explanation_text::{Item, Items, Kind, Words};
 use script_reading::{Act, Call};
 use script_story::{Setting, Story};
 use std::alloc::{AllocError, Global};
@@ -38,7 +38,13 @@ fn tell_with(
     match setting.outcome(items.alloc(), calls, path)? {
         Some(line) if line.as_str() != "pending" => {
             say_ended(items, story, awaited, " it would be:")?;
-            items.push(Kind::Decision, 2, "->", line)
+            items.add(Item {
+                label: "->",
+                text: line,
+                depth: 2,
+                kind: Kind::Decision,
+            });
+            Ok(())
         }
         _ => say_ended(items, story, awaited, " it would wait still"),
     }
@@ -51,14 +57,15 @@ fn say_ended(
     awaited: &[usize],
     end: &str,
 ) -> Result<(), AllocError> {
-    let mut text = String::from_str(items.alloc(), "with ")?;
-    put_ended(&mut text, story, awaited)?;
-    text.push_str(end)?;
-    items.say(1, "then", text)
+    let mut words = Words::of(items.alloc(), "with ");
+    put_ended(&mut words, story, awaited)?;
+    words.put(end);
+    items.say(1, "then", words);
+    Ok(())
 }
 
 /// Puts who would be released and what would be complete after a text.
-fn put_ended(text: &mut String, story: &Story<'_>, awaited: &[usize]) -> Result<(), AllocError> {
+fn put_ended(text: &mut Words, story: &Story<'_>, awaited: &[usize]) -> Result<(), AllocError> {
     let is_one_gone = put_those(text, story, awaited, false, "")?;
     let mark = if is_one_gone { " and " } else { "" };
     let _is_one_full = put_those(text, story, awaited, true, mark)?;
@@ -68,19 +75,19 @@ fn put_ended(text: &mut String, story: &Story<'_>, awaited: &[usize]) -> Result<
 /// Puts those that are groups and would be complete, or the others, which would be released, after
 /// a text with a mark, and says whether there are some.
 fn put_those(
-    text: &mut String,
+    text: &mut Words,
     story: &Story<'_>,
     awaited: &[usize],
     are_groups: bool,
     mark: &str,
 ) -> Result<bool, AllocError> {
-    let names = names_of(*text.allocator(), story, awaited, are_groups)?;
+    let names = names_of(text.alloc(), story, awaited, are_groups)?;
     if names.is_empty() {
         return Ok(false);
     }
-    text.push_str(mark)?;
-    put_few(text, &names, MOST_NAMES)?;
-    text.push_str(if are_groups { " complete" } else { " released" })?;
+    text.put(mark);
+    put_few(text, &names, MOST_NAMES);
+    text.put(if are_groups { " complete" } else { " released" });
     Ok(true)
 }
 

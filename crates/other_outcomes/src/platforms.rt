@@ -1,6 +1,6 @@
 //! A platform with one pair more, where participants take a format that it lacks.
 
-use explanation_text::{Items, Kind};
+use explanation_text::{Gathered, Item, Items, Kind, Words};
 use script_story::Setting;
 use std::alloc::{AllocError, Global};
 use sysmem_formats::{Modifier, Pair};
@@ -23,18 +23,25 @@ pub fn tell_platform(
     let lacked = lacked_pairs(alloc, setting.platform, people)?;
     for pair in lacked.iter().take(MOST) {
         if let Some(line) = outcome_with(alloc, setting, path, *pair)? {
-            say_pair(items, *pair)?;
-            return items.push(Kind::Decision, 2, "->", line);
+            say_pair(items, *pair);
+            items.add(Item {
+                label: "->",
+                text: line,
+                depth: 2,
+                kind: Kind::Decision,
+            });
+            return Ok(());
         }
     }
     Ok(())
 }
 
-fn say_pair(items: &mut Items, pair: Pair) -> Result<(), AllocError> {
-    let format = pair.format.name();
-    let modifier = pair.modifier.name();
-    let text = format!(in items.alloc(); "with {format} {modifier} on the platform it would be:")?;
-    items.say(1, "then", text)
+fn say_pair(items: &mut Items, pair: Pair) {
+    let mut words = Words::of(items.alloc(), "with ");
+    words.put(pair.format.name()).put(" ");
+    words.put(pair.modifier.name());
+    words.put(" on the platform it would be:");
+    items.say(1, "then", words)
 }
 
 /// What the domain at a path would be on the platform with one pair more, if it would be chosen.
@@ -75,9 +82,9 @@ fn lacked_pairs(
 
 /// The platform's heaps.
 pub(crate) fn heaps_of(alloc: Global, platform: &Platform) -> Result<Vec<HeapInfo>, AllocError> {
-    let mut heaps = Vec::new(alloc);
+    let mut heaps = Gathered::new(alloc);
     for info in platform.heaps() {
-        heaps.push(HeapInfo {
+        heaps.add(HeapInfo {
             heap: Heap {
                 heap_type: info.heap.heap_type.clone()?,
                 id: info.heap.id,
@@ -85,9 +92,9 @@ pub(crate) fn heaps_of(alloc: Global, platform: &Platform) -> Result<Vec<HeapInf
             contiguous: info.contiguous,
             secure: info.secure,
             domains: info.domains,
-        })?;
+        });
     }
-    Ok(heaps)
+    heaps.done()
 }
 
 /// What the domain at a path would be on the platform with these heaps and pairs, if it would be
