@@ -7,7 +7,7 @@
 //! if !does_one {
 //!     tell_together(&mut items, group, &edits)?;
 //! }
-//! print!(rt; "{}", text_of(rt.alloc(), &items.into_list())?)?;
+//! print!(rt; "{}", text_of(rt.alloc(), &items.into_list()?)?)?;
 //! ```
 #![tactic(auto)]
 

@@ -4,8 +4,8 @@
 //!
 //! ```
 //! let mut items = Items::new(rt.alloc());
-//! items.say(1, "who", String::from_str(rt.alloc(), "camera /0 and display /1")?)?;
-//! print!(rt; "{}", text_of(rt.alloc(), &items.into_list())?)?;
+//! items.say_text(1, "who", "camera /0 and display /1");
+//! print!(rt; "{}", text_of(rt.alloc(), &items.into_list()?)?)?;
 //! if let Some(span) = span_of(rt.alloc(), bytes, &[Step::Key("calls"), Step::Item(3)], &value)? {
 //!     println!(rt; "line {}", line_of(bytes, span.start))?;
 //! }
