@@ -12,7 +12,7 @@ use crate::trials::{
 };
 use constraint_edits::{Edit, changes, edited, is_absurd};
 use domain_reasons::{choices_in, room_needed};
-use explanation_text::{Items, Kind};
+use explanation_text::{Item, Items, Kind, Words};
 use script_story::{Deed, Effort, Story, asked_in};
 use std::alloc::{AllocError, Global};
 use std::slice::from_ref;
@@ -72,9 +72,9 @@ pub fn tell_changes(
         is_sized: are_sized(group.people),
     };
     try_all(&mut search, group, index, edits)?;
-    put_head(items, &search, group.setting.effort)?;
+    put_head(items, &search, group.setting.effort);
     let count = search.count;
-    items.append(search.found)?;
+    items.append(search.found);
     Ok(count > 0)
 }
 
@@ -269,7 +269,7 @@ fn tell_found(
     let choice = choices_in(alloc, group.story, group.root, &found.line)?;
     let who = group.who_changes(alloc, one, edit, &found.value)?;
     let label = search.label();
-    put_change(&mut search.found, trial, label, &who, found)?;
+    put_change(&mut search.found, trial, label, &who, found);
     put_choice(&mut search.found, 3, choice)
 }
 
@@ -289,43 +289,52 @@ fn leaves_none_unstated(
     change_leaves_none(alloc, group, search.parties, one, change)
 }
 
-fn put_head(items: &mut Items, search: &Search<'_, '_>, effort: &Effort) -> Result<(), AllocError> {
-    let mut text = head_of(items.alloc(), search)?;
+fn put_head(items: &mut Items, search: &Search<'_, '_>, effort: &Effort) {
+    let mut words = head_of(items.alloc(), search);
     if search.count == 0 && effort.is_spent() {
-        text.push_str("; to try more would take long")?;
+        words.put("; to try more would take long");
     }
-    items.say(1, "change", text)
+    items.say(1, "change", words)
 }
 
-fn head_of(alloc: Global, search: &Search<'_, '_>) -> Result<String, AllocError> {
-    let (tried, absurd) = (search.tried, search.absurd);
+fn head_of(alloc: Global, search: &Search<'_, '_>) -> Words {
+    let mut words = Words::new(alloc);
     match search.count {
-        0 if absurd > 0 => format!(in alloc;
-            "none was found that helps alone, of {tried} that were tried, but {absurd} that leave a tiny image or a row long beyond measure"
-        ),
-        0 => format!(in alloc; "none was found that helps alone, of {tried} that were tried"),
-        1 => String::from_str(
-            alloc,
-            "this alone suffices (maybe not the only one that does):",
-        ),
-        _ => String::from_str(alloc, "each of these alone suffices:"),
+        0 => {
+            words
+                .put("none was found that helps alone, of ")
+                .put_number(search.tried)
+                .put(" that were tried");
+            if search.absurd > 0 {
+                words
+                    .put(", but ")
+                    .put_number(search.absurd)
+                    .put(" that leave a tiny image or a row long beyond measure");
+            }
+        }
+        1 => {
+            words.put("this alone suffices (maybe not the only one that does):");
+        }
+        _ => {
+            words.put("each of these alone suffices:");
+        }
     }
+    words
 }
 
 /// Puts a change that was tried, and what it gives.
-fn put_change(
-    items: &mut Items,
-    trial: Trial<'_, '_>,
-    label: &'static str,
-    who: &str,
-    found: Found,
-) -> Result<(), AllocError>
+fn put_change(items: &mut Items, trial: Trial<'_, '_>, label: &'static str, who: &str, found: Found)
     requires { IsPromised trial.setting.now.platform.now
         (map call_seen trial.setting.now.calls.now) trial.place trial.path.now
         (string_bytes found.line) }
 {
-    let words = found.words.as_str();
-    let text = format!(in items.alloc(); "{who}: {words}")?;
-    items.say(2, label, text)?;
-    items.push(Kind::Decision, 3, "->", found.into_line())
+    let mut words = Words::of(items.alloc(), who);
+    words.put(": ").put(&found.words);
+    items.say(2, label, words);
+    items.add(Item {
+        label: "->",
+        text: found.into_line(),
+        depth: 3,
+        kind: Kind::Decision,
+    })
 }

@@ -8,6 +8,7 @@ ghost use Rattle.constraint_changes.specs.Edited.{IsPromisedSo};
 use crate::changes::Search;
 use crate::trials::{Group, Stated, chosen_with, leaves_none, put_choice, put_line, restated};
 use domain_reasons::{are_exchanged, choices_in};
+use explanation_text::{Gathered, Words};
 use script_story::{Deed, Setting, Story, asked_in};
 use serde_json::Value;
 use std::alloc::{AllocError, Global};
@@ -53,13 +54,13 @@ pub(crate) fn try_exchanges(
 
 /// All participants, by domain.
 fn partners_in<'a>(alloc: Global, story: &Story<'a>) -> Result<Vec<Partner<'a>>, AllocError> {
-    let mut partners = Vec::new(alloc);
+    let mut partners = Gathered::new(alloc);
     for domain in 0..story.domains.len() {
         for one in &asked_in(alloc, story, domain, false)? {
-            partners.push(Partner { one: *one, domain })?;
+            partners.add(Partner { one: *one, domain });
         }
     }
-    Ok(partners)
+    partners.done()
 }
 
 /// Whether a participant of the domain of an index can gain by another's constraints: in one domain
@@ -145,7 +146,7 @@ fn tell_exchange(
     let alloc = search.found.alloc();
     let choice = choices_in(alloc, group.story, group.root, &line)?;
     say_exchange(search, group, one, other)?;
-    put_line(&mut search.found, group, 3, line)?;
+    put_line(&mut search.found, group, 3, line);
     put_choice(&mut search.found, 3, choice)
 }
 
@@ -158,9 +159,14 @@ fn say_exchange(
     let alloc = search.found.alloc();
     let who = group.who(alloc, &one)?;
     let whom = group.who(alloc, &other)?;
-    let text = format!(in alloc; "{who} and {whom}: their constraints exchanged")?;
+    let mut words = Words::of(alloc, &who);
+    words
+        .put(" and ")
+        .put(&whom)
+        .put(": their constraints exchanged");
     let label = search.label();
-    search.found.say(2, label, text)
+    search.found.say(2, label, words);
+    Ok(())
 }
 
 /// What two participants' calls state once their constraints are exchanged; `None` where they are

@@ -3,6 +3,7 @@
 use crate::trials::{Change, asked_after, read_asked};
 use crate::walk::Run;
 use constraint_edits::{Amount, Changed, Edit, edited, edited_to, leave_out};
+use explanation_text::Gathered;
 use serde_json::{Value, put};
 use std::alloc::{AllocError, Global};
 use sysmem_memory::HeapInfo;
@@ -102,13 +103,14 @@ pub(crate) fn asked_with(
     own: &[Part],
     heaps: &[HeapInfo],
 ) -> Result<Option<Constraints>, AllocError> {
-    let mut changes: Vec<Change> = Vec::new(alloc);
+    let mut changes = Gathered::new(alloc);
     for part in own {
-        changes.push(Change {
+        changes.add(Change {
             edit: part.edit,
             amount: part.amount,
-        })?;
+        });
     }
+    let changes = changes.done()?;
     if let Some(asked) = asked_after(alloc, one, &changes)? {
         return Ok(Some(asked));
     }

@@ -16,7 +16,7 @@ use crate::trials::{
 use crate::walk::Walk;
 use constraint_edits::{Amount, Edit, Halving, changes, is_absurd};
 use domain_reasons::choices_in;
-use explanation_text::Items;
+use explanation_text::{Gathered, Items, Words};
 use script_story::Deed;
 use serde_json::Value;
 use std::alloc::{AllocError, Global};
@@ -436,19 +436,19 @@ impl Joint<'_, '_> {
 
     /// The constraints of each participant after some changes.
     fn stated(&self, alloc: Global, parts: &[Part]) -> Result<Vec<Stated>, AllocError> {
-        let mut stated = Vec::new(alloc);
+        let mut stated = Gathered::new(alloc);
         for person in 0..self.group.people.len() {
             if has_own(parts, person) {
                 self.add_stated(&mut stated, person, parts)?;
             }
         }
-        Ok(stated)
+        stated.done()
     }
 
     /// Adds the constraints of a participant after some changes, if it has stated some.
     fn add_stated(
         &self,
-        stated: &mut Vec<Stated>,
+        stated: &mut Gathered<Stated>,
         person: usize,
         parts: &[Part],
     ) -> Result<(), AllocError> {
@@ -461,8 +461,8 @@ impl Joint<'_, '_> {
         };
         let place = number.saturating_sub(1);
         let heaps = self.group.setting.platform.heaps();
-        let value = after(*stated.allocator(), value, person, parts, heaps)?;
-        stated.push(Stated { place, value })?;
+        let value = after(stated.alloc(), value, person, parts, heaps)?;
+        stated.add(Stated { place, value });
         Ok(())
     }
 
@@ -477,17 +477,19 @@ impl Joint<'_, '_> {
         }
         self.put_parts(items, parts, before)?;
         let choice = choices_in(alloc, self.group.story, self.group.root, &line)?;
-        put_line(items, self.group, 2, line)?;
+        put_line(items, self.group, 2, line);
         put_choice(items, 2, choice)
     }
 
     /// Puts changes that help together, each by what those before it leave.
     fn put_parts(&self, items: &mut Items, parts: &[Part], before: &str) -> Result<(), AllocError> {
         let count = parts.len();
-        let head = format!(in items.alloc();
-            "{before}these {count} together suffice (fewer weren't found):"
-        )?;
-        items.say(1, "change", head)?;
+        let mut words = Words::of(items.alloc(), before);
+        words
+            .put("these ")
+            .put_number(count)
+            .put(" together suffice (fewer weren't found):");
+        items.say(1, "change", words);
         for index in 0..count {
             self.put_part(items, parts, index)?;
         }
@@ -521,7 +523,8 @@ impl Joint<'_, '_> {
                     .who_changes(alloc, &then, part.edit, &change.value)?
             }
         };
-        say_change(items, &who, &change.words)
+        say_change(items, &who, &change.words);
+        Ok(())
     }
 }
 
@@ -537,7 +540,8 @@ fn stating<'a>(one: &Asked<'a>, value: &'a Value) -> Asked<'a> {
 }
 
 /// Tells a participant, and what it changes.
-fn say_change(items: &mut Items, who: &str, words: &str) -> Result<(), AllocError> {
-    let text = format!(in items.alloc(); "{who}: {words}")?;
-    items.say(2, "and", text)
+fn say_change(items: &mut Items, who: &str, change: &str) {
+    let mut words = Words::of(items.alloc(), who);
+    words.put(": ").put(change);
+    items.say(2, "and", words)
 }

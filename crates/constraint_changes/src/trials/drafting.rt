@@ -3,6 +3,7 @@
 use crate::trials::bounding::Bound;
 use crate::trials::entries::states_bound;
 use constraint_edits::{Amount, Edit};
+use explanation_text::Gathered;
 use serde_json::Value;
 use std::alloc::{AllocError, Global};
 use sysmem_counts::{CountConstraints, Field, Usage};
@@ -170,12 +171,12 @@ fn copied_memory(
 }
 
 fn copied_heaps(alloc: Global, heaps: &[Heap]) -> Result<Vec<Heap>, AllocError> {
-    let mut copies = Vec::new(alloc);
+    let mut copies = Gathered::new(alloc);
     for heap in heaps {
-        copies.push(Heap {
+        copies.add(Heap {
             heap_type: heap.heap_type.clone()?,
             id: heap.id,
-        })?;
+        });
     }
-    Ok(copies)
+    copies.done()
 }

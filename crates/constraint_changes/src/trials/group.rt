@@ -2,7 +2,7 @@
 
 use crate::trials::changed_lines::{changed_lines, entry_lines};
 use constraint_edits::Edit;
-use explanation_text::{Step, line_of};
+use explanation_text::{Gathered, Step, Words, line_of};
 use script_faults::{Document, Part};
 use script_story::{Deed, Setting, Story};
 use serde_json::Value;
@@ -55,18 +55,19 @@ impl Group<'_, '_> {
     /// 14)`.
     pub fn who(&self, alloc: Global, one: &Asked<'_>) -> Result<String, AllocError> {
         let number = self.story.deed(one.node, Deed::SetConstraints).unwrap_or(0);
-        let name = one.name;
-        let mut text = format!(in alloc; "{name} (call {number}")?;
         let path = [
             Step::Key("calls"),
             Step::Item(number.saturating_sub(1)),
             Step::Key("constraints"),
         ];
-        if let Some(line) = line_at(alloc, self.document, &path, Part::Key)? {
-            write!(text, ", line {line}")?;
+        let line = line_at(alloc, self.document, &path, Part::Key)?;
+        let mut words = Words::of(alloc, one.name);
+        words.put(" (call ").put_number(number);
+        if let Some(line) = line {
+            words.put(", line ").put_number(line);
         }
-        text.push_str(")")?;
-        Ok(text)
+        words.put(")");
+        words.done()
     }
 
     /// A participant, with the call that states its constraints and the lines in which they are to
@@ -80,35 +81,39 @@ impl Group<'_, '_> {
     ) -> Result<String, AllocError> {
         let number = self.story.deed(one.node, Deed::SetConstraints).unwrap_or(0);
         let place = number.saturating_sub(1);
-        let name = one.name;
-        let mut text = format!(in alloc; "{name} (call {number}")?;
         let lines = match (edit, one.stated) {
             (Edit::EntryFirst(index), _) => entry_lines(alloc, self.document, place, index)?,
             (_, Some(stated)) => changed_lines(alloc, self.document, place, stated, changed)?,
             _ => Vec::new(alloc),
         };
-        put_lines(&mut text, &lines)?;
-        text.push_str(")")?;
-        Ok(text)
+        let mut words = Words::of(alloc, one.name);
+        words.put(" (call ").put_number(number);
+        put_lines(&mut words, &lines);
+        words.put(")");
+        words.done()
     }
 }
 
 /// Puts lines after a text: `, line 14`, `, lines 14 and 19`.
-fn put_lines(text: &mut String, lines: &[usize]) -> Result<(), AllocError> {
-    let alloc = *text.allocator();
+fn put_lines(text: &mut Words, lines: &[usize]) {
     if lines.is_empty() {
-        return Ok(());
+        return;
     }
-    text.push_str(if lines.len() == 1 {
+    text.put(if lines.len() == 1 {
         ", line "
     } else {
         ", lines "
-    })?;
-    let mut texts: Vec<String> = Vec::new(alloc);
+    });
+    let mut texts: Gathered<String> = Gathered::new(text.alloc());
     for line in lines {
-        texts.push(format!(in alloc; "{line}")?)?;
+        let mut words = Words::new(text.alloc());
+        words.put_number(*line);
+        texts.add_words(words);
     }
-    put_texts(text, &texts, 4)
+    match texts.done() {
+        Ok(texts) => put_texts(text, &texts, 4),
+        Err(AllocError) => text.refuse(),
+    }
 }
 
 /// The line of the part at a path; `None` where the text has one line, or is long.

@@ -6,26 +6,26 @@ ghost use Rattle.script_reading.specs.Seen.{call_seen};
 ghost use Rattle.constraint_changes.specs.Edited.{IsPromisedSo};
 
 use crate::trials::group::Group;
-use explanation_text::{Items, Kind};
+use explanation_text::{Item, Items, Kind};
 use std::alloc::AllocError;
 
 /// Puts the decision that comes by several changes.
-pub fn put_line(
-    items: &mut Items,
-    group: Group<'_, '_>,
-    depth: usize,
-    line: String,
-) -> Result<(), AllocError>
+pub fn put_line(items: &mut Items, group: Group<'_, '_>, depth: usize, line: String)
     requires { IsPromisedSo group.setting.now.platform.now
         (map call_seen group.setting.now.calls.now) group.path.now (string_bytes line) }
 {
-    items.push(Kind::Decision, depth, "->", line)
+    items.add(Item {
+        label: "->",
+        text: line,
+        depth,
+        kind: Kind::Decision,
+    })
 }
 
 /// Puts which children a decision chooses, if it chooses some.
 pub fn put_choice(items: &mut Items, depth: usize, choice: String) -> Result<(), AllocError> {
-    if choice.is_empty() {
-        return Ok(());
+    if !choice.is_empty() {
+        items.say_text(depth, "choice", &choice);
     }
-    items.say(depth, "choice", choice)
+    Ok(())
 }

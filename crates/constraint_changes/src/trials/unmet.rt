@@ -7,6 +7,7 @@ use crate::trials::parties::Party;
 use crate::trials::restating::Stated;
 use crate::trials::trying::MOST_HALVINGS;
 use constraint_edits::{Amount, Changed, Edit, Halving};
+use explanation_text::Gathered;
 use script_story::Story;
 use serde_json::Value;
 use settings_reasons::is_unmet;
@@ -49,15 +50,16 @@ pub fn leaves_none(
             None => return Ok(false),
         }
     }
-    let mut read = Vec::new(alloc);
+    let mut read = Gathered::new(alloc);
     for (one, constraints) in stated.iter().zip(&asked) {
         if let Some(node) = group.stating(one.place) {
-            read.push(Read {
+            read.add(Read {
                 node,
                 asked: constraints,
-            })?;
+            });
         }
     }
+    let read = read.done()?;
     leave_none(alloc, group, parties, &read)
 }
 
