@@ -12,7 +12,7 @@ use crate::trials::{
 };
 use constraint_edits::{Edit, changes, edited, is_absurd};
 use domain_reasons::{choices_in, room_needed};
-use explanation_text::{Item, Items, Kind, Words};
+use explanation_text::{Items, Words};
 use script_story::{Deed, Effort, Story, asked_in};
 use std::alloc::{AllocError, Global};
 use std::slice::from_ref;
@@ -331,10 +331,5 @@ fn put_change(items: &mut Items, trial: Trial<'_, '_>, label: &'static str, who:
     let mut words = Words::of(items.alloc(), who);
     words.put(": ").put(&found.words);
     items.say(2, label, words);
-    items.add(Item {
-        label: "->",
-        text: found.into_line(),
-        depth: 3,
-        kind: Kind::Decision,
-    })
+    items.promise(3, found.into_line())
 }

@@ -133,6 +133,16 @@ impl Items {
         self.say(depth, label, Words::of(self.alloc, text))
     }
 
+    /// Puts a line of a report after the list, as one that would come of what stands above it.
+    pub fn promise(&mut self, depth: usize, line: String) {
+        self.add(Item {
+            label: "->",
+            text: line,
+            depth,
+            kind: Kind::Decision,
+        })
+    }
+
     /// Puts all of another list after this one.
     pub fn append(&mut self, others: Items) {
         match others.into_list() {

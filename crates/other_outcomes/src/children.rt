@@ -5,7 +5,7 @@ ghost use Rattle.std.specs.String.{string_bytes};
 ghost use Rattle.other_outcomes.specs.Exchanged.{IsPromisedExchanged, on_other};
 
 use crate::pending::place_of;
-use explanation_text::{Gathered, Item, Items, Kind, Words};
+use explanation_text::{Gathered, Items, Words};
 use script_reading::Call;
 use script_story::{Made, Setting, Story, first_word};
 use std::alloc::{AllocError, Global};
@@ -211,10 +211,5 @@ fn put_promised(items: &mut Items, setting: &Setting<'_>, path: &str, line: Stri
     requires { IsPromisedExchanged setting.now.platform.now setting.now.calls.now path.now
         (string_bytes line) }
 {
-    items.add(Item {
-        label: "->",
-        text: line,
-        depth: 2,
-        kind: Kind::Decision,
-    })
+    items.promise(2, line)
 }

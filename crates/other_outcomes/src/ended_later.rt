@@ -8,7 +8,7 @@ ghost use Rattle.other_outcomes.specs.Moved.{IsMoved, IsPromisedMoved};
 use crate::moved::step;
 use domain_reasons::{accepted_before, room_needed};
 use explanation_text::wording::{MOST_NAMES, mark_after, put_few};
-use explanation_text::{Gathered, Item, Items, Kind, Words};
+use explanation_text::{Gathered, Items, Words};
 use script_reading::{Act, Call};
 use script_story::{Deed, Setting, Story};
 use std::alloc::{AllocError, Global};
@@ -257,10 +257,5 @@ fn put_promised(items: &mut Items, setting: &Setting<'_>, path: &str, line: Stri
     requires { IsPromisedMoved setting.now.platform.now setting.now.calls.now path.now
         (string_bytes line) }
 {
-    items.add(Item {
-        label: "->",
-        text: line,
-        depth: 2,
-        kind: Kind::Decision,
-    })
+    items.promise(2, line)
 }

@@ -1,7 +1,7 @@
 //! A platform one of whose heaps is contiguous or secure, where participants need that.
 
 use crate::platforms::{heaps_of, outcome_on};
-use explanation_text::{Item, Items, Kind, Words};
+use explanation_text::{Items, Words};
 use script_story::Setting;
 use std::alloc::{AllocError, Global};
 use sysmem_memory::Heap;
@@ -70,12 +70,7 @@ fn tell_first(
     for (index, info) in setting.platform.heaps().iter().enumerate() {
         if let Some(line) = outcome_so(alloc, setting, path, index, wanted)? {
             say_heap(items, &info.heap, wanted);
-            items.add(Item {
-                label: "->",
-                text: line,
-                depth: 2,
-                kind: Kind::Decision,
-            });
+            items.promise(2, line);
             return Ok(());
         }
     }

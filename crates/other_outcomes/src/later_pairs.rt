@@ -1,7 +1,7 @@
 //! A platform that has another pair first, where participants list that before the chosen one.
 
 use crate::platforms::{heaps_of, outcome_on};
-use explanation_text::{Gathered, Item, Items, Kind, Words};
+use explanation_text::{Gathered, Items, Words};
 use script_story::{Setting, Story, asked_in};
 use settings_reasons::listed_before;
 use std::alloc::{AllocError, Global};
@@ -56,12 +56,7 @@ fn tell_pair(
         return Ok(());
     };
     say_pair(items, pair, chosen);
-    items.add(Item {
-        label: "->",
-        text: line,
-        depth: 2,
-        kind: Kind::Decision,
-    });
+    items.promise(2, line);
     Ok(())
 }
 

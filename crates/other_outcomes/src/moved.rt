@@ -6,7 +6,7 @@ ghost use Rattle.script_reading.specs.declared.call.Call.{Call as Called};
 ghost use Rattle.other_outcomes.specs.Moved.{IsMoved, IsPromisedMoved, moving};
 
 use domain_reasons::tell_in_short;
-use explanation_text::{Gathered, Item, Items, Kind, Words};
+use explanation_text::{Gathered, Items, Words};
 use script_reading::{Call, ParseFault, read_script};
 use script_replay::Replayed;
 use script_story::{Move, Setting, Story, moves_in, story_of};
@@ -262,10 +262,5 @@ fn put_promised(items: &mut Items, setting: &Setting<'_>, path: &str, line: Stri
     requires { IsPromisedMoved setting.now.platform.now setting.now.calls.now path.now
         (string_bytes line) }
 {
-    items.add(Item {
-        label: "->",
-        text: line,
-        depth: 2,
-        kind: Kind::Decision,
-    })
+    items.promise(2, line)
 }

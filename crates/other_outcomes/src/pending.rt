@@ -2,7 +2,7 @@
 
 use domain_reasons::who_holds_up;
 use explanation_text::wording::{MOST_NAMES, put_few};
-use explanation_text::{Item, Items, Kind, Words};
+use explanation_text::{Items, Words};
 use script_reading::{Act, Call};
 use script_story::{Setting, Story};
 use std::alloc::{AllocError, Global};
@@ -38,12 +38,7 @@ fn tell_with(
     match setting.outcome(items.alloc(), calls, path)? {
         Some(line) if line.as_str() != "pending" => {
             say_ended(items, story, awaited, " it would be:")?;
-            items.add(Item {
-                label: "->",
-                text: line,
-                depth: 2,
-                kind: Kind::Decision,
-            });
+            items.promise(2, line);
             Ok(())
         }
         _ => say_ended(items, story, awaited, " it would wait still"),

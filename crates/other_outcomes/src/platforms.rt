@@ -1,6 +1,6 @@
 //! A platform with one pair more, where participants take a format that it lacks.
 
-use explanation_text::{Gathered, Item, Items, Kind, Words};
+use explanation_text::{Gathered, Items, Words};
 use script_story::Setting;
 use std::alloc::{AllocError, Global};
 use sysmem_formats::{Modifier, Pair};
@@ -24,12 +24,7 @@ pub fn tell_platform(
     for pair in lacked.iter().take(MOST) {
         if let Some(line) = outcome_with(alloc, setting, path, *pair)? {
             say_pair(items, *pair);
-            items.add(Item {
-                label: "->",
-                text: line,
-                depth: 2,
-                kind: Kind::Decision,
-            });
+            items.promise(2, line);
             return Ok(());
         }
     }

@@ -6,7 +6,7 @@ ghost use Rattle.script_reading.specs.Seen.{call_seen};
 ghost use Rattle.constraint_changes.specs.Edited.{IsPromisedSo};
 
 use crate::trials::group::Group;
-use explanation_text::{Item, Items, Kind};
+use explanation_text::Items;
 use std::alloc::AllocError;
 
 /// Puts the decision that comes by several changes.
@@ -14,12 +14,7 @@ pub fn put_line(items: &mut Items, group: Group<'_, '_>, depth: usize, line: Str
     requires { IsPromisedSo group.setting.now.platform.now
         (map call_seen group.setting.now.calls.now) group.path.now (string_bytes line) }
 {
-    items.add(Item {
-        label: "->",
-        text: line,
-        depth,
-        kind: Kind::Decision,
-    })
+    items.promise(depth, line)
 }
 
 /// Puts which children a decision chooses, if it chooses some.
