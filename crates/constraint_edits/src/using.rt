@@ -73,11 +73,12 @@ pub(crate) fn asking_for(
     value: &Value,
     count: u32,
 ) -> Result<Option<Changed>, AllocError> {
+    if asks_for(value, count) {
+        return Ok(None);
+    }
     let name = Field::MinBufferCount.name();
-    let before = value.get(name).and_then(Value::as_u64);
     let mut words = Words::of(alloc, name);
-    match before {
-        Some(least) if least >= u64::from(count) => return Ok(None),
+    match value.get(name).and_then(Value::as_u64) {
         Some(least) => words.put(" ").put_number(least),
         None => words.put(" (absent)"),
     };
