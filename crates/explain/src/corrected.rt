@@ -2,7 +2,7 @@
 
 use domain_reasons::tell_in_short;
 use explanation_text::wording::{mark_after, put_visible};
-use explanation_text::{Item, Items, Kind, begins_character, line_of};
+use explanation_text::{Item, Items, Kind, Words, begins_character, line_of};
 use script_faults::{Document, tell_fault};
 use script_reading::{ParseFault, Script, ScriptFault, parse_script, read_script};
 use script_story::{Effort, Setting, story_of};
@@ -23,8 +23,9 @@ pub(crate) fn meant_in(
     document: &Document<'_>,
     shown: &[Item],
 ) -> Result<Vec<Meant>, AllocError> {
-    let mut file = String::new(alloc);
-    put_visible(&mut file, document.file)?;
+    let mut words = Words::new(alloc);
+    put_visible(&mut words, document.file);
+    let file = words.done()?;
     let mut meant = Vec::new(alloc);
     for item in shown {
         if item.kind != Kind::Source {
@@ -160,7 +161,7 @@ fn tell_bytes(
 ) -> Result<(), AllocError> {
     match parse_script(items.alloc(), bytes) {
         Ok(value) => {
-            say_meant(items, document.bytes, meant)?;
+            say_meant(items, document.bytes, meant);
             let other = Document {
                 file: document.file,
                 bytes,
@@ -174,11 +175,11 @@ fn tell_bytes(
 }
 
 /// Tells which texts are corrected.
-fn say_meant(items: &mut Items, bytes: &[u8], meant: &[Meant]) -> Result<(), AllocError> {
-    let mut text = String::from_str(items.alloc(), "with ")?;
-    put_meant(&mut text, bytes, meant)?;
-    text.push_str(" the script has:")?;
-    items.say(1, "then", text)
+fn say_meant(items: &mut Items, bytes: &[u8], meant: &[Meant]) {
+    let mut words = Words::of(items.alloc(), "with ");
+    put_meant(&mut words, bytes, meant);
+    words.put(" the script has:");
+    items.say(1, "then", words)
 }
 
 /// The script with what is meant; `None` where that doesn't stand in the order of the text.
@@ -198,22 +199,22 @@ fn corrected(alloc: Global, bytes: &[u8], meant: &[Meant]) -> Result<Option<Vec<
 }
 
 /// Puts what stands in the place of what after a text: `vulkan in the place of gpu (line 13)`.
-fn put_meant(text: &mut String, bytes: &[u8], meant: &[Meant]) -> Result<(), AllocError> {
+fn put_meant(text: &mut Words, bytes: &[u8], meant: &[Meant]) {
     for (k, one) in meant.iter().enumerate() {
-        put_one(text, bytes, one)?;
-        text.push_str(mark_after(k, meant.len()))?;
+        put_one(text, bytes, one);
+        text.put(mark_after(k, meant.len()));
     }
-    Ok(())
 }
 
-fn put_one(text: &mut String, bytes: &[u8], one: &Meant) -> Result<(), AllocError> {
+fn put_one(text: &mut Words, bytes: &[u8], one: &Meant) {
     let line = line_of(bytes, one.start.min(bytes.len()));
-    let is = one.is.as_str();
-    write!(text, "{is} in the place of ")?;
+    text.put(&one.is).put(" in the place of ");
     let was = bytes.get(one.start..one.end).unwrap_or(&[]);
-    let was = String::from_utf8_lossy(*text.allocator(), was)?;
-    put_visible(text, &was)?;
-    write!(text, " (line {line})")
+    match String::from_utf8_lossy(text.alloc(), was) {
+        Ok(was) => put_visible(text, &was),
+        Err(AllocError) => text.refuse(),
+    }
+    text.put(" (line ").put_number(line).put(")");
 }
 
 /// Tells the answer of a script, and which of its calls are refused; or that it is refused itself.
@@ -254,9 +255,14 @@ fn tell_refusal(
 ) -> Result<(), AllocError> {
     let mut told = Items::new(items.alloc());
     tell_fault(&mut told, document, fault)?;
-    for item in told.into_list() {
+    for item in told.into_list()? {
         if item.kind == Kind::Answer {
-            items.say(2, "", item.into_text())?;
+            items.add(Item {
+                label: "",
+                text: item.into_text(),
+                depth: 2,
+                kind: Kind::Words,
+            });
         }
     }
     Ok(())

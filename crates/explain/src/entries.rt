@@ -9,13 +9,12 @@ ghost use Rattle.constraint_changes.specs.Edited.{IsPromised};
 use constraint_changes::{Trial, entry_place, line_at, put_choice, takes};
 use constraint_edits::{Edit, edited};
 use domain_reasons::choices_in;
-use explanation_text::{Items, Kind, Step};
+use explanation_text::{Item, Items, Kind, Step, Words};
 use script_faults::{Document, Part};
 use script_story::{Deed, Setting, Story, asked_in};
 use serde_json::Value;
 use settings_reasons::{holder_of, unused_entries};
 use std::alloc::{AllocError, Global};
-use std::fmt::Write;
 use sysmem_formats::{Modifier, Pair, PixelFormat};
 use value_sources::Asked;
 
@@ -127,8 +126,7 @@ impl Teller<'_, '_> {
         index: usize,
         holder: Holder,
     ) -> Result<(), AllocError> {
-        let text = self.sentence(items.alloc(), index, holder)?;
-        items.say(1, "note", text)?;
+        items.say(1, "note", self.sentence(items.alloc(), index, holder));
         let item = entry_place(self.one.stated, index).item;
         let is_own = item == entry_place(self.one.stated, holder.index).item;
         let is_chosen = verdict_of(self.story, self.index) == "chosen";
@@ -162,24 +160,31 @@ impl Teller<'_, '_> {
             place: self.number.saturating_sub(1),
         };
         let Some(line) = trial.outcome(items.alloc(), value)? else {
-            return self.say_first(items, item, "nothing would be chosen");
+            self.say_first(items, item, "nothing would be chosen");
+            return Ok(());
         };
         if line.as_str() == told_of(self.story, self.index) {
-            return self.say_first(items, item, "the decision would be the same");
+            self.say_first(items, item, "the decision would be the same");
+            return Ok(());
         }
-        self.say_first(items, item, "it would be:")?;
+        self.say_first(items, item, "it would be:");
         let choice = choices_in(items.alloc(), self.story, root, &line)?;
         put_promised(items, trial, line)?;
         put_choice(items, 2, choice)
     }
 
-    fn say_first(&self, items: &mut Items, item: usize, end: &str) -> Result<(), AllocError> {
-        let (name, number) = (self.one.name, self.number);
-        let shown = item.saturating_add(1);
-        let text = format!(in items.alloc();
-            "with entry {shown} of {name} (call {number}) put first {end}"
-        )?;
-        items.say(1, "then", text)
+    fn say_first(&self, items: &mut Items, item: usize, end: &str) {
+        let mut words = Words::of(items.alloc(), "with entry ");
+        words
+            .put_number(item.saturating_add(1))
+            .put(" of ")
+            .put(self.one.name);
+        words
+            .put(" (call ")
+            .put_number(self.number)
+            .put(") put first ")
+            .put(end);
+        items.say(1, "then", words)
     }
 
     /// The first pair of the platform that the entry of an index takes, and which entry holds for
@@ -197,31 +202,29 @@ impl Teller<'_, '_> {
 
     /// `camera (call 5): entry 2 (NV12 LINEAR, line 18) is never used: entry 1 (any format
     /// DO_NOT_CARE, line 17) comes before it and holds for ..`.
-    fn sentence(&self, alloc: Global, index: usize, holder: Holder) -> Result<String, AllocError> {
-        let name = self.one.name;
-        let number = self.number;
-        let mut text = format!(in alloc; "{name} (call {number}): ")?;
-        self.put_entry(&mut text, index)?;
-        text.push_str(" is never used: ")?;
-        self.put_entry(&mut text, holder.index)?;
-        text.push_str(" comes before it and holds for ")?;
+    fn sentence(&self, alloc: Global, index: usize, holder: Holder) -> Words {
+        let mut words = Words::of(alloc, self.one.name);
+        words.put(" (call ").put_number(self.number).put("): ");
+        self.put_entry(&mut words, index);
+        words.put(" is never used: ");
+        self.put_entry(&mut words, holder.index);
+        words.put(" comes before it and holds for ");
         let pair = holder.pair;
-        put_pair(&mut text, Some(pair.format), Some(pair.modifier))?;
-        Ok(text)
+        put_pair(&mut words, Some(pair.format), Some(pair.modifier));
+        words
     }
 
     /// Puts which entry of the record that of an index is after a text, with what it takes and its
     /// line.
-    fn put_entry(&self, text: &mut String, index: usize) -> Result<(), AllocError> {
-        let alloc = *text.allocator();
+    fn put_entry(&self, text: &mut Words, index: usize) {
         let Some(entry) = self.one.asked.entries().get(index) else {
-            return Ok(());
+            return;
         };
         let place = entry_place(self.one.stated, index);
         let part = if place.pairs > 1 { "a pair of " } else { "" };
         let shown = place.item.saturating_add(1);
-        write!(text, "{part}entry {shown} (")?;
-        put_pair(text, entry.format, entry.modifier)?;
+        text.put(part).put("entry ").put_number(shown).put(" (");
+        put_pair(text, entry.format, entry.modifier);
         let path = [
             Step::Key("calls"),
             Step::Item(self.number.saturating_sub(1)),
@@ -229,9 +232,14 @@ impl Teller<'_, '_> {
             Step::Key(ENTRIES),
             Step::Item(place.item),
         ];
-        match line_at(alloc, self.document, &path, Part::Value)? {
-            Some(line) => write!(text, ", line {line})"),
-            None => text.push_str(")"),
+        match line_at(text.alloc(), self.document, &path, Part::Value) {
+            Ok(Some(line)) => {
+                text.put(", line ").put_number(line).put(")");
+            }
+            Ok(None) => {
+                text.put(")");
+            }
+            Err(AllocError) => text.refuse(),
         }
     }
 }
@@ -242,16 +250,18 @@ fn put_promised(items: &mut Items, trial: Trial<'_, '_>, line: String) -> Result
         (map call_seen trial.setting.now.calls.now) trial.place trial.path.now
         (string_bytes line) }
 {
-    items.push(Kind::Decision, 2, "->", line)
+    items.add(Item {
+        label: "->",
+        text: line,
+        depth: 2,
+        kind: Kind::Decision,
+    });
+    Ok(())
 }
 
 /// Puts a format and a modifier after a text.
-fn put_pair(
-    text: &mut String,
-    format: Option<PixelFormat>,
-    modifier: Option<Modifier>,
-) -> Result<(), AllocError> {
+fn put_pair(text: &mut Words, format: Option<PixelFormat>, modifier: Option<Modifier>) {
     let format = format.map_or("any format", PixelFormat::name);
     let modifier = modifier.map_or("DO_NOT_CARE", Modifier::name);
-    write!(text, "{format} {modifier}")
+    text.put(format).put(" ").put(modifier);
 }

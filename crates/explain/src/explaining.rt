@@ -4,7 +4,7 @@ use crate::corrected::{meant_in, tell_corrected};
 use crate::domains::tell_domains;
 use crate::lines::with_lines;
 use domain_reasons::answer_of;
-use explanation_text::{Item, Items, Kind, Span, column_of, line_of, repeated_keys};
+use explanation_text::{Item, Items, Kind, Span, Words, column_of, line_of, repeated_keys};
 use other_outcomes::tell_moved;
 use script_faults::{Document, tell_fault, tell_no_json};
 use script_reading::{ParseFault, Script, ScriptFault, parse_script, read_script};
@@ -44,7 +44,7 @@ pub fn explain(alloc: Global, file: &str, bytes: &[u8]) -> Result<Explanation, A
         Err(ParseFault::Refused(ScriptFault::NotJson)) => {
             let mut items = Items::new(alloc);
             tell_no_json(&mut items, file, bytes)?;
-            Ok(refusal(items))
+            refusal(items)
         }
         Err(ParseFault::Refused(fault)) => {
             let document = Document {
@@ -54,16 +54,16 @@ pub fn explain(alloc: Global, file: &str, bytes: &[u8]) -> Result<Explanation, A
             };
             let mut items = Items::new(alloc);
             tell_fault(&mut items, &document, fault)?;
-            Ok(refusal(items))
+            refusal(items)
         }
     }
 }
 
-fn refusal(items: Items) -> Explanation {
-    Explanation {
+fn refusal(items: Items) -> Result<Explanation, AllocError> {
+    Ok(Explanation {
         outcome: Outcome::Refused,
-        items: items.into_list(),
-    }
+        items: items.into_list()?,
+    })
 }
 
 /// Explains the script that a value stands for.
@@ -89,19 +89,24 @@ fn explain_fault(
 ) -> Result<Explanation, AllocError> {
     let mut told = Items::new(alloc);
     tell_fault(&mut told, document, fault)?;
-    let meant = meant_in(alloc, document, told.list())?;
+    let told = told.into_list()?;
+    let meant = meant_in(alloc, document, &told)?;
     let mut items = with_repeats(alloc, document, told)?;
     tell_corrected(&mut items, document, &meant)?;
-    Ok(refusal(items))
+    refusal(items)
 }
 
 /// What is told of a fault, with the keys that are given twice before where it stands: one of them
 /// may be what is meant.
-fn with_repeats(alloc: Global, document: &Document<'_>, told: Items) -> Result<Items, AllocError> {
+fn with_repeats(
+    alloc: Global,
+    document: &Document<'_>,
+    told: Vec<Item>,
+) -> Result<Items, AllocError> {
     let mut items = Items::new(alloc);
-    for item in told.into_list() {
+    for item in told {
         let is_answer = item.kind == Kind::Answer;
-        items.add(item)?;
+        items.add(item);
         if is_answer {
             tell_repeats_first(&mut items, document)?;
         }
@@ -113,7 +118,7 @@ fn with_repeats(alloc: Global, document: &Document<'_>, told: Items) -> Result<I
 fn tell_repeats_first(items: &mut Items, document: &Document<'_>) -> Result<(), AllocError> {
     tell_repeats(items, document)?;
     if items.len() > 1 {
-        items.title("where the script is refused")?;
+        items.title("where the script is refused");
     }
     Ok(())
 }
@@ -149,7 +154,7 @@ fn explain_story(
     tell_story(&mut items, document, setting, story)?;
     Ok(Explanation {
         outcome: outcome_of(story),
-        items: with_lines(alloc, document, story, items.into_list())?,
+        items: with_lines(alloc, document, story, items.into_list()?)?,
     })
 }
 
@@ -176,8 +181,11 @@ fn tell_calls(
 ) -> Result<(), AllocError> {
     let mut refused = Items::new(items.alloc());
     tell_refused(&mut refused, document, story)?;
-    let meant = meant_in(items.alloc(), document, refused.list())?;
-    items.append(refused)?;
+    let refused = refused.into_list()?;
+    let meant = meant_in(items.alloc(), document, &refused)?;
+    for item in refused {
+        items.add(item);
+    }
     tell_corrected(items, document, &meant)
 }
 
@@ -197,7 +205,13 @@ fn outcome_of(story: &Story<'_>) -> Outcome {
 /// The answer: how many calls were refused, and what became of each domain.
 fn put_answer(items: &mut Items, story: &Story<'_>) -> Result<(), AllocError> {
     let text = answer_of(items.alloc(), story)?;
-    items.push(Kind::Answer, 0, "", text)
+    items.add(Item {
+        label: "",
+        text,
+        depth: 0,
+        kind: Kind::Answer,
+    });
+    Ok(())
 }
 
 /// Tells the keys that an object has twice.
@@ -207,24 +221,23 @@ fn tell_repeats(items: &mut Items, document: &Document<'_>) -> Result<(), AllocE
     if repeats.is_empty() {
         return Ok(());
     }
-    items.title("note: keys that are given twice")?;
+    items.title("note: keys that are given twice");
     for (first, again) in &repeats {
-        tell_repeat(items, document, *first, *again)?;
+        tell_repeat(items, document, *first, *again);
     }
     Ok(())
 }
 
-fn tell_repeat(
-    items: &mut Items,
-    document: &Document<'_>,
-    first: Span,
-    again: Span,
-) -> Result<(), AllocError> {
+fn tell_repeat(items: &mut Items, document: &Document<'_>, first: Span, again: Span) {
     let at = first.start.min(document.bytes.len());
-    let line = line_of(document.bytes, at);
-    let column = column_of(document.bytes, at);
-    let note = format!(in items.alloc();
-        "given twice; the first (line {line}, column {column}) is ignored"
-    )?;
-    document.show(items, 1, again, "", &note, &[])
+    let mut words = Words::of(items.alloc(), "given twice; the first (line ");
+    words.put_number(line_of(document.bytes, at));
+    words
+        .put(", column ")
+        .put_number(column_of(document.bytes, at))
+        .put(") is ignored");
+    match words.done() {
+        Ok(note) => document.show(items, 1, again, "", &note, &[]),
+        Err(AllocError) => items.refuse(),
+    }
 }

@@ -1,10 +1,9 @@
 //! Where the fields stand in the script's text that the section of an empty domain names.
 
-use explanation_text::{Item, Kind, Step, line_of};
+use explanation_text::{Gathered, Item, Kind, Step, Words, line_of};
 use script_faults::{Document, Part};
 use script_story::{Deed, Story, put_domain};
 use std::alloc::{AllocError, Global};
-use std::fmt::Write;
 
 /// How many participants' fields are told.
 const MOST: usize = 6;
@@ -89,8 +88,9 @@ fn empty_domain(
     title: &str,
 ) -> Result<Option<usize>, AllocError> {
     for (index, domain) in story.domains.iter().enumerate() {
-        let mut name = String::new(alloc);
-        put_domain(&mut name, story, domain.root)?;
+        let mut words = Words::new(alloc);
+        put_domain(&mut words, story, domain.root);
+        let name = words.done()?;
         if domain.verdict() == "empty" && title.starts_with(name.as_str()) {
             return Ok(Some(index));
         }
@@ -143,10 +143,11 @@ fn rows_of(
             continue;
         }
         if let Some(number) = story.deed(node, Deed::SetConstraints) {
-            let text = lines_of(alloc, document, &fields, number)?;
-            if !text.is_empty() {
-                let name = known.name;
-                rows.push(format!(in alloc; "{name}: {text}")?)?;
+            let lines = lines_of(alloc, document, &fields, number)?;
+            if !lines.is_empty() {
+                let mut text = Words::of(alloc, known.name);
+                text.put(": ").put(&lines);
+                rows.push(text.done()?)?;
             }
         }
     }
@@ -156,22 +157,21 @@ fn rows_of(
 /// The words of items other than those that list who has constraints, each apart from marks beside
 /// it.
 fn words_in<'a>(alloc: Global, told: &'a [Item]) -> Result<Vec<&'a str>, AllocError> {
-    let mut words = Vec::new(alloc);
+    let mut words = Gathered::new(alloc);
     for item in told {
         if item.label != "who" {
-            add_words(&mut words, &item.text)?;
+            add_words(&mut words, &item.text);
         }
     }
-    Ok(words)
+    words.done()
 }
 
-fn add_words<'a>(words: &mut Vec<&'a str>, text: &'a str) -> Result<(), AllocError> {
+fn add_words<'a>(words: &mut Gathered<&'a str>, text: &'a str) {
     for part in text.split(' ') {
         let end = part.trim_end_matches(';').trim_end_matches(':');
         let inner = end.trim_end_matches(',').trim_end_matches(')');
-        words.push(inner.trim_start_matches('('))?;
+        words.add(inner.trim_start_matches('('));
     }
-    Ok(())
 }
 
 /// The fields that are among some words.
@@ -192,7 +192,6 @@ fn lines_of(
     fields: &[&str],
     number: usize,
 ) -> Result<String, AllocError> {
-    let mut text = String::new(alloc);
     let call = number.saturating_sub(1);
     let path = [
         Step::Key("calls"),
@@ -201,7 +200,7 @@ fn lines_of(
     ];
     let span = document.span(alloc, &path, Part::Value)?;
     let (Some(value), Some(span)) = (document.at(&path), span) else {
-        return Ok(text);
+        return Ok(String::new(alloc));
     };
     let record = Document {
         file: document.file,
@@ -209,55 +208,52 @@ fn lines_of(
         value,
     };
     let begin = line_of(document.bytes, span.start.min(document.bytes.len()));
+    let mut words = Words::new(alloc);
     for field in fields {
-        put_lines(&mut text, &record, begin, field)?;
+        put_lines(&mut words, &record, begin, field);
     }
-    Ok(text)
+    words.done()
 }
 
 /// Puts in which lines constraints, which begin in a line of the text, state a field after a text.
-fn put_lines(
-    text: &mut String,
-    record: &Document<'_>,
-    begin: usize,
-    field: &str,
-) -> Result<(), AllocError> {
-    put_line(text, record, begin, &[Step::Key(field)], field, 0)?;
+fn put_lines(text: &mut Words, record: &Document<'_>, begin: usize, field: &str) {
+    put_line(text, record, begin, &[Step::Key(field)], field, 0);
     let memory = [Step::Key("buffer_memory_constraints"), Step::Key(field)];
-    put_line(text, record, begin, &memory, field, 0)?;
+    put_line(text, record, begin, &memory, field, 0);
     for entry in 0..MOST_ENTRIES {
         let path = [
             Step::Key("image_format_constraints"),
             Step::Item(entry),
             Step::Key(field),
         ];
-        put_line(text, record, begin, &path, field, entry)?;
+        put_line(text, record, begin, &path, field, entry);
     }
-    Ok(())
 }
 
 /// Puts in which line the member at a path of constraints stands, which begin in a line of the
 /// text, after a text, if there is one; an entry but the first is named.
 fn put_line(
-    text: &mut String,
+    text: &mut Words,
     record: &Document<'_>,
     begin: usize,
     path: &[Step<'_>],
     field: &str,
     entry: usize,
-) -> Result<(), AllocError> {
+) {
     if record.at(path).is_none() {
-        return Ok(());
+        return;
     }
-    let Some(span) = record.span(*text.allocator(), path, Part::Key)? else {
-        return Ok(());
+    let span = match record.span(text.alloc(), path, Part::Key) {
+        Ok(Some(span)) => span,
+        Ok(None) => return,
+        Err(AllocError) => return text.refuse(),
     };
     let within = line_of(record.bytes, span.start.min(record.bytes.len()));
     let line = begin.saturating_add(within).saturating_sub(1);
-    let mark = if text.is_empty() { "" } else { ", " };
-    if entry == 0 {
-        return write!(text, "{mark}{field} in line {line}");
+    let mark = if text.as_str().is_empty() { "" } else { ", " };
+    text.put(mark).put(field).put(" in line ").put_number(line);
+    if entry > 0 {
+        let place = entry.saturating_add(1);
+        text.put(" (entry ").put_number(place).put(")");
     }
-    let place = entry.saturating_add(1);
-    write!(text, "{mark}{field} in line {line} (entry {place})")
 }

@@ -6,7 +6,7 @@ use crate::json::object::Object;
 use crate::json::places::{place_of_call, put_source};
 use crate::json::scene::Scene;
 use crate::json::values::{count_value, measure};
-use explanation_text::{Item, Kind};
+use explanation_text::{Gathered, Item, Kind};
 use serde_json::Value;
 use std::alloc::{AllocError, Global};
 
@@ -87,16 +87,16 @@ fn put_told(object: &mut Object, item: &Item) -> Result<(), AllocError> {
 
 /// The lines of fields: `camera: min_size in line 17, max_size in line 18 (entry 2)`.
 fn lines_in(alloc: Global, text: &str) -> Result<Vec<Value>, AllocError> {
-    let mut lines = Vec::new(alloc);
     let Some((_, told)) = text.split_once(": ") else {
-        return Ok(lines);
+        return Ok(Vec::new(alloc));
     };
+    let mut lines = Gathered::new(alloc);
     for part in told.split(", ") {
         if let Some((field, place)) = part.split_once(" in line ") {
-            lines.push(line_value(alloc, field, place)?)?;
+            lines.add(line_value(alloc, field, place)?);
         }
     }
-    Ok(lines)
+    lines.done()
 }
 
 /// A field with its line and the entry that states it, if that isn't the first.

@@ -3,6 +3,7 @@
 use crate::json::object::Object;
 use crate::json::scene::Scene;
 use crate::json::values::count_value;
+use explanation_text::Gathered;
 use report_json::{format_letters, modifier_digits};
 use serde_json::Value;
 use std::alloc::{AllocError, Global};
@@ -157,16 +158,16 @@ impl Mentions {
     }
 
     fn field_values(&self, alloc: Global) -> Result<Vec<Value>, AllocError> {
-        let mut values = Vec::new(alloc);
+        let mut values = Gathered::new(alloc);
         for field in &self.fields {
-            values.push(Value::try_from_str(alloc, field.name())?)?;
+            values.add(Value::try_from_str(alloc, field.name())?);
         }
-        Ok(values)
+        values.done()
     }
 
     /// Each format with the letters of its code, or null.
     fn format_values(&self, alloc: Global) -> Result<Vec<Value>, AllocError> {
-        let mut values = Vec::new(alloc);
+        let mut values = Gathered::new(alloc);
         for format in &self.formats {
             let mut object = Object::new(alloc);
             match format_letters(*format) {
@@ -174,28 +175,28 @@ impl Mentions {
                 None => object.put("fourcc", Value::Null)?,
             }
             object.say("pixel_format", format.name())?;
-            values.push(object.into_value())?;
+            values.add(object.into_value());
         }
-        Ok(values)
+        values.done()
     }
 
     /// Each modifier with its 64 bits.
     fn modifier_values(&self, alloc: Global) -> Result<Vec<Value>, AllocError> {
-        let mut values = Vec::new(alloc);
+        let mut values = Gathered::new(alloc);
         for modifier in &self.modifiers {
             let mut object = Object::new(alloc);
             object.say("drm_modifier", modifier_digits(*modifier))?;
             object.say("modifier", modifier.name())?;
-            values.push(object.into_value())?;
+            values.add(object.into_value());
         }
-        Ok(values)
+        values.done()
     }
 
     fn node_values(&self, alloc: Global, scene: &Scene<'_, '_>) -> Result<Vec<Value>, AllocError> {
-        let mut values = Vec::new(alloc);
+        let mut values = Gathered::new(alloc);
         for node in &self.nodes {
-            values.push(scene.node_value(alloc, *node)?)?;
+            values.add(scene.node_value(alloc, *node)?);
         }
-        Ok(values)
+        values.done()
     }
 }

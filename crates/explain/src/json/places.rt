@@ -4,11 +4,11 @@ use crate::json::object::Object;
 use crate::json::scene::Scene;
 use crate::json::values::count_value;
 use explanation_text::wording::put_visible;
-use explanation_text::{Step, column_of, line_of};
+use explanation_text::{Step, Words, column_of, line_of};
 use script_faults::{Document, Part};
 use serde_json::Value;
 use std::alloc::{AllocError, Global};
-use std::fmt::Write;
+use std::mem;
 
 /// How long the text may be, in bytes, in which calls are looked for: for each it is gone through.
 const LONGEST: usize = 262_144;
@@ -34,8 +34,9 @@ pub(crate) fn put_source(
 
 /// The place that the first line tells: `   --> camera.json:19:13: calls[6].call`.
 fn told_place(alloc: Global, file: &str, head: &str) -> Result<Option<Value>, AllocError> {
-    let mut shown = String::new(alloc);
-    put_visible(&mut shown, file)?;
+    let mut words = Words::new(alloc);
+    put_visible(&mut words, file);
+    let shown = words.done()?;
     let Some(named) = head.trim_start().strip_prefix("--> ") else {
         return Ok(None);
     };
@@ -81,25 +82,29 @@ fn note_in(marked: &str) -> &str {
 /// What helps: each begins with `=`, and goes on in the lines below it.
 fn helps_in(alloc: Global, lines: &[&str]) -> Result<Vec<Value>, AllocError> {
     let mut helps = Vec::new(alloc);
-    let mut help = String::new(alloc);
+    let mut words = Words::new(alloc);
     for line in lines {
         let told = line.trim_start();
         match told.strip_prefix("= ") {
             Some(begun) => {
-                add_help(&mut helps, &help)?;
-                help.clear();
-                help.push_str(begun)?;
+                add_help(
+                    &mut helps,
+                    mem::replace(&mut words, Words::of(alloc, begun)),
+                )?;
             }
-            None => write!(help, " {told}")?,
+            None => {
+                words.put(" ").put(told);
+            }
         }
     }
-    add_help(&mut helps, &help)?;
+    add_help(&mut helps, words)?;
     Ok(helps)
 }
 
-fn add_help(helps: &mut Vec<Value>, help: &str) -> Result<(), AllocError> {
+fn add_help(helps: &mut Vec<Value>, words: Words) -> Result<(), AllocError> {
+    let help = words.done()?;
     if !help.is_empty() {
-        helps.push(Value::try_from_str(*helps.allocator(), help)?)?;
+        helps.push(Value::String(help))?;
     }
     Ok(())
 }
@@ -121,6 +126,8 @@ pub(crate) fn place_of_call(
     let at = span.start.min(document.bytes.len());
     let line = line_of(document.bytes, at);
     let column = column_of(document.bytes, at);
-    let path = format!(in alloc; "calls[{index}]")?;
+    let mut words = Words::of(alloc, "calls[");
+    words.put_number(index).put("]");
+    let path = words.done()?;
     Ok(Some(place_value(alloc, document.file, line, column, &path)?))
 }

@@ -1,6 +1,7 @@
 //! What is known of the script whose explanation is told.
 
 use crate::json::object::Object;
+use explanation_text::Gathered;
 use script_faults::Document;
 use script_story::{Domain, Story, refused_calls};
 use serde_json::Value;
@@ -81,14 +82,14 @@ impl Scene<'_, '_> {
 
     /// What became of each domain: `{"domain":"/","name":"root","verdict":"empty"}`.
     pub(crate) fn domains(&self, alloc: Global) -> Result<Vec<Value>, AllocError> {
-        let mut values = Vec::new(alloc);
         let Some(played) = self.played else {
-            return Ok(values);
+            return Ok(Vec::new(alloc));
         };
+        let mut values = Gathered::new(alloc);
         for domain in &played.story.domains {
-            values.push(self.domain_value(alloc, domain)?)?;
+            values.add(self.domain_value(alloc, domain)?);
         }
-        Ok(values)
+        values.done()
     }
 
     fn domain_value(&self, alloc: Global, domain: &Domain<'_>) -> Result<Value, AllocError> {

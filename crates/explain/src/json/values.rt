@@ -1,6 +1,7 @@
 //! Values of JSON for what words say.
 
 use crate::json::object::Object;
+use explanation_text::Words;
 use serde_json::Value;
 use std::alloc::{AllocError, Global};
 
@@ -12,7 +13,9 @@ pub(crate) fn number_value(alloc: Global, number: u64) -> Result<Value, AllocErr
     if number <= MOST_EXACT {
         return Ok(Value::from(number));
     }
-    Ok(Value::String(format!(in alloc; "{number}")?))
+    let mut words = Words::new(alloc);
+    words.put_number(number);
+    Ok(Value::String(words.done()?))
 }
 
 /// How many, or a place in a list.

@@ -2,6 +2,7 @@
 
 use byte_transfer::Counted;
 use explanation_text::wording::put_count;
+use explanation_text::{Gathered, Words};
 use script_run::{Ended, run_with_proof};
 use script_story::{Story, put_domain};
 use serde_json::Value;
@@ -63,15 +64,15 @@ pub(crate) fn proofs_of(
     bytes: &[u8],
     story: &Story<'_>,
 ) -> Result<Vec<String>, AllocError> {
-    let mut proofs = Vec::new(alloc);
     let certificate = certificate_of(alloc, bytes)?;
     let Ok(decisions) = Value::from_slice(alloc, &certificate) else {
         return Err(AllocError);
     };
+    let mut proofs = Gathered::new(alloc);
     for decision in items_of(&decisions) {
-        proofs.push(proof_of(alloc, story, decision)?)?;
+        proofs.add_words(proof_of(alloc, story, decision));
     }
-    Ok(proofs)
+    proofs.done()
 }
 
 /// The certificate of a script.
@@ -86,59 +87,56 @@ fn certificate_of(alloc: Global, bytes: &[u8]) -> Result<Vec<u8>, AllocError> {
 }
 
 /// What proves a decision, in words.
-fn proof_of(alloc: Global, story: &Story<'_>, decision: &Value) -> Result<String, AllocError> {
+fn proof_of(alloc: Global, story: &Story<'_>, decision: &Value) -> Words {
     let path = text_at(decision, "domain");
-    let mut text = String::new(alloc);
-    put_domain_at(&mut text, story, path)?;
+    let mut words = Words::new(alloc);
+    put_domain_at(&mut words, story, path);
     match text_at(decision, "verdict") {
-        "empty" => put_empty(&mut text, decision)?,
-        "chosen" => put_chosen(&mut text, story, path, decision)?,
-        _ => text.push_str("more than 4096 selections, which nothing has to prove")?,
+        "empty" => put_empty(&mut words, decision),
+        "chosen" => put_chosen(&mut words, story, path, decision),
+        _ => {
+            words.put("more than 4096 selections, which nothing has to prove");
+        }
     }
-    Ok(text)
+    words
 }
 
 /// Puts which domain it is after a text.
-fn put_domain_at(text: &mut String, story: &Story<'_>, path: &str) -> Result<(), AllocError> {
+fn put_domain_at(text: &mut Words, story: &Story<'_>, path: &str) {
     for domain in &story.domains {
         if story.path(domain.root) == path {
-            put_domain(text, story, domain.root)?;
+            put_domain(text, story, domain.root);
         }
     }
-    text.push_str(": ")
+    text.put(": ");
 }
 
-fn put_empty(text: &mut String, decision: &Value) -> Result<(), AllocError> {
+fn put_empty(text: &mut Words, decision: &Value) {
     let mut tally = Tally::default();
     tally.add(list_at(decision, "refutation"));
-    put_tally(text, tally)?;
-    text.push_str(if tally.conflicts == 1 {
+    put_tally(text, tally);
+    text.put(if tally.conflicts == 1 {
         " leaves no settings to any selection"
     } else {
         " leave no settings to any selection"
-    })
+    });
 }
 
-fn put_tally(text: &mut String, tally: Tally) -> Result<(), AllocError> {
-    put_count(text, tally.conflicts, "conflict", "conflicts")?;
-    text.push_str(" of ")?;
+fn put_tally(text: &mut Words, tally: Tally) {
+    put_count(text, tally.conflicts, "conflict", "conflicts");
+    text.put(" of ");
     put_count(text, tally.lines, "line", "lines")
 }
 
 /// Puts what proves settings after a text: of an attached domain they were decided before.
-fn put_chosen(
-    text: &mut String,
-    story: &Story<'_>,
-    path: &str,
-    decision: &Value,
-) -> Result<(), AllocError> {
+fn put_chosen(text: &mut Words, story: &Story<'_>, path: &str, decision: &Value) {
     if is_attached(story, path) {
-        text.push_str("the settings decided before suit all")?;
+        text.put("the settings decided before suit all");
     } else {
-        put_count(text, length_of(decision, "offers"), "line", "lines")?;
-        text.push_str(" for the offers and ")?;
-        put_count(text, length_of(decision, "places"), "line", "lines")?;
-        text.push_str(" for the places before the chosen ones")?;
+        put_count(text, length_of(decision, "offers"), "line", "lines");
+        text.put(" for the offers and ");
+        put_count(text, length_of(decision, "places"), "line", "lines");
+        text.put(" for the places before the chosen ones");
     }
     put_earlier(text, decision)
 }
@@ -154,7 +152,7 @@ fn is_attached(story: &Story<'_>, path: &str) -> bool {
 }
 
 /// Puts what refutes the children before the chosen ones after a text.
-fn put_earlier(text: &mut String, decision: &Value) -> Result<(), AllocError> {
+fn put_earlier(text: &mut Words, decision: &Value) {
     let mut tally = Tally::default();
     let mut children = 0usize;
     for group in list_at(decision, "earlier") {
@@ -164,10 +162,10 @@ fn put_earlier(text: &mut String, decision: &Value) -> Result<(), AllocError> {
         }
     }
     if children == 0 {
-        return Ok(());
+        return;
     }
-    text.push_str("; ")?;
-    put_tally(text, tally)?;
-    text.push_str(" for ")?;
+    text.put("; ");
+    put_tally(text, tally);
+    text.put(" for ");
     put_count(text, children, "earlier child", "earlier children")
 }

@@ -1,5 +1,6 @@
 //! Who is in the way of the domains that are empty.
 
+use explanation_text::Gathered;
 use script_story::{Domain, Story, asked_in};
 use settings_reasons::{failing, in_the_way};
 use std::alloc::{AllocError, Global};
@@ -15,7 +16,7 @@ pub(crate) fn in_the_way_of(
     platform: &Platform,
     story: &Story<'_>,
 ) -> Result<Vec<usize>, AllocError> {
-    let mut nodes = Vec::new(alloc);
+    let mut nodes = Gathered::new(alloc);
     for (index, domain) in story.domains.iter().enumerate() {
         if domain.verdict() != "empty" || has_groups(story, index) {
             continue;
@@ -26,7 +27,7 @@ pub(crate) fn in_the_way_of(
             None => add_unmet(&mut nodes, platform, &people)?,
         }
     }
-    Ok(nodes)
+    nodes.done()
 }
 
 fn has_groups(story: &Story<'_>, index: usize) -> bool {
@@ -44,29 +45,28 @@ fn settings_above(story: &Story<'_>, domain: &Domain<'_>) -> Option<Settings> {
 }
 
 fn add_misfits(
-    nodes: &mut Vec<usize>,
+    nodes: &mut Gathered<usize>,
     platform: &Platform,
     people: &[Asked<'_>],
     settings: &Settings,
 ) -> Result<(), AllocError> {
-    let alloc = *nodes.allocator();
+    let alloc = nodes.alloc();
     for one in people {
         if !failing(alloc, platform, settings, one.asked)?.is_empty() {
-            nodes.push(one.node)?;
+            nodes.add(one.node);
         }
     }
     Ok(())
 }
 
 fn add_unmet(
-    nodes: &mut Vec<usize>,
+    nodes: &mut Gathered<usize>,
     platform: &Platform,
     people: &[Asked<'_>],
 ) -> Result<(), AllocError> {
-    let alloc = *nodes.allocator();
-    if let Some(some) = in_the_way(alloc, platform, people)? {
+    if let Some(some) = in_the_way(nodes.alloc(), platform, people)? {
         for one in &some {
-            nodes.push(one.node)?;
+            nodes.add(one.node);
         }
     }
     Ok(())

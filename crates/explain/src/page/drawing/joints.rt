@@ -86,7 +86,7 @@ fn joint_of<'b>(
             NodeKind::Group => Shape::Group,
         },
         is_late,
-        state: state_of(alloc, story, node)?,
+        state: state_of(alloc, story, node).done()?,
         standing,
         word,
     })

@@ -2,11 +2,10 @@
 //! decision.
 
 use bitflags::Flags;
-use explanation_text::Standing;
 use explanation_text::wording::{put_count, put_few};
+use explanation_text::{Standing, Words};
 use script_story::{Deed, Story};
 use std::alloc::{AllocError, Global};
-use std::fmt::Write;
 use sysmem_counts::Usage;
 use sysmem_image::Entry;
 use sysmem_sanitise::Constraints;
@@ -45,45 +44,46 @@ pub(crate) fn standing_of<'b>(
 }
 
 /// What a node is, and what its participant asks.
-pub(crate) fn state_of(
-    alloc: Global,
-    story: &Story<'_>,
-    node: usize,
-) -> Result<String, AllocError> {
-    let mut text = String::new(alloc);
+pub(crate) fn state_of(alloc: Global, story: &Story<'_>, node: usize) -> Words {
+    let mut words = Words::new(alloc);
     match story.kind_before(node, usize::MAX) {
-        NodeKind::Token => text.push_str("token")?,
+        NodeKind::Token => {
+            words.put("token");
+        }
         NodeKind::Group => {
-            let count = story.children(alloc, node)?.len();
-            text.push_str("group of ")?;
-            put_count(&mut text, count, "child", "children")?;
+            words.put("group of ");
+            match story.children(alloc, node) {
+                Ok(children) => put_count(&mut words, children.len(), "child", "children"),
+                Err(AllocError) => words.refuse(),
+            }
             if story.deed(node, Deed::Complete).is_none() {
-                text.push_str(", not complete")?;
+                words.put(", not complete");
             }
         }
-        NodeKind::Collection => put_asked(&mut text, story, node)?,
+        NodeKind::Collection => put_asked(&mut words, story, node),
     }
-    put_end(&mut text, story, node)?;
-    Ok(text)
+    put_end(&mut words, story, node);
+    words
 }
 
 /// Puts by which call a node ended after a text.
-fn put_end(text: &mut String, story: &Story<'_>, node: usize) -> Result<(), AllocError> {
+fn put_end(text: &mut Words, story: &Story<'_>, node: usize) {
     let Some(number) = story.deed(node, Deed::End) else {
-        return Ok(());
+        return;
     };
     let how = match story.call(number) {
         Some(call) if call.name() == "close" => "closed",
         _ => "released",
     };
-    write!(text, ", {how} by call {number}")
+    text.put(", ").put(how).put(" by call ").put_number(number);
 }
 
 /// Puts what the participant of a collection asks after a text.
-fn put_asked(text: &mut String, story: &Story<'_>, node: usize) -> Result<(), AllocError> {
-    text.push_str("collection")?;
+fn put_asked(text: &mut Words, story: &Story<'_>, node: usize) {
+    text.put("collection");
     let Some(number) = story.deed(node, Deed::SetConstraints) else {
-        return text.push_str(", nothing set");
+        text.put(", nothing set");
+        return;
     };
     let asked = match story.nodes.get(node) {
         Some(known) => known.constraints,
@@ -91,41 +91,56 @@ fn put_asked(text: &mut String, story: &Story<'_>, node: usize) -> Result<(), Al
     };
     match asked {
         Some(asked) => {
-            write!(text, " (call {number}):")?;
-            put_usage(text, asked.usage())?;
-            put_counts(text, asked)?;
+            text.put(" (call ").put_number(number).put("):");
+            put_usage(text, asked.usage());
+            put_counts(text, asked);
             put_formats(text, asked.entries())
         }
-        None => write!(text, ", no constraints (call {number})"),
+        None => {
+            text.put(", no constraints (call ")
+                .put_number(number)
+                .put(")");
+        }
     }
 }
 
 /// Puts how many buffers a participant holds after a text.
-fn put_counts(text: &mut String, asked: &Constraints) -> Result<(), AllocError> {
+fn put_counts(text: &mut Words, asked: &Constraints) {
     let counts = asked.counts();
     let held = (counts.min_buffer_count_for_camping as usize).saturating_add(
         counts.min_buffer_count_for_dedicated_slack as usize,
     );
     if held == 0 {
-        return Ok(());
+        return;
     }
-    text.push_str("; ")?;
+    text.put("; ");
     put_count(text, held, "buffer", "buffers")
 }
 
 /// Puts what a participant uses the buffers for after a text.
-fn put_usage(text: &mut String, usage: Usage) -> Result<(), AllocError> {
+fn put_usage(text: &mut Words, usage: Usage) {
     for (name, family) in FAMILIES {
         if usage.contains(family) {
-            write!(text, " {name}")?;
+            text.put(" ").put(name);
         }
     }
-    Ok(())
 }
 
 /// Puts which formats a participant takes after a text.
-fn put_formats(text: &mut String, entries: &[Entry]) -> Result<(), AllocError> {
-    let mut names: Vec<&str> = Vec::new(*text.allocator());
+fn put_formats(text: &mut Words, entries: &[Entry]) {
+    match formats_in(text.alloc(), entries) {
+        Ok(names) if names.is_empty() => {}
+        Ok(names) => {
+            text.put("; ");
+            put_few(text, &names, MOST_FORMATS)
+        }
+        Err(AllocError) => text.refuse(),
+    }
+}
+
+/// The names of the formats that entries take, each once.
+fn formats_in(alloc: Global, entries: &[Entry]) -> Result<Vec<&'static str>, AllocError> {
+    let mut names: Vec<&'static str> = Vec::new(alloc);
     for entry in entries {
         let name = match entry.format {
             Some(format) => format.name(),
@@ -135,9 +150,5 @@ fn put_formats(text: &mut String, entries: &[Entry]) -> Result<(), AllocError> {
             names.push(name)?;
         }
     }
-    if names.is_empty() {
-        return Ok(());
-    }
-    text.push_str("; ")?;
-    put_few(text, &names, MOST_FORMATS)
+    Ok(names)
 }

@@ -1,7 +1,7 @@
 //! The calls by actor, and the decisions where they came.
 
 use crate::page::drawing::joints::add_joints;
-use explanation_text::{Drawing, Line, Standing};
+use explanation_text::{Drawing, Line, Standing, Words};
 use script_story::{Domain, Made, Story};
 use std::alloc::{AllocError, Global};
 use sysmem_sanitise::Platform;
@@ -34,7 +34,7 @@ fn add_call<'b>(
     drawing.lines.push(Line {
         number: Some(number),
         actor,
-        words: words_of(alloc, call)?,
+        words: words_of(alloc, call).done()?,
         standing: if call.is_accepted() || call.asks() {
             Standing::Plain
         } else {
@@ -66,12 +66,12 @@ fn add_decisions(
 
 /// The report's line on a domain.
 fn line_of(alloc: Global, story: &Story<'_>, domain: &Domain<'_>) -> Result<Line, AllocError> {
-    let path = story.path(domain.root);
-    let told = domain.told;
+    let mut words = Words::of(alloc, "domain ");
+    words.put(story.path(domain.root)).put(" ").put(domain.told);
     Ok(Line {
         number: None,
         actor: 0,
-        words: format!(in alloc; "domain {path} {told}")?,
+        words: words.done()?,
         standing: match domain.verdict() {
             "chosen" => Standing::Chosen,
             "pending" => Standing::Open,
@@ -81,17 +81,14 @@ fn line_of(alloc: Global, story: &Story<'_>, domain: &Domain<'_>) -> Result<Line
 }
 
 /// A call in words, with its reply where that isn't `ok`.
-fn words_of(alloc: Global, call: &Made<'_>) -> Result<String, AllocError> {
-    let name = call.name();
-    let on = call.on;
-    let (space, made) = match call.act.name_made() {
-        Some(made) => (" ", made),
-        None => ("", ""),
-    };
-    let (mark, reply) = if call.is_accepted() {
-        ("", "")
-    } else {
-        (": ", call.reply)
-    };
-    format!(in alloc; "{name} {on}{space}{made}{mark}{reply}")
+fn words_of(alloc: Global, call: &Made<'_>) -> Words {
+    let mut words = Words::of(alloc, call.name());
+    words.put(" ").put(call.on);
+    if let Some(made) = call.act.name_made() {
+        words.put(" ").put(made);
+    }
+    if !call.is_accepted() {
+        words.put(": ").put(call.reply);
+    }
+    words
 }
