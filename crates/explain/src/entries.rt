@@ -9,7 +9,7 @@ ghost use Rattle.constraint_changes.specs.Edited.{IsPromised};
 use constraint_changes::{Trial, entry_place, line_at, put_choice, takes};
 use constraint_edits::{Edit, edited};
 use domain_reasons::choices_in;
-use explanation_text::{Item, Items, Kind, Step, Words};
+use explanation_text::{Items, Step, Words};
 use script_faults::{Document, Part};
 use script_story::{Deed, Setting, Story, asked_in};
 use serde_json::Value;
@@ -169,7 +169,7 @@ impl Teller<'_, '_> {
         }
         self.say_first(items, item, "it would be:");
         let choice = choices_in(items.alloc(), self.story, root, &line)?;
-        put_promised(items, trial, line)?;
+        put_promised(items, trial, line);
         put_choice(items, 2, choice)
     }
 
@@ -245,18 +245,12 @@ impl Teller<'_, '_> {
 }
 
 /// Puts the decision that comes with an entry first.
-fn put_promised(items: &mut Items, trial: Trial<'_, '_>, line: String) -> Result<(), AllocError>
+fn put_promised(items: &mut Items, trial: Trial<'_, '_>, line: String)
     requires { IsPromised trial.setting.now.platform.now
         (map call_seen trial.setting.now.calls.now) trial.place trial.path.now
         (string_bytes line) }
 {
-    items.add(Item {
-        label: "->",
-        text: line,
-        depth: 2,
-        kind: Kind::Decision,
-    });
-    Ok(())
+    items.promise(2, line)
 }
 
 /// Puts a format and a modifier after a text.
