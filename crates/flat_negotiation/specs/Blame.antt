@@ -1,6 +1,6 @@
 -- Where a list of participants has no settings any more, and why.
 use Rattle.std.specs.Prelude.{◌≡◌, ℕ, ◌+◌, ◌<◌, ◌⊎◌, Bool, true, false, List, length, take, drop, Option, Some, None}
-use Rattle.std.specs.Prelude.{IfSome, IsSomeAnd, option_map, slice_get}
+use Rattle.std.specs.Prelude.{IfSome, IsSome, IsSomeAnd, option_map, slice_get}
 use Rattle.std.specs.Option.{unwrap_or}
 use Rattle.sysmem_counts.specs.declared.field.Field.{Field}
 use Rattle.sysmem_formats.specs.declared.offer.Offer.{Offer}
@@ -34,10 +34,12 @@ abbrev pub IsWho : Bool → ℕ → ℕ → Type 0
 IsWho true many who = who ≡ many
 IsWho false many who = who < many
 
--- the participants before can share settings, for the first reason not with this one too
+-- the participants before, if there are any, can share settings, for the first reason not with this
+-- one too
 pub record IsStop (platform : PlatformFacts) (ps : List Participant) (stop : Stop) : Type 0 where
   pub who : IsWho stop.whole (length ps) stop.who
   pub shared : IfSome stop.shared (IsBest false platform (take stop.who ps))
+  pub before : (stop.who ≡ 0) ⊎ IsSome stop.shared
   pub unmet : IsUnmet stop.whole platform (up_to stop.who ps)
   pub reason : IsFirstReason stop.whole platform (up_to stop.who ps) stop.reason
 

@@ -14,11 +14,13 @@ mod unsettled;
 mod written;
 
 pub use flat::{FlatImage, FlatRefusal, FlatSettings};
-pub use negotiating::negotiate;
+pub use negotiating::{MOST_PARTICIPANTS, negotiate};
 pub use parts::{
     Amiss, FlatEntry, FlatHeap, FlatLayout, FlatPair, FlatParticipant, FlatPlane, FlatPlatform,
-    FlatSize, layout_of,
+    FlatSize, Unsaid, layout_of,
 };
 pub use refusal::refusal_of;
+pub use said::{participant_of, platform_of};
+pub use settling::settled;
 pub use unsettled::{Refusal, Stop, Unsettled};
-pub use written::settings_of;
+pub use written::{domain_code, no_image, settings_of};

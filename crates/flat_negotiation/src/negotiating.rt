@@ -12,7 +12,7 @@ use std::alloc::Global;
 use sysmem_merge::Settings;
 
 /// The most participants of one call.
-const MOST_PARTICIPANTS: usize = 1024;
+pub const MOST_PARTICIPANTS: usize = 1024;
 
 /// The best settings for all of the participants on the platform, or why there are none.
 #[tactic(auto, using(crate::proofs::Writable::writable))]

@@ -15,7 +15,7 @@ use negotiation_inputs::{Constraints, Platform};
 use std::alloc::{AllocError, Global};
 
 /// The platform that the structs state. It fails where memory is refused, or where they state none.
-pub(crate) fn platform_of(alloc: Global, flat: &FlatPlatform<'_>) -> Result<Platform, Unsaid>
+pub fn platform_of(alloc: Global, flat: &FlatPlatform<'_>) -> Result<Platform, Unsaid>
     ensures said { IfOk result (IsPlatformSaid flat.now) }
     ensures amiss { IfErr result (IfAmiss (IsPlatformAmiss flat.now)) }
 {
@@ -29,7 +29,7 @@ pub(crate) fn platform_of(alloc: Global, flat: &FlatPlatform<'_>) -> Result<Plat
 }
 
 /// The participant that a struct states. It fails where memory is refused, or where it states none.
-fn participant_of(alloc: Global, flat: &FlatParticipant<'_>) -> Result<Constraints, Unsaid>
+pub fn participant_of(alloc: Global, flat: &FlatParticipant<'_>) -> Result<Constraints, Unsaid>
     ensures said { IfOk result (IsParticipantSaid flat.now) }
     ensures amiss { IfErr result (IfAmiss (IsParticipantAmiss flat.now)) }
 {

@@ -68,7 +68,7 @@ fn stop_of(
 
 /// The best settings for all of a list of at most 1,024 participants. It fails where memory is
 /// refused, and where there are none.
-pub(crate) fn settled(
+pub fn settled(
     alloc: Global,
     platform: &Platform,
     asked: &[Constraints],

@@ -14,7 +14,7 @@ use sysmem_memory::CoherencyDomain;
 use sysmem_merge::Settings;
 
 /// The number of a coherency domain.
-pub(crate) fn domain_code(domain: CoherencyDomain) -> u32
+pub fn domain_code(domain: CoherencyDomain) -> u32
     ensures { result ≡ domain_code domain }
 {
     match domain {
@@ -24,7 +24,8 @@ pub(crate) fn domain_code(domain: CoherencyDomain) -> u32
     }
 }
 
-fn no_image() -> FlatImage
+/// No image: all 0.
+pub fn no_image() -> FlatImage
     ensures { result ≡ no_image }
 {
     FlatImage {

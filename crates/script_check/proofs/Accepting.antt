@@ -1,6 +1,5 @@
 -- A report's certificate is accepted by a check.
 use Rattle.std.proofs.Common.{◌≡◌, ℕ, ◌+◌, ◌≤◌, List, [], ◌∷◌, length, Bool, false, Option, Some, None, Result, Ok, Err, refl, sym, ◌∙◌, ap, subst}
-use Rattle.std.specs.Prelude.{is_none}
 use Rattle.std.specs.List.{AllByRecursion, AllZip}
 use Rattle.std.specs.Io.KnownBytes.{Appends}
 use Rattle.std.proofs.lemmas.List.{length-map}
@@ -10,38 +9,23 @@ use Rattle.certificate_text.specs.Told.{decision_data}
 use Rattle.serde_json.specs.Data.{Data, array}
 use Rattle.serde_json.specs.View.{items_of}
 use Rattle.script_reading.proofs.CallerLemmas.{script_ids, script_platform}
-use Rattle.script_reading.specs.Script.{CallFacts, ScriptFacts}
-use Rattle.script_reading.specs.Text.{IsJson, longest, not_json, spelled, too_long, Outcome}
-use Rattle.script_reading.specs.declared.fault.ScriptFault.{ScriptFault}
-use Rattle.sysmem_alloc.specs.Decision.{answer_of}
+use Rattle.script_reading.specs.Script.{ScriptFacts}
+use Rattle.script_reading.specs.Text.{IsJson, longest}
 use Rattle.verdict_claims.specs.declared.certificate.Claim.{Claim}
 use Rattle.sysmem_sanitise.specs.Platform.{PlatformFacts}
 use Rattle.script_run.specs.Certificate.{CertifiedFacts, IsCertifiedBy, IsProved, certificate_of, data_of}
 use Rattle.script_check.specs.Checked.{AreTaken, IsOf, accepts}
 use Rattle.script_check.specs.CheckedFile.{ChecksTo, EndsInYes, HasChecked, IsListOf, IsScriptOf, answer_text}
+use Rattle.script_check.specs.Headline.{HasClaim}
 use Rattle.script_check.specs.Laws.{AreReadBack, CertificatesAreAccepted, CertificatesReadBack, CertifiedIsReport, FaultIsAlone, OneCheck, claim_told}
-use Rattle.script_replay.specs.Outcome.{ReportFacts, RunsTo, ValueRunsTo, refused, reported}
-use Rattle.script_replay.specs.Report.{Certified, Goes, IsReported, calls, decides, stays, with_decision}
-use Rattle.script_replay.specs.State.{RunState}
+use Rattle.script_replay.specs.Outcome.{ReportFacts, RunsTo}
+use Rattle.script_replay.specs.Report.{Certified, IsReported}
 use Rattle.script_check.specs.declared.checked_file.CheckAnswer.TheVariants as answers
 use Rattle.script_run.specs.declared.fault.RunFault.{RunFault}
 use Rattle.script_run.specs.declared.fault.RunFault.TheVariants as faults
 use Rattle.script_run.specs.declared.running.Ended.{Ended}
 use Rattle.script_run.specs.declared.running.Ended.TheVariants as ended
-use Rattle.script_replay.proofs.CallerLemmas.{none_mapped}
-use Rattle.script_check.proofs.Unique.{or_right, unstarved_before}
-
--- a decision has a claim
-abbrev HasClaim : Certified → Type 0
-HasClaim c = is_none c.1 ≡ false
-
--- where memory is not refused, each decision has a claim
-each_claimed : (number : ℕ) (s t : RunState) (rs : List CallFacts) (a : List ℕ) (cs : List Certified) → Goes number s rs a cs t → t.starved ≡ false → AllByRecursion HasClaim cs
-each_claimed _ _ _ _ _ _ (stays number s) fed = tt
-each_claimed _ _ _ _ _ _ (calls number s answered t r rs reply text cs idle replied rest) fed = each_claimed (number + 1) answered t rs text cs rest fed
-each_claimed _ _ _ _ _ _ (decides number s t c rs what text cs allowed said rest) fed =
-    let short : is_none (answer_of c).verdict ≡ false = or_right s.starved (is_none (answer_of c).verdict) (unstarved_before number (with_decision s (answer_of c)) t rs text cs rest fed) in
-    (sym (none_mapped (λ (x : Claim). x.verdict) c.claim) ∙ short, each_claimed number (with_decision s (answer_of c)) t rs text cs rest fed)
+use Rattle.script_check.proofs.Reported.{each_claimed, input_reports}
 
 -- ---- the objects of a certificate make the claims of its decisions
 
@@ -81,33 +65,6 @@ list_of platform certificate cs is short back = record {
   list = refl;
 }
 
--- ---- what the bytes of a script give
-
--- a report of the bytes of a script, in which memory was not refused, and its certificate
-record Reports (input : List ℕ) (c : CertifiedFacts) : Type 0 where
-  script : ScriptFacts
-  reads : IsScriptOf input script
-  report : IsReported script.platform script.calls (IsCertifiedBy c.certificate script.platform) c.text false
-
-value_reports : (input : List ℕ) (c : CertifiedFacts) (value : Data) (said : Result ReportFacts ScriptFault) → length input ≤ longest → IsJson input value
-    → said ≡ Ok (record { text = c.text; starved = c.starved }) → c.starved ≡ false → ValueRunsTo (IsCertifiedBy c.certificate) value said → Reports input c
-value_reports input c value _ short json e fed (refused fault why) = absurd (cc)
-value_reports input c value _ short json e fed (reported script report says is) =
-    let same : report ≡ record { text = c.text; starved = c.starved } = cc in
-    let there : IsReported script.platform script.calls (IsCertifiedBy c.certificate script.platform) c.text c.starved =
-    subst (λ (r : ReportFacts). IsReported script.platform script.calls (IsCertifiedBy c.certificate script.platform) r.text r.starved) same is in
-    record {
-      script = script;
-      reads = record { value = value; spells = record { short = short; json = json }; says = says };
-      report = subst (λ (b : Bool). IsReported script.platform script.calls (IsCertifiedBy c.certificate script.platform) c.text b) fed there;
-    }
-
-input_reports : (input : List ℕ) (c : CertifiedFacts) (said : Result ReportFacts ScriptFault) → said ≡ Ok (record { text = c.text; starved = c.starved }) → c.starved ≡ false
-    → Outcome (ValueRunsTo (IsCertifiedBy c.certificate)) input said → Reports input c
-input_reports input c _ e fed (too_long long) = absurd (cc)
-input_reports input c _ e fed (not_json short none) = absurd (cc)
-input_reports input c _ e fed (spelled value short json said is) = value_reports input c value said short json e fed is
-
 -- ---- what a check answers
 
 module _ (one : OneCheck) (alone : FaultIsAlone) (input certificate : List ℕ) (many : ℕ) (checks : ChecksTo input certificate answers.Yes (answer_text answers.Yes many))
@@ -133,25 +90,27 @@ module _ (one : OneCheck) (alone : FaultIsAlone) (input certificate : List ℕ) 
 
 pub certificates_are_accepted : CertificatesReadBack → OneCheck → CertifiedIsReport → FaultIsAlone → CertificatesAreAccepted
 certificates_are_accepted read_back one without alone input c certifies fed short =
-    let r = input_reports input c _ refl fed certifies in
+    let r = input_reports input c _ refl certifies in
     let platform = r.script.platform in
-    let back = read_back platform r.script.calls c.text r.report.decisions false (script_platform r.reads.value r.script r.reads.says) (script_ids r.reads.value r.script r.reads.says) r.report.report r.report.gave.proved in
-    let objects = data_of platform r.report.decisions in
-    let many : length objects ≡ length r.report.decisions = length-map r.report.decisions (λ (d : Certified). decision_data platform d.0 d.1) in
-    let checks : ChecksTo input c.certificate answers.Yes (answer_text answers.Yes (length r.report.decisions)) = record {
+    let report : IsReported platform r.script.calls (IsCertifiedBy c.certificate platform) c.text false =
+    subst (λ (b : Bool). IsReported platform r.script.calls (IsCertifiedBy c.certificate platform) c.text b) fed r.report in
+    let back = read_back platform r.script.calls c.text report.decisions false (script_platform r.reads.value r.script r.reads.says) (script_ids r.reads.value r.script r.reads.says) report.report report.gave.proved in
+    let objects = data_of platform report.decisions in
+    let many : length objects ≡ length report.decisions = length-map report.decisions (λ (d : Certified). decision_data platform d.0 d.1) in
+    let checks : ChecksTo input c.certificate answers.Yes (answer_text answers.Yes (length report.decisions)) = record {
       script = r.script;
       reads = r.reads;
       holds = record {
         objects = objects;
-        lists = list_of platform c.certificate r.report.decisions r.report.gave.text short back;
-        holds = accepts (taken_of r.script c.certificate c.text r.report back);
+        lists = list_of platform c.certificate report.decisions report.gave.text short back;
+        holds = accepts (taken_of r.script c.certificate c.text report back);
         says = ap (answer_text answers.Yes) (sym many);
       };
     } in
     record {
       script = r.script;
       reads = r.reads;
-      report = r.report;
+      report = report;
       checks = checks;
-      ends = ends_in_yes one alone input c.certificate (length r.report.decisions) checks (record { text = c.text; starved = c.starved }) (without input (Ok c) certifies);
+      ends = ends_in_yes one alone input c.certificate (length report.decisions) checks (record { text = c.text; starved = c.starved }) (without input (Ok c) certifies);
     }

@@ -4,6 +4,8 @@ pub mod CheckedLemmas
 pub mod Checks
 pub mod OneCheck
 pub mod OneCorner
+pub mod Histories
 pub mod ReadBack
+pub mod Reported
 pub mod Uncertified
 pub mod Unique

@@ -82,7 +82,7 @@ after_reply platform s _ r _ stands (accepts k made deed tree here asks done) = 
 after_reply platform s _ r _ stands (tells k here asks) = stands
 
 -- the platform stays
-replied_platform : (s t : RunState) (r : CallFacts) (reply : Reply) → Replies s r reply t → t.platform ≡ s.platform
+pub replied_platform : (s t : RunState) (r : CallFacts) (reply : Reply) → Replies s r reply t → t.platform ≡ s.platform
 replied_platform s _ r _ (skips none) = refl
 replied_platform s _ r _ (misreads k d fault here act read) = refl
 replied_platform s _ r _ (starves k d fault here act want lack) = refl

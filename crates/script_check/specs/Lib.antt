@@ -1,3 +1,4 @@
 pub mod Checked
 pub mod CheckedFile
 pub mod Laws
+pub mod Headline

@@ -1,11 +1,12 @@
 //! What is true of reports, whoever writes them.
 
+ghost use Rattle.script_check.specs.Headline.{HeadlineOfBytes, ReportsAreLegal};
 ghost use Rattle.script_check.specs.Laws.{CertificatesAreAccepted, CertificatesReadBack, CertifiedIsReport, FaultIsAlone, OneAnswer, OneCheck, OneReport};
 
 use certificate_text::laws::{
     claims_read_back, node_paths_can_be_read, texts_read_back, true_claims_can_be_read,
 };
-use sysmem_alloc::laws::legal_is_sound;
+use sysmem_alloc::laws::{headline, legal_is_sound};
 use sysmem_image::laws::corner_is_least;
 use sysmem_proof::laws::{self, faults_are_first, tests_are_exact};
 
@@ -68,4 +69,19 @@ pub fn certificates_are_accepted()
     one_check();
     certified_is_report();
     fault_is_alone();
+}
+
+/// The collection of a report has a legal history for the report's platform, whose decisions are
+/// those of the report, in their order.
+pub fn reports_are_legal()
+    ensures { ReportsAreLegal }
+{}
+
+/// What a run with a certificate writes of a script's bytes is the report, and the certificate, of
+/// the decisions of a legal history, and each of these is as `headline` of `sysmem_alloc` says.
+pub fn headline_of_bytes()
+    ensures { HeadlineOfBytes }
+{
+    reports_are_legal();
+    headline();
 }

@@ -74,7 +74,7 @@ decided_own t r choices domains has = either choices (root_among t r domains has
   either (Some cs) (k, at) = entered_own Chosen t.domains r k at
 
 -- the decision of a domain, with one more entered
-entered_last : (ds : List DomainVerdict) (d : DomainVerdict) → decision_for ds d.domain ≡ None → decision_for (ds ++ d ∷ []) d.domain ≡ Some d
+pub entered_last : (ds : List DomainVerdict) (d : DomainVerdict) → decision_for ds d.domain ≡ None → decision_for (ds ++ d ∷ []) d.domain ≡ Some d
 entered_last [] d none = ap (λ b. if b then Some d else None) (eq-eqb d.domain d.domain refl)
 entered_last (x ∷ ds) d none = by (x.domain == d.domain) none (entered_last ds d) where
   by : (b : Bool) → (if b then Some x else decision_for ds d.domain) ≡ None → (decision_for ds d.domain ≡ None → decision_for (ds ++ d ∷ []) d.domain ≡ Some d)

@@ -32,7 +32,7 @@ tree_of_replay s [] = refl
 tree_of_replay s (e ∷ es) = tree_of_replay (after_entry s e) es ∙ ap (λ t. trees.replay_from t (map tree_entry es)) (tree_of_entry s e)
 
 -- the decision of a domain is one of the decisions
-of_decisions : (P : DomainVerdict → Type 0) (ds : List DomainVerdict) (r : ℕ) (d : DomainVerdict) → AllByRecursion P ds → decision_for ds r ≡ Some d → P d × (d.domain ≡ r)
+pub of_decisions : (P : DomainVerdict → Type 0) (ds : List DomainVerdict) (r : ℕ) (d : DomainVerdict) → AllByRecursion P ds → decision_for ds r ≡ Some d → P d × (d.domain ≡ r)
 of_decisions P [] r d all is = absurd (cc)
 of_decisions P (x ∷ ds) r d all is = by (x.domain == r) refl (of_decisions P ds r d all.1) is where
   by : (b : Bool) → (x.domain == r) ≡ b → (decision_for ds r ≡ Some d → P d × (d.domain ≡ r)) → (if b then Some x else decision_for ds r) ≡ Some d → P d × (d.domain ≡ r)
@@ -43,7 +43,7 @@ of_decisions P (x ∷ ds) r d all is = by (x.domain == r) refl (of_decisions P d
   by false own rest h = rest h
 
 -- of a domain with one more decision: the one that it had, or this
-decision_push : (ds : List DomainVerdict) (e : DomainVerdict) (r : ℕ) (d : DomainVerdict) → decision_for (ds ++ e ∷ []) r ≡ Some d → (decision_for ds r ≡ Some d) ⊎ ((e ≡ d) × (e.domain ≡ r))
+pub decision_push : (ds : List DomainVerdict) (e : DomainVerdict) (r : ℕ) (d : DomainVerdict) → decision_for (ds ++ e ∷ []) r ≡ Some d → (decision_for ds r ≡ Some d) ⊎ ((e ≡ d) × (e.domain ≡ r))
 decision_push [] e r d is = by (e.domain == r) refl is where
   by : (b : Bool) → (e.domain == r) ≡ b → (if b then Some e else None) ≡ Some d → (None ≡ Some d) ⊎ ((e ≡ d) × (e.domain ≡ r))
   by true own h = let mine : e.domain ≡ r = search (rules, tests, own) in inr (same_Some e d h, mine)

@@ -32,7 +32,7 @@ entered_front (y ∷ ds) x r d is = by (y.domain == r) is (entered_front ds x r 
   by true e rest = e
   by false e rest = rest e
 
-decision_stays : (s : State) (e : BookEntry) (r : ℕ) (d : DomainVerdict) → decision_for s.decisions r ≡ Some d → decision_for (after_entry s e).decisions r ≡ Some d
+pub decision_stays : (s : State) (e : BookEntry) (r : ℕ) (d : DomainVerdict) → decision_for s.decisions r ≡ Some d → decision_for (after_entry s e).decisions r ≡ Some d
 decision_stays s (Acted i deed) r d is = by (applied s.tree i deed) where
   by : (o : Result Applied Refusal) → decision_for (after_answer s o).decisions r ≡ Some d
   by (Ok made) = is
@@ -48,7 +48,7 @@ decided_ready t (x ∷ ds) r d all is = by (x.domain == r) refl is (decided_read
   by false own e rest = rest e
 
 -- and so hasn't failed
-ready_unfailed : (t : TreeFacts) (r : ℕ) → is_ready t r ≡ true → has_failed t r ≡ false
+pub ready_unfailed : (t : TreeFacts) (r : ℕ) → is_ready t r ≡ true → has_failed t r ≡ false
 ready_unfailed t r ready =
     let (_, rest) = and_parts (is_complete t.nodes r) (not (has_failed t r) && is_host_selected t.domains (host_node t.nodes r)) ready in
     by (has_failed t r) (and_parts (not (has_failed t r)) (is_host_selected t.domains (host_node t.nodes r)) rest).0 where
@@ -57,11 +57,11 @@ ready_unfailed t r ready =
       by false e = refl
 
 -- a verdict, by whether the domain failed and by what was entered
-abbrev shown : Bool → Option DomainVerdict → Option Verdict
+abbrev pub shown : Bool → Option DomainVerdict → Option Verdict
 shown failed o = if failed then Some verdicts.Failed else option_map (λ (d : DomainVerdict). unwrap_or d.verdict verdicts.NoMemory) o
 
 -- a domain is there after an entry
-there_after : (s : State) (e : BookEntry) (r : ℕ) → HasDomain s.tree.nodes r → HasDomain (after_entry s e).tree.nodes r
+pub there_after : (s : State) (e : BookEntry) (r : ℕ) → HasDomain s.tree.nodes r → HasDomain (after_entry s e).tree.nodes r
 there_after s (Acted i deed) r has = by (applied s.tree i deed) refl where
   by : (o : Result Applied Refusal) → applied s.tree i deed ≡ o → HasDomain (after_answer s o).tree.nodes r
   by (Err refusal) is = has

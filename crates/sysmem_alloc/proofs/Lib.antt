@@ -27,3 +27,5 @@ pub mod Fitting
 pub mod Still
 pub mod StillThere
 pub mod Certified
+pub mod Negotiated
+pub mod Split

@@ -43,3 +43,9 @@ decision_for (d ∷ ds) r = if d.domain == r then Some d else decision_for ds r
 -- the settings that were chosen for a domain
 abbrev pub settings_for : List DomainVerdict → ℕ → Option Settings
 settings_for ds r = option_and_then (λ d. settings_of d.verdict) (decision_for ds r)
+
+-- a verdict that a decision gave, with memory
+abbrev pub IsDecision : Verdict → Type 0
+IsDecision verdicts.Failed = ⊥
+IsDecision verdicts.NoMemory = ⊥
+IsDecision v = Unit {0}

@@ -9,3 +9,4 @@ pub mod Marks
 pub mod Laws
 pub mod Accepted
 pub mod Frozen
+pub mod Headline

@@ -1,5 +1,6 @@
 //! What is true of the histories of books, whoever keeps them.
 
+ghost use Rattle.sysmem_alloc.specs.Headline.{Headline, VerdictsAreNegotiated};
 ghost use Rattle.sysmem_alloc.specs.Laws.{LegalIsSound, LegalAgrees, BaseIsGiven, FewEntries, ReadyWaits, NumbersStay, VerdictStays, NextStays, FitStays, FitIsRight, InitialShape, Confluence, ProvedClaimsAreTrue, DecisionsHaveProofs};
 
 use sysmem_tree::laws;
@@ -7,7 +8,7 @@ use sysmem_tree::laws::{
     failed_stays, forest_stays, maps_of_logs, members_stand_once, members_stay, one_forest,
     ready_stays, sound_stays,
 };
-use verdict_claims::laws::{one_answer, optimal_has_proof};
+use verdict_claims::laws::{one_answer, optimal_has_proof, tests_are_exact};
 
 /// The state of each legal history: its tree is sound, each domain that waits is ready, undecided
 /// and there once, and what was decided is ready.
@@ -145,4 +146,32 @@ pub fn decisions_have_proofs()
     legal_is_sound();
     base_is_given();
     optimal_has_proof();
+}
+
+/// Each decision of a legal history is as its verdict says: the first selection that any settings
+/// meet, each of its participants' own constraints met, the best settings for them; its proof
+/// passes what `check` of `sysmem_proof` tests, and what passes it is this answer; it stays; and
+/// other histories with the same calls give it too.
+pub fn headline()
+    ensures { Headline }
+{
+    legal_is_sound();
+    legal_agrees();
+    forest_stays();
+    ready_stays();
+    one_forest();
+    base_is_given();
+    decisions_have_proofs();
+    tests_are_exact();
+    one_answer();
+    confluence();
+}
+
+/// Each verdict that a domain has at the end of a legal history, unless it failed or memory was
+/// wanted, is of a decision of that history, of which `headline` speaks, and optimal for the domain
+/// as the tree has it then.
+pub fn verdicts_are_negotiated()
+    ensures { VerdictsAreNegotiated }
+{
+    headline();
 }

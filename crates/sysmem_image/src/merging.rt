@@ -50,6 +50,8 @@ pub fn merge_into(bounds: &mut ImageBounds, entry: &Entry, offer: &Offer) -> Res
     ensures line { (es : List ImageBounds) → MergedOf offer.now es bounds.old →
         IfErr result
         (λ field. IsFirstLine field offer.now (es ++ effective offer.now entry.now ∷ [])) }
+    ensures above { IfErr result
+        (λ field. IsFirstAbove field bounds.old (effective offer.now entry.now)) }
     ensures steady { IfErr result IsSteady }
     ensures none { (es : List ImageBounds) → MergedOf offer.now es bounds.old →
         OnErr result (NoneMerge offer.now (es ++ effective offer.now entry.now ∷ [])) }
@@ -74,6 +76,7 @@ pub fn merge_bounds(bounds: &mut ImageBounds, more: &ImageBounds) -> Result<(), 
     ensures line { (o : Offer) (es fs : List ImageBounds) →
         MergedOf o es bounds.old → MergedOf o fs more.now →
         IfErr result (λ field. IsFirstLine field o (es ++ fs)) }
+    ensures above { IfErr result (λ field. IsFirstAbove field bounds.old more.now) }
     ensures steady { IfErr result IsSteady }
 {
     *bounds = merged(bounds, more)?;

@@ -1,14 +1,13 @@
 -- What audits that said yes say of their books' histories.
-use Rattle.std.proofs.Common.{◌≡◌, ℕ, Bool, true, false, List, [], ◌∷◌, Option, Some, None, Result, Ok, Err, slice_get, get_or, refl, sym, ◌∙◌, ap, subst}
-use Rattle.std.specs.Prelude.{IfSome, map, option_map, option_and_then, unwrap_or, if◌then◌else◌}
+use Rattle.std.proofs.Common.{◌≡◌, ℕ, List, [], ◌∷◌, Option, Some, None, Result, Ok, Err, slice_get, get_or, refl, sym, ◌∙◌, ap, subst}
+use Rattle.std.specs.Prelude.{IfSome, map, option_map, option_and_then, unwrap_or}
 use Rattle.std.proofs.lemmas.Option.{same_Some}
 use Rattle.verdict_claims.specs.declared.verdict.Verdict.{Verdict}
-use Rattle.verdict_claims.specs.declared.verdict.Verdict.TheVariants as verdicts
 use Rattle.sysmem_proof.specs.Verdict.{IsSameAnswer}
 use Rattle.sysmem_sanitise.specs.Platform.{PlatformFacts}
 use Rattle.sysmem_tree.specs.declared.refusal.Refusal.{Refusal}
 use Rattle.sysmem_tree.specs.ActionKind.{Deed}
-use Rattle.sysmem_tree.specs.Domain.{TreeFacts, has_failed}
+use Rattle.sysmem_tree.specs.Domain.{TreeFacts}
 use Rattle.sysmem_tree.specs.History as trees
 use Rattle.sysmem_tree.specs.Laws.{OnePath, SameReady}
 use Rattle.sysmem_tree.specs.Node.{NodeFacts}
@@ -16,7 +15,7 @@ use Rattle.sysmem_tree.specs.Path.{node_at}
 use Rattle.sysmem_tree.specs.Tree.{Applied, applied}
 use Rattle.sysmem_tree.proofs.CallerLemmas.{node_within}
 use Rattle.sysmem_alloc.specs.Book.{BookFacts, IsBook}
-use Rattle.sysmem_alloc.specs.Decision.{DomainVerdict, decision_for}
+use Rattle.sysmem_alloc.specs.Decision.{IsDecision}
 use Rattle.sysmem_alloc.specs.Entry.{BookEntry, Acted, Decided, tree_entry}
 use Rattle.sysmem_alloc.specs.History.{IsLegal, SameCalls, after_answer, after_entry, replay, replay_from}
 use Rattle.sysmem_alloc.specs.Laws.{AreConfluent, Confluence, LegalIsSound}
@@ -28,7 +27,8 @@ use Rattle.sysmem_room.specs.Ruling.{RulingFacts}
 use Rattle.sysmem_participants.specs.declared.faults.Audit.{Audit}
 use Rattle.sysmem_participants.specs.Audit.{IsAudited, IsOf}
 use Rattle.sysmem_participants.specs.Held.{Left}
-use Rattle.sysmem_participants.specs.Laws.{AreAmong, AuditsAgree, HaveSameCalls, IsDecision, IsInitial, IsLike}
+use Rattle.sysmem_participants.specs.Laws.{AreAmong, AuditsAgree, HaveSameCalls, IsInitial, IsLike}
+use Rattle.sysmem_alloc.proofs.CallerLemmas.{gave}
 
 -- the tree of a history's state is the one that its entries for the tree lead to
 tree_of_entry : (s : State) (e : BookEntry) → (after_entry s e).tree ≡ trees.after_entry s.tree (tree_entry e)
@@ -100,19 +100,6 @@ same_calls one sound b c ss ts a x is also audited other same path = log_of_book
   by None (Some j) here there = let (are, _) = like_there one sound c b ts ss x a also other audited same.second path j there in sym are
   by None None here there = calls_nowhere b path here ∙ sym (calls_nowhere c path there)
 
--- a verdict that a decision gave was entered
-entered_for : (s : State) (v : Verdict) → verdict_of s 0 ≡ Some v → IsDecision v → (d : DomainVerdict) × (decision_for s.decisions 0 ≡ Some d) × (d.verdict ≡ Some v)
-entered_for s v is decided = by (has_failed s.tree 0) (decision_for s.decisions 0) refl is where
-  in_it : (d : DomainVerdict) (o : Option Verdict) → d.verdict ≡ o → Some (unwrap_or o verdicts.NoMemory) ≡ Some v → d.verdict ≡ Some v
-  in_it d None has e = absurd (subst IsDecision (sym (same_Some verdicts.NoMemory v e)) decided)
-  in_it d (Some w) has e = has ∙ e
-
-  by : (failed : Bool) (o : Option DomainVerdict) → decision_for s.decisions 0 ≡ o → (if failed then Some verdicts.Failed else option_map (λ (d : DomainVerdict). unwrap_or d.verdict verdicts.NoMemory) o) ≡ Some v
-      → (d : DomainVerdict) × (decision_for s.decisions 0 ≡ Some d) × (d.verdict ≡ Some v)
-  by true o has e = absurd (subst IsDecision (sym (same_Some verdicts.Failed v e)) decided)
-  by false None has e = absurd (cc)
-  by false (Some d) has e = (d, has, in_it d d.verdict refl e)
-
 -- what a stub of the initial domain knows is that domain's verdict
 verdict_known : (b : BookFacts) (s : Left) (i : ℕ) (r : RulingFacts) → IsOf b s i → IsInitial b s → s.known ≡ Some (outcomes.Decided r) → verdict_of b.state 0 ≡ Some r.claim.verdict
 verdict_known b s i r is initial knows =
@@ -133,9 +120,9 @@ audits_agree confluence sound one b c ss ts a x is also platform audited other s
     subst (λ (s : State). SameReady s.tree c.state.tree) (sym is.replayed) (subst (λ (s : State). SameReady (replay b.history).tree s.tree) (sym also.replayed) confluent.ready) in
     let answer : (v w : Verdict) → verdict_of b.state 0 ≡ Some v → verdict_of c.state 0 ≡ Some w → IsDecision v → IsDecision w → IsSameAnswer v w =
     (λ v w his hers decided decided'.
-    let (d, for_b, gave) = entered_for (replay b.history) v (subst (λ (s : State). verdict_of s 0 ≡ Some v) is.replayed his) decided in
-    let (e, for_c, gave') = entered_for (replay c.history) w (subst (λ (s : State). verdict_of s 0 ≡ Some w) also.replayed hers) decided' in
-    confluent.answer d e v w for_b for_c gave gave') in
+    let d = gave (replay b.history) 0 v (subst (λ (s : State). verdict_of s 0 ≡ Some v) is.replayed his) decided in
+    let e = gave (replay c.history) 0 w (subst (λ (s : State). verdict_of s 0 ≡ Some w) also.replayed hers) decided' in
+    confluent.answer d.decision e.decision v w d.entered e.entered d.verdict e.verdict) in
     record {
       ready = ready;
       answer = answer;

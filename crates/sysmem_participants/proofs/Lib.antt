@@ -4,6 +4,7 @@ mod Seeing
 mod Entries
 mod Ruled
 mod Audited
+mod Shown
 mod Closing
 mod Ended
 mod Owned

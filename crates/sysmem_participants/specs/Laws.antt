@@ -1,11 +1,13 @@
 -- What follows from audits that said yes.
-use Rattle.std.specs.Prelude.{◌≡◌, ◌<◌, ℕ, false, List, Some, IfSome, length, slice_get, slice_index_or}
+use Rattle.std.specs.Prelude.{◌≡◌, ◌<◌, ℕ, false, List, Some, IfSome, IsSomeAnd, length, slice_get}
+use Rattle.std.specs.Prelude.{slice_index_or}
 use Rattle.std.specs.List.{AllByRecursion}
 use Rattle.sysmem_alloc.specs.Book.{BookFacts, IsBook}
+use Rattle.sysmem_alloc.specs.Decision.{IsDecision}
+use Rattle.sysmem_alloc.specs.Headline.{HasNegotiated}
 use Rattle.sysmem_alloc.specs.History.{NoEarlyClose}
 use Rattle.sysmem_alloc.specs.State.{verdict_of}
 use Rattle.verdict_claims.specs.declared.verdict.Verdict.{Verdict}
-use Rattle.verdict_claims.specs.declared.verdict.Verdict.TheVariants as verdicts
 use Rattle.sysmem_proof.specs.Verdict.{IsSameAnswer}
 use Rattle.sysmem_room.specs.declared.outcome.Outcome.TheVariants as outcomes
 use Rattle.sysmem_room.specs.Ruling.{RulingFacts}
@@ -32,12 +34,6 @@ AreAmong ss ts = (k : ℕ) (d : Left) → k < length ss
 pub record HaveSameCalls (ss ts : List Left) : Type 0 where
   pub first : AreAmong ss ts
   pub second : AreAmong ts ss
-
--- a verdict that a decision gave, with memory
-abbrev pub IsDecision : Verdict → Type 0
-IsDecision verdicts.Failed = ⊥
-IsDecision verdicts.NoMemory = ⊥
-IsDecision v = Unit {0}
 
 -- a stub of the initial domain
 abbrev pub IsInitial : BookFacts → Left → Type 0
@@ -87,3 +83,17 @@ TwoAuditsAgree = (platform : PlatformFacts) (b c : BookFacts) (ss ts : List Left
     → IsBook b → IsBook c → AgreesWith b ss a → AgreesWith c ts x
     → AreFor platform ss → AreFor platform ts → HaveSameCalls ss ts
     → NoEarlyClose b.history → NoEarlyClose c.history → GotOneVerdict b c ss ts
+
+-- the domain of the stub's node has this verdict by a decision of the book's history, which is
+-- negotiated as the headline says
+abbrev pub IsNegotiatedAt : BookFacts → Left → Verdict → Type 0
+IsNegotiatedAt b s v = HasAt b s (λ i. IsSomeAnd (slice_get b.state.tree.nodes i)
+    (λ n. HasNegotiated b.platform b.history n.domain v))
+
+-- what a stub knows of its domain's verdict, where an audit of it and others said yes, is so
+-- negotiated in the book that the audit saw, unless the domain failed or memory was wanted
+abbrev pub KnownAreNegotiated : Type 0
+KnownAreNegotiated = (b : BookFacts) (ss : List Left) (a : Audit) (k : ℕ) (d : Left)
+    (r : RulingFacts) → IsBook b → AgreesWith b ss a → k < length ss
+    → (slice_index_or ss k d).known ≡ Some (outcomes.Decided r) → IsDecision r.claim.verdict
+    → IsNegotiatedAt b (slice_index_or ss k d) r.claim.verdict

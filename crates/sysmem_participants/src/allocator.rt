@@ -18,7 +18,7 @@ use sysmem_sanitise::Platform;
 use sysmem_search::Gate;
 use sysmem_tree::Refusal;
 
-/// Makes collections for one platform; its gate is told of the searches.
+/// Makes collections for one platform; its gate is told of the searches and of the proofs.
 #[derive(Drop)]
 pub struct Allocator<G: Gate + Drop> {
     rules: Arc<Rules<G>>,
@@ -67,7 +67,8 @@ fn opened<L: Ledger, G: Gate + Drop + Sync>(
 }
 
 impl<G: Gate + Drop + Sync> Allocator<G> {
-    /// For this platform; each decision of its collections tells this gate of its search. Two
+    /// For this platform; each decision of its collections tells this gate of its search, and before
+    /// and after its proof. Two
     /// workers share a search that can take half a millisecond, by its selections and the
     /// platform's offers; a shorter one, for which a thread costs more than it saves, is done by
     /// one. `AllocError` where memory is refused.

@@ -76,7 +76,9 @@ fn claim_of<G: Gate + Sync, R: Threads + Sync>(
     let (platform, tree, domain) = (frozen.platform(), frozen.tree(), frozen.domain());
     let base = frozen.base();
     let verdict = search_wide(rt, alloc, platform, tree, domain, base, gate, workers)?.verdict;
+    gate.at_proof();
     let proof = prove(alloc, platform, tree, domain, base, &verdict)?;
+    gate.at_proof();
     Ok(Claim { verdict, proof })
 }
 

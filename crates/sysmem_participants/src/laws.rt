@@ -1,8 +1,8 @@
 //! What follows from audits that said yes.
 
-ghost use Rattle.sysmem_participants.specs.Laws.{AuditsAgree, NoneClosed, TwoAuditsAgree};
+ghost use Rattle.sysmem_participants.specs.Laws.{AuditsAgree, KnownAreNegotiated, NoneClosed, TwoAuditsAgree};
 
-use sysmem_alloc::laws::{confluence, legal_is_sound, numbers_stay};
+use sysmem_alloc::laws::{confluence, legal_is_sound, numbers_stay, verdicts_are_negotiated};
 use sysmem_tree::laws::one_path;
 
 /// Two collections with the same calls at each path, by audits that said yes, got one verdict for
@@ -32,4 +32,13 @@ pub fn two_audits_agree()
 {
     audits_agree();
     legal_is_sound();
+}
+
+/// What a collection was shown or told of its domain's verdict, as its stub knows it, is a decision
+/// of the book that an audit saw which said yes, and `headline` of `sysmem_alloc` speaks of it:
+/// unless the domain failed, or memory was wanted.
+pub fn known_are_negotiated()
+    ensures { KnownAreNegotiated }
+{
+    verdicts_are_negotiated();
 }

@@ -18,6 +18,8 @@ mod gate;
 #[cfg(test)]
 mod handles;
 #[cfg(test)]
+mod late;
+#[cfg(test)]
 mod playing;
 #[cfg(test)]
 mod searches;

@@ -1,4 +1,5 @@
-//! Searches of decisions that are held, each until others have done what they could do meanwhile.
+//! Decisions that are held, at their search and their proof, until others have done what they could
+//! do meanwhile.
 
 ghost use Rattle.std.specs.Prelude.{◌≡◌};
 ghost use Rattle.sysmem_room.specs.Counting.{all_parts};
@@ -25,21 +26,39 @@ use sysmem_sanitise::Constraints;
 use sysmem_search::Gate;
 use sysmem_tree::Refusal;
 
-// Holds the first visit of all searches until it may go on.
+// Holds one decision three times, each time until it may go on: in its search, which visits before
+// any other does, and before and after its proof. Another collection is decided while its search is
+// held, and so is told of two times that something is proved, before this one is.
 #[derive(Drop)]
-struct First<'a, C> {
+struct Stages<'a, C> {
     clock: &'a C,
     held: &'a Held,
     let_go: &'a AtomicU64,
+    visits: AtomicU64,
+    proofs: AtomicU64,
 }
 
-impl<'a, C: Clock> Gate for First<'a, C> {
-    fn at_prefix(&self, _length: u32) {
-        if self.held.entered.fetch_add(1, Ordering::SeqCst) > 0 {
-            return;
-        }
-        if !comes(self.clock, self.let_go, 1) {
+impl<'a, C: Clock> Stages<'a, C> {
+    fn hold(&self, stage: u64) {
+        self.held.entered.fetch_add(1, Ordering::SeqCst);
+        if !comes(self.clock, self.let_go, stage) {
             self.held.in_vain.fetch_add(1, Ordering::SeqCst);
+        }
+    }
+}
+
+impl<'a, C: Clock> Gate for Stages<'a, C> {
+    fn at_prefix(&self, _length: u32) {
+        if self.visits.fetch_add(1, Ordering::SeqCst) == 0 {
+            self.hold(1);
+        }
+    }
+
+    fn at_proof(&self) {
+        match self.proofs.fetch_add(1, Ordering::SeqCst) {
+            2 => self.hold(2),
+            3 => self.hold(3),
+            _ => {}
         }
     }
 }
@@ -81,8 +100,24 @@ fn decided_apart<L: Ledger, G: Gate + Drop + Sync, R: Threads + Wait + Abort + S
     );
 }
 
-// While the decision of its domain is held, the collection is told that there is none yet, another
-// collection is decided, and a token is attached; then the decision may go on.
+// While the decision of its domain is held for so many times, the collection is told that there is
+// none yet, and a token is attached to it.
+fn attach_meanwhile<L: Ledger, G: Gate + Drop + Sync, R: Threads + Wait + Abort + Clock + Sync>(
+    rt: &R,
+    waiting: &mut Collection<L, G>,
+    held: &Held,
+    stage: u64,
+) -> Token<L, G> {
+    is_equal(rt, "held", &comes(rt, &held.entered, stage), &true);
+    is_equal(rt, "check", &waiting.check().err(), &Some(Refusal::Pending));
+    let attached = accepted(rt, "attach_token", waiting.attach_token(rt));
+    is_equal(rt, "check", &waiting.check().err(), &Some(Refusal::Pending));
+    attached
+}
+
+// While the decision of its domain is held in its search, the collection has a token attached, and
+// another collection is decided; and a token is attached while it is held before its proof, and
+// after it.
 fn act_meanwhile<L: Ledger, G: Gate + Drop + Sync, R: Threads + Wait + Abort + Clock + Sync>(
     rt: &R,
     alloc: Global,
@@ -91,19 +126,24 @@ fn act_meanwhile<L: Ledger, G: Gate + Drop + Sync, R: Threads + Wait + Abort + C
     asked: &Arc<Constraints>,
     held: &Held,
     let_go: &AtomicU64,
-) -> Stub<L> {
-    is_equal(rt, "held", &comes(rt, &held.entered, 1), &true);
-    is_equal(rt, "check", &waiting.check().err(), &Some(Refusal::Pending));
+) -> [Stub<L>; 3] {
+    let first = attach_meanwhile(rt, waiting, held, 1);
     decided_apart::<Brand, G, R>(rt, alloc, allocator, Blank::new(129), asked);
-    let attached = accepted(rt, "attach_token", waiting.attach_token(rt));
-    is_equal(rt, "check", &waiting.check().err(), &Some(Refusal::Pending));
     let_go.store(1, Ordering::SeqCst);
+    let second = attach_meanwhile(rt, waiting, held, 2);
+    let_go.store(2, Ordering::SeqCst);
+    let third = attach_meanwhile(rt, waiting, held, 3);
+    let_go.store(3, Ordering::SeqCst);
     waits_for(rt, waiting, 9);
-    released(rt, attached)
+    [
+        released(rt, first),
+        released(rt, second),
+        released(rt, third),
+    ]
 }
 
 // Two take part: the constraints of the one bring the decision, which is held, and the other acts
-// meanwhile. What an audit finds of the four nodes.
+// meanwhile. What an audit finds of the six nodes.
 fn hold<
     L: Ledger + Send + Sync,
     G: Gate + Drop + Sync + Send,
@@ -133,7 +173,8 @@ fn hold<
         || act_meanwhile(rt, alloc, allocator, &mut a, first, held, let_go),
     );
     emptied(rt, b);
-    counted(rt, alloc, [root, closed(rt, a), decided, attached])
+    let [x, y, z] = attached;
+    counted(rt, alloc, [root, closed(rt, a), decided, x, y, z])
 }
 
 // What participants ask: the first camps on two buffers, the second on three, of nine together.
@@ -147,29 +188,28 @@ fn is_decided_outside<R: Threads + Wait + Abort + Clock + Sync>(
     alloc: Global,
 ) -> Result<(), Fail> {
     let (held, let_go) = (fresh(), AtomicU64::new(0));
-    let gate = First {
+    let gate = Stages {
         clock: rt,
         held: &held,
         let_go: &let_go,
+        visits: AtomicU64::new(0),
+        proofs: AtomicU64::new(0),
     };
     let both = both_asked(alloc)?;
     let allocator = Allocator::new(alloc, platform(alloc)?, gate)?;
     let blank = Blank::new(129);
-    let found = hold::<Brand, First<'_, R>, R>(rt, alloc, &allocator, blank, &both, &held, &let_go);
-    is_audited(rt, &held, found, 11, 2);
+    let found = hold::<Brand, Stages<'_, R>, R>(
+        rt, alloc, &allocator, blank, &both, &held, &let_go,
+    );
+    is_audited(rt, &held, found, [6, 15, 4]);
     Ok(())
 }
 
-// Of four nodes as many actions and decisions were counted, and no search was held in vain.
-fn is_audited(
-    rt: &impl Abort,
-    held: &Held,
-    found: Result<Audit, AuditFault>,
-    actions: u32,
-    decisions: u32,
-) {
+// So many nodes, actions and decisions were counted, and nothing was held in vain.
+fn is_audited(rt: &impl Abort, held: &Held, found: Result<Audit, AuditFault>, wanted: [u32; 3]) {
+    let [nodes, actions, decisions] = wanted;
     let wanted = Audit {
-        nodes: 4,
+        nodes,
         actions,
         decisions,
     };
@@ -223,7 +263,7 @@ fn is_decided_by_two<R: Threads + Wait + Abort + Clock + Sync>(
     let both = both_asked(alloc)?;
     let allocator = Allocator::with_workers(alloc, platform(alloc)?, gate, 2)?;
     let found = choose::<Brand, Meeting<'_, R>, R>(rt, alloc, &allocator, Blank::new(129), &both);
-    is_audited(rt, &held, found, 12, 1);
+    is_audited(rt, &held, found, [4, 12, 1]);
     Ok(())
 }
 

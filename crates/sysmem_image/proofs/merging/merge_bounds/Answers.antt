@@ -8,6 +8,11 @@ returns-in_err-bounds-clause-line c = λ o es fs left right.
     let p = err_from_is_err_and c.from_residual.result c.from_residual.ensures.1 in
     rw (p.1, p.2) (above_both _ o es fs c.args.bounds.now c.args.more.now c.in_err-bounds.ensures.above left right)
 
+pub returns-in_err-bounds-clause-above : goal.returns-in_err-bounds-clause-above
+returns-in_err-bounds-clause-above c =
+    let p = err_from_is_err_and c.from_residual.result c.from_residual.ensures.1 in
+    rw (p.1, p.2) c.in_err-bounds.ensures.above
+
 pub returns-clause-ok : goal.returns-clause-ok
 returns-clause-ok c = λ s. merged_meet c.args.bounds.now c.args.more.now c.in_ok-bounds.field-0 c.in_ok-bounds.ensures.ok s
 

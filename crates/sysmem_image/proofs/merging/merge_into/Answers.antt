@@ -12,6 +12,11 @@ returns-in_err-bounds-clause-line c = λ es old.
     let above = rw c.effective-more.ensures at c.in_err-bounds.ensures.above in
     rw (p.1, p.2) (above_line _ c.args.offer.now es c.args.bounds.now (effective c.args.offer.now c.args.entry.now) above old)
 
+pub returns-in_err-bounds-clause-above : goal.returns-in_err-bounds-clause-above
+returns-in_err-bounds-clause-above c =
+    let p = err_from_is_err_and c.from_residual.result c.from_residual.ensures.1 in
+    rw (p.1, p.2) (rw c.effective-more.ensures at c.in_err-bounds.ensures.above)
+
 pub returns-in_err-bounds-clause-none : goal.returns-in_err-bounds-clause-none
 returns-in_err-bounds-clause-none c = λ es old.
     let p = err_from_is_err_and c.from_residual.result c.from_residual.ensures.1 in

@@ -1,0 +1,64 @@
+-- The history that a report is of, and what the headline says of its decisions.
+use Rattle.std.specs.Prelude.{◌≡◌, ℕ, List, [], ◌∷◌, Bool, false, Result, Ok, is_none}
+use Rattle.std.specs.List.{AllByRecursion}
+use Rattle.sysmem_alloc.specs.Entry.{BookEntry, Acted, Decided}
+use Rattle.sysmem_alloc.specs.Headline.{IsNegotiated, history_with}
+use Rattle.sysmem_alloc.specs.History.{IsLegal, after_entry, replay}
+use Rattle.sysmem_alloc.specs.State.{State as BookState, first_state}
+use Rattle.sysmem_sanitise.specs.Platform.{PlatformFacts}
+use Rattle.sysmem_tree.specs.Path.{path_of}
+use Rattle.verdict_claims.specs.declared.certificate.Claim.{Claim}
+use Rattle.script_reading.specs.Script.{CallFacts, ScriptFacts}
+use Rattle.script_replay.specs.Report.{Certified, IsReport}
+use Rattle.script_run.specs.Certificate.{AreProved, CertifiedFacts, CertifiesTo, certificate_of}
+use Rattle.script_check.specs.CheckedFile.{IsScriptOf}
+
+-- what is certified of the decisions among entries, from a state on: of each the path of its
+-- domain's root, and its claim
+abbrev pub certified_from : BookState → List BookEntry → List Certified
+certified_from s [] = []
+certified_from s (Acted i deed ∷ es) = certified_from (after_entry s (Acted i deed)) es
+certified_from s (Decided c ∷ es) =
+    (path_of s.tree.nodes c.domain, c.claim) ∷ certified_from (after_entry s (Decided c)) es
+
+-- of the decisions of a history
+abbrev pub certified_in : List BookEntry → List Certified
+certified_in es = certified_from first_state es
+
+-- a legal history leads to this state of a collection, and has these decisions
+pub record IsHistoryOf (platform : PlatformFacts) (decisions : List Certified) (last : BookState)
+    (es : List BookEntry) : Type 0 where
+  pub legal : IsLegal platform es
+  pub leads : last ≡ replay es
+  pub decided : decisions ≡ certified_in es
+
+-- a report's collection has a legal history for the report's platform, with the report's decisions
+abbrev pub ReportsAreLegal : Type 0
+ReportsAreLegal = (platform : PlatformFacts) (rs : List CallFacts) (text : List ℕ)
+    (decisions : List Certified) (starved : Bool)
+    → (report : IsReport platform rs text decisions starved)
+    → (es : List BookEntry) × IsHistoryOf platform decisions report.last.book es
+
+-- a decision has a claim
+abbrev pub HasClaim : Certified → Type 0
+HasClaim d = is_none d.1 ≡ false
+
+-- the bytes are a script, and what was written of them the report, and the certificate, of the
+-- decisions of a legal history; where memory wasn't refused, each has a claim; and each that has
+-- one is negotiated as the headline says
+pub record HasHistory (input : List ℕ) (c : CertifiedFacts) : Type 0 where
+  pub script : ScriptFacts
+  pub reads : IsScriptOf input script
+  pub history : List BookEntry
+  pub legal : IsLegal script.platform history
+  pub report : IsReport script.platform script.calls c.text (certified_in history) c.starved
+  pub certificate : c.certificate ≡ certificate_of script.platform (certified_in history)
+  pub proved : AreProved (certified_in history)
+  pub claimed : c.starved ≡ false → AllByRecursion HasClaim (certified_in history)
+  pub negotiated : (es : List BookEntry) (r : ℕ) (claim : Claim) (fs : List BookEntry)
+      → history ≡ history_with es r claim fs → IsNegotiated script.platform es r claim fs
+
+-- what a run with a certificate writes is of such a history
+abbrev pub HeadlineOfBytes : Type 0
+HeadlineOfBytes = (input : List ℕ) (c : CertifiedFacts) → CertifiesTo input (Ok c)
+    → HasHistory input c
