@@ -10,6 +10,8 @@ use sysmem_sanitise::Fault;
 #[derive(Clone, Copy, Debug)]
 pub(crate) enum Failure {
     NoMemory,
+    /// A thread can't be started.
+    NoThread,
     /// A record is no JSON.
     NotJson,
     /// A record isn't a platform's, or no constraints.

@@ -5,6 +5,7 @@
 mod asking;
 mod failure;
 mod sharing;
+mod start;
 
 use asking::{CAMERA, ENCODER, PLATFORM, RECORDER, asked, platform};
 use failure::Failure;

@@ -4,6 +4,7 @@ ghost use Rattle.std.specs.Prelude.{◌≡◌};
 ghost use Rattle.sysmem_room.specs.Counting.{all_parts};
 
 use crate::failure::Failure;
+use crate::start::Start;
 use std::alloc::Global;
 use std::sync::ledger::{Blank, Ledger};
 use std::sync::{Arc, Mutex, Wait};
@@ -44,6 +45,23 @@ struct Part<L: Ledger> {
     stub: Stub<L>,
 }
 
+/// The slots of the three tokens.
+struct Slots<L: Ledger> {
+    app: Slot<L>,
+    camera: Slot<L>,
+    encoder: Slot<L>,
+}
+
+/// What the threads leave behind.
+#[derive(Drop)]
+struct Parts<L: Ledger> {
+    app: Option<Stub<L>>,
+    camera: Option<Part<L>>,
+    encoder: Option<Part<L>>,
+    /// `None` where it wasn't let in.
+    recorder: Option<Part<L>>,
+}
+
 /// A camera and an encoder share buffers, and once they have them a recorder is let in.
 pub(crate) fn share<L: Ledger + Send + Sync, R: Threads + Wait + Sync>(
     rt: &R,
@@ -62,21 +80,55 @@ pub(crate) fn share<L: Ledger + Send + Sync, R: Threads + Wait + Sync>(
     let camera = Mutex::new(root.duplicate(rt).ok());
     let encoder = Mutex::new(root.duplicate(rt).ok());
     let app = Mutex::new(Some(root));
-    let ((app_stub, recorded), (filmed, encoded)) = thread::join(
-        rt,
-        || lead(rt, &app, &asks.recorder),
-        || {
-            thread::join(
-                rt,
-                || take_part(rt, taken(rt, &camera), &asks.camera),
-                || take_part(rt, taken(rt, &encoder), &asks.encoder),
-            )
-        },
-    );
+    let slots = Slots {
+        app,
+        camera,
+        encoder,
+    };
+    let parts = Mutex::new(Parts {
+        app: None,
+        camera: None,
+        encoder: None,
+        recorder: None,
+    });
+    let have_acted = act(rt, &slots, asks, &parts);
+    let Slots {
+        app,
+        camera,
+        encoder,
+    } = slots;
     end(rt, camera);
     end(rt, encoder);
     end(rt, app);
-    audited(rt, alloc, app_stub, filmed, encoded, recorded)
+    if !have_acted {
+        return Err(Failure::NoThread);
+    }
+    audited(rt, alloc, parts.into_inner())
+}
+
+/// Has the three act on a thread each, and waits for their ends. Where one can't be started none
+/// acts, and the result is `false`.
+fn act<L: Ledger + Send + Sync, R: Threads + Wait + Sync>(
+    rt: &R,
+    slots: &Slots<L>,
+    asks: &Asks,
+    parts: &Mutex<Parts<L>>,
+) -> bool {
+    let start = Start::new();
+    let start = &start;
+    thread::scope(thread::scope_env(), rt, |scope| {
+        let are_all_there = scope
+            .spawn(move || lead(rt, start, slots, asks, parts))
+            .is_ok()
+            && scope
+                .spawn(move || film(rt, start, slots, asks, parts))
+                .is_ok()
+            && scope
+                .spawn(move || encode(rt, start, slots, asks, parts))
+                .is_ok();
+        start.tell(rt, are_all_there);
+        are_all_there
+    })
 }
 
 /// The token that was left here, if there is one.
@@ -91,14 +143,58 @@ fn end<L: Ledger, R: Threads + Wait + Sync>(rt: &R, slot: Slot<L>) {
     }
 }
 
-/// The app's thread: what is left of the app's handle, and the part of the recorder, if it is let
-/// in.
+/// The app's thread, on which the recorder takes part then, if it is let in.
 fn lead<L: Ledger, R: Threads + Wait + Sync>(
     rt: &R,
-    slot: &Slot<L>,
-    recorder: &Arc<Constraints>,
-) -> (Option<Stub<L>>, Option<Part<L>>) {
-    let Some(token) = taken(rt, slot) else {
+    start: &Start,
+    slots: &Slots<L>,
+    asks: &Asks,
+    parts: &Mutex<Parts<L>>,
+) {
+    if !start.awaited(rt) {
+        return;
+    }
+    let (app, late) = invite(rt, taken(rt, &slots.app));
+    let recorder = take_part(rt, late, &asks.recorder);
+    let mut parts = parts.lock(rt);
+    parts.app = app;
+    parts.recorder = recorder;
+}
+
+/// The camera's thread.
+fn film<L: Ledger, R: Threads + Wait + Sync>(
+    rt: &R,
+    start: &Start,
+    slots: &Slots<L>,
+    asks: &Asks,
+    parts: &Mutex<Parts<L>>,
+) {
+    if start.awaited(rt) {
+        let camera = take_part(rt, taken(rt, &slots.camera), &asks.camera);
+        parts.lock(rt).camera = camera;
+    }
+}
+
+/// The encoder's thread.
+fn encode<L: Ledger, R: Threads + Wait + Sync>(
+    rt: &R,
+    start: &Start,
+    slots: &Slots<L>,
+    asks: &Asks,
+    parts: &Mutex<Parts<L>>,
+) {
+    if start.awaited(rt) {
+        let encoder = take_part(rt, taken(rt, &slots.encoder), &asks.encoder);
+        parts.lock(rt).encoder = encoder;
+    }
+}
+
+/// What is left of the app's handle, and a token for who is late, where there is one.
+fn invite<L: Ledger, R: Threads + Wait + Sync>(
+    rt: &R,
+    token: Option<Token<L, NoGate>>,
+) -> (Option<Stub<L>>, Option<Token<L, NoGate>>) {
+    let Some(token) = token else {
         return (None, None);
     };
     let mut app = match token.bind(rt) {
@@ -106,8 +202,7 @@ fn lead<L: Ledger, R: Threads + Wait + Sync>(
         Err((token, _refusal)) => return (Some(token.close(rt).0), None),
     };
     let late = late_token(rt, &mut app).ok();
-    let stub = app.close(rt).0;
-    (Some(stub), take_part(rt, late, recorder))
+    (Some(app.close(rt).0), late)
 }
 
 /// Asks for nothing, waits until the others have their buffers, and makes a token for who is late.
@@ -120,8 +215,8 @@ fn late_token<L: Ledger, R: Threads + Wait + Sync>(
     app.attach_token(rt)
 }
 
-/// A participant's thread: what it is told, and what is left of its handle; `None` where there is no
-/// token.
+/// Has a participant take part: what it is told, and what is left of its handle; `None` where there
+/// is no token.
 fn take_part<L: Ledger, R: Threads + Wait + Sync>(
     rt: &R,
     token: Option<Token<L, NoGate>>,
@@ -161,20 +256,17 @@ fn negotiate<L: Ledger, R: Threads + Wait + Sync>(
 fn audited<L: Ledger, R: Threads + Wait + Sync>(
     rt: &R,
     alloc: Global,
-    app: Option<Stub<L>>,
-    filmed: Option<Part<L>>,
-    encoded: Option<Part<L>>,
-    recorded: Option<Part<L>>,
+    parts: Parts<L>,
 ) -> Result<Told, Failure> {
-    let (Some(app), Some(filmed), Some(encoded)) = (app, filmed, encoded) else {
+    let (Some(app), Some(camera), Some(encoder)) = (parts.app, parts.camera, parts.encoder) else {
         return Err(Failure::NoMemory);
     };
-    let mut stubs = Vec::from_array(alloc, [app, filmed.stub, encoded.stub])?;
-    let recorder = told_to(&mut stubs, recorded)?;
+    let mut stubs = Vec::from_array(alloc, [app, camera.stub, encoder.stub])?;
+    let recorder = told_to(&mut stubs, parts.recorder)?;
     match audit(rt, stubs) {
         Ok((audit, _seen)) => Ok(Told {
-            camera: filmed.told,
-            encoder: encoded.told,
+            camera: camera.told,
+            encoder: encoder.told,
             recorder,
             audit,
         }),

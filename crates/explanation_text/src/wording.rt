@@ -50,9 +50,9 @@ pub fn put_count(text: &mut Words, count: usize, one: &str, many: &str) {
     text.put_number(count).put(" ").put(word);
 }
 
-/// The first and the last of each run of characters that can't be seen, or that steer a terminal or
-/// the direction of writing.
-const UNSEEN: [(u32, u32); 11] = [
+/// The first and the last of each run of characters that can't be seen, that steer a terminal, the
+/// direction of writing or the drawing of music, or that aren't characters of a text.
+const UNSEEN: [(u32, u32); 14] = [
     (0, 0x1F),
     (0x7F, 0x9F),
     (0xAD, 0xAD),
@@ -61,8 +61,11 @@ const UNSEEN: [(u32, u32); 11] = [
     (0x200B, 0x200F),
     (0x2028, 0x202E),
     (0x2060, 0x206F),
+    (0xFDD0, 0xFDEF),
     (0xFEFF, 0xFEFF),
     (0xFFF9, 0xFFFB),
+    (0xFFFE, 0xFFFF),
+    (0x1D173, 0x1D17A),
     (0xE0000, 0xE007F),
 ];
 

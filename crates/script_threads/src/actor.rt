@@ -26,4 +26,5 @@ pub(crate) fn act<L: Ledger, R: Threads + Wait + Sync>(
             next = next.saturating_add(1);
         }
     }
+    stage.activity.pause(rt);
 }

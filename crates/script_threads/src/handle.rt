@@ -1,5 +1,6 @@
 //! The handles of a collection, and the calls of a script on them.
 
+use crate::activity::{Activity, Woken};
 use crate::called::Called;
 use script_reading::Act;
 use serde_json::Value;
@@ -10,6 +11,7 @@ use std::thread::Threads;
 use sysmem_participants::{Collection, Group, Stub, Token};
 use sysmem_sanitise::{Code, Constraints, read_constraints};
 use sysmem_search::NoGate;
+use sysmem_tree::Refusal;
 
 /// What a name stands for until it is released or closed.
 pub(crate) enum Handle<L: Ledger> {
@@ -24,12 +26,15 @@ impl<L: Ledger> Handle<L> {
         self,
         rt: &R,
         alloc: Global,
+        activity: &Activity,
         act: &Act<'_>,
     ) -> Called<L> {
         match self {
             Handle::Token(token) => call_token(rt, token, act),
             Handle::Group(group) => call_group(rt, group, act),
-            Handle::Collection(collection) => call_collection(rt, alloc, collection, act),
+            Handle::Collection(collection) => {
+                call_collection(rt, alloc, activity, collection, act)
+            }
         }
     }
 
@@ -99,6 +104,7 @@ fn call_group<L: Ledger, R: Threads + Wait + Sync>(
 fn call_collection<L: Ledger, R: Threads + Wait + Sync>(
     rt: &R,
     alloc: Global,
+    activity: &Activity,
     collection: Collection<L, NoGate>,
     act: &Act<'_>,
 ) -> Called<L> {
@@ -114,7 +120,7 @@ fn call_collection<L: Ledger, R: Threads + Wait + Sync>(
             Called::kept(Handle::Collection(collection))
         }
         Act::Wait => {
-            let _told = collection.wait_for_all(rt).err();
+            wait_for_verdict(rt, activity, &mut collection);
             Called::kept(Handle::Collection(collection))
         }
         Act::Release => match collection.release(rt) {
@@ -123,6 +129,21 @@ fn call_collection<L: Ledger, R: Threads + Wait + Sync>(
         },
         Act::Close => Called::spent(Handle::Collection(collection).close(rt)),
         _ => Called::kept(Handle::Collection(collection)),
+    }
+}
+
+/// Asks until there is a verdict, or no actor can bring one any more.
+fn wait_for_verdict<L: Ledger, R: Threads + Wait + Sync>(
+    rt: &R,
+    activity: &Activity,
+    collection: &mut Collection<L, NoGate>,
+) {
+    for _ in rt.forever() {
+        let turn = activity.turn(rt);
+        let is_pending = matches!(collection.check().err(), Some(Refusal::Pending));
+        if !is_pending || activity.wait(rt, turn) == Woken::ByStandstill {
+            return;
+        }
     }
 }
 

@@ -8,6 +8,7 @@
 //! ```
 #![tactic(auto)]
 
+mod activity;
 mod actor;
 mod called;
 mod domains;

@@ -1,5 +1,6 @@
 //! What a name stands for, and who waits for it.
 
+use crate::activity::Activity;
 use crate::called::{Called, Rest};
 use crate::handle::Handle;
 use script_reading::Act;
@@ -17,6 +18,8 @@ pub(crate) struct Slot<L: Ledger> {
     pub(crate) stub: Option<Stub<L>>,
     /// Whether the call that makes it was answered.
     is_answered: bool,
+    /// Whether an actor waits for that answer.
+    is_awaited: bool,
     /// Whether memory was refused to a call on it.
     pub(crate) is_starved: bool,
 }
@@ -41,6 +44,7 @@ impl<L: Ledger> Slot<L> {
         &mut self,
         rt: &R,
         alloc: Global,
+        activity: &Activity,
         act: &Act<'_>,
     ) -> Option<Handle<L>> {
         let handle = self.handle.take()?;
@@ -48,7 +52,7 @@ impl<L: Ledger> Slot<L> {
             rest,
             made,
             is_starved,
-        } = handle.call(rt, alloc, act);
+        } = handle.call(rt, alloc, activity, act);
         self.is_starved = self.is_starved || is_starved;
         match rest {
             Rest::Handle(handle) => discard(rt, self.handle.replace(handle)),
@@ -63,6 +67,7 @@ impl<L: Ledger> Slot<L> {
             handle,
             stub,
             is_answered: _,
+            is_awaited: _,
             is_starved: _,
         } = self;
         match handle {
@@ -80,6 +85,7 @@ impl<L: Ledger> Place<L> {
                 handle: None,
                 stub: None,
                 is_answered: false,
+                is_awaited: false,
                 is_starved: false,
             }),
             answered: Condvar::new(),
@@ -92,15 +98,20 @@ impl<L: Ledger> Place<L> {
         &self,
         rt: &R,
         alloc: Global,
+        activity: &Activity,
         act: &Act<'_>,
     ) -> Option<Handle<L>> {
-        let mut slot = self.awaited(rt);
-        slot.call(rt, alloc, act)
+        let mut slot = self.awaited(rt, activity);
+        slot.call(rt, alloc, activity, act)
     }
 
     /// What the name stands for, once the call that makes it was answered.
-    fn awaited<R: Wait>(&self, rt: &R) -> MutexGuard<'_, Slot<L>> {
+    fn awaited<R: Wait>(&self, rt: &R, activity: &Activity) -> MutexGuard<'_, Slot<L>> {
         let mut slot = self.slot.lock(rt);
+        if !slot.is_answered {
+            slot.is_awaited = true;
+            activity.pause(rt);
+        }
         for _ in rt.forever() {
             if slot.is_answered {
                 return slot;
@@ -111,16 +122,30 @@ impl<L: Ledger> Place<L> {
     }
 
     /// The call that makes the name was answered, and made this.
-    pub(crate) fn answer<R: Threads + Wait + Sync>(&self, rt: &R, made: Option<Handle<L>>) {
-        let before = self.exchange(rt, made);
+    pub(crate) fn answer<R: Threads + Wait + Sync>(
+        &self,
+        rt: &R,
+        activity: &Activity,
+        made: Option<Handle<L>>,
+    ) {
+        let before = self.exchange(rt, activity, made);
         self.answered.notify_all();
         discard(rt, before);
     }
 
     /// Puts what the name stands for in place of what it stood for.
-    fn exchange<R: Wait>(&self, rt: &R, made: Option<Handle<L>>) -> Option<Handle<L>> {
+    fn exchange<R: Wait>(
+        &self,
+        rt: &R,
+        activity: &Activity,
+        made: Option<Handle<L>>,
+    ) -> Option<Handle<L>> {
         let mut slot = self.slot.lock(rt);
         slot.is_answered = true;
+        if slot.is_awaited {
+            slot.is_awaited = false;
+            activity.resume(rt);
+        }
         match made {
             Some(handle) => slot.handle.replace(handle),
             None => None,

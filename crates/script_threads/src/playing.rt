@@ -74,7 +74,7 @@ fn play_on<L: Ledger + Send + Sync, R: Threads + Wait + Sync>(
         let _stub = Handle::Token(root).close(rt);
         return Err(AuditFault::NoMemory);
     };
-    let Ok(stage) = Stage::new(alloc, names) else {
+    let Ok(stage) = Stage::new(alloc, names, actors_of(calls)) else {
         let _stub = Handle::Token(root).close(rt);
         return Err(AuditFault::NoMemory);
     };

@@ -1,21 +1,23 @@
 //! All names of a script, and what they stand for.
 
+use crate::activity::Activity;
 use crate::handle::Handle;
 use crate::place::Place;
 use crate::start::Start;
-use script_reading::Call;
+use script_reading::{Act, Call};
 use std::alloc::{AllocError, Global};
 use std::sync::Wait;
 use std::sync::ledger::Ledger;
 use std::thread::Threads;
 use sysmem_participants::Stub;
 
-/// The names of a script in the order of the calls that make them, the root's first, and the
-/// actors' start.
+/// The names of a script in the order of the calls that make them, the root's first, the actors'
+/// start, and who of them can still act.
 pub(crate) struct Stage<L: Ledger> {
     alloc: Global,
     places: Vec<Place<L>>,
     pub(crate) start: Start,
+    pub(crate) activity: Activity,
 }
 
 /// What is left in the end of all that the names stood for.
@@ -27,8 +29,8 @@ pub(crate) struct Remains<L: Ledger> {
 }
 
 impl<L: Ledger> Stage<L> {
-    /// So many names besides the root's.
-    pub(crate) fn new(alloc: Global, names: usize) -> Result<Stage<L>, AllocError> {
+    /// So many names besides the root's, and so many actors.
+    pub(crate) fn new(alloc: Global, names: usize, actors: usize) -> Result<Stage<L>, AllocError> {
         let count = names.saturating_add(1);
         let mut places = Vec::with_capacity(alloc, count)?;
         for _made in 0..count {
@@ -38,6 +40,7 @@ impl<L: Ledger> Stage<L> {
             alloc,
             places,
             start: Start::new(),
+            activity: Activity::new(actors),
         })
     }
 
@@ -49,7 +52,7 @@ impl<L: Ledger> Stage<L> {
         made: Option<Handle<L>>,
     ) {
         match self.places.get(place) {
-            Some(place) => place.answer(rt, made),
+            Some(place) => place.answer(rt, &self.activity, made),
             None => {
                 if let Some(handle) = made {
                     let _stub = handle.close(rt);
@@ -61,13 +64,16 @@ impl<L: Ledger> Stage<L> {
     /// Makes a call; the name that it makes, if it makes one, has this place.
     pub(crate) fn make<R: Threads + Wait + Sync>(&self, rt: &R, call: &Call<'_>, next: usize) {
         let made = match self.places.get(call.place) {
-            Some(place) => place.call(rt, self.alloc, &call.act),
+            Some(place) => place.call(rt, self.alloc, &self.activity, &call.act),
             None => None,
         };
         if call.act.name_made().is_some() {
             self.answer(rt, next, made);
         } else if let Some(handle) = made {
             let _stub = handle.close(rt);
+        }
+        if !matches!(call.act, Act::Check | Act::Wait) {
+            self.activity.called(rt);
         }
     }
 
@@ -77,6 +83,7 @@ impl<L: Ledger> Stage<L> {
             alloc: _,
             places,
             start: _,
+            activity: _,
         } = self;
         let mut remains = Remains {
             stubs,
