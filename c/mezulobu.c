@@ -1,5 +1,5 @@
 /* The face of the proved exports: null pointers become what these take, which is no null pointer. */
-#include "mezulobu.h"
+#include "face.h"
 #include <stdlib.h>
 #include <string.h>
 
@@ -11,12 +11,6 @@ uint32_t mezulobu_rt_explain(const uint8_t *, size_t, const uint8_t *, size_t, b
 uint32_t mezulobu_rt_planes(uint32_t, uint64_t, uint32_t, uint32_t, struct mezulobu_layout *);
 uint32_t mezulobu_rt_negotiate(const struct mezulobu_platform *, const struct mezulobu_participant *, size_t,
                                struct mezulobu_settings *, struct mezulobu_refusal *);
-
-/* Bytes that may be null where there are none. */
-static int lacks(const void *bytes, size_t size) { return !bytes && size; }
-
-/* A buffer with its size, which are null together where the caller wants no such text. */
-static int lacks_room(const void *buffer, const size_t *size) { return size ? lacks(buffer, *size) : buffer != NULL; }
 
 int mezulobu_run(const void *script, size_t script_size, char *text, size_t *text_size,
                  void *certificate, size_t *certificate_size)
@@ -83,22 +77,17 @@ static const uint32_t no_color;
 static const struct mezulobu_entry no_entry;
 static const struct mezulobu_participant no_participant;
 
-/* A platform without null pointers; 0 where it is misused. */
-static int mend_platform(struct mezulobu_platform *p)
+bool mezulobu_mend_platform(struct mezulobu_platform *p)
 {
     if (p->struct_size != sizeof *p || lacks(p->heaps, p->n_heaps) || lacks(p->pairs, p->n_pairs) || lacks(p->colors, p->n_colors))
-        return 0;
+        return false;
     p->heaps = p->heaps ? p->heaps : &no_heap;
     p->pairs = p->pairs ? p->pairs : &no_pair;
     p->colors = p->colors ? p->colors : &no_color;
-    return 1;
+    return true;
 }
 
-/* What mend_participant answers of one that isn't misused: no index of an entry, nor NOBODY. */
-#define SOUND (SIZE_MAX - 1)
-
-/* The same of a participant: SOUND, or the index of the entry that is misused, or NOBODY where it is the participant's own struct. */
-static size_t mend_participant(struct mezulobu_participant *p)
+size_t mezulobu_mend_participant(struct mezulobu_participant *p)
 {
     if (p->struct_size != sizeof *p || lacks(p->entries, p->n_entries))
         return MEZULOBU_NOBODY;
@@ -109,8 +98,7 @@ static size_t mend_participant(struct mezulobu_participant *p)
     return SOUND;
 }
 
-/* Says which struct is misused: its kind, and of a participant the index, and of an entry its own. */
-static int misused(struct mezulobu_refusal *why, uint32_t kind, size_t who, size_t index)
+int mezulobu_misused(struct mezulobu_refusal *why, uint32_t kind, size_t who, size_t index)
 {
     *why = (struct mezulobu_refusal){.struct_size = sizeof *why, .kind = kind, .who = who, .index = index};
     return MEZULOBU_MISUSED;
@@ -120,9 +108,9 @@ static int negotiate_list(const struct mezulobu_platform *platform, struct mezul
                           struct mezulobu_settings *settings, struct mezulobu_refusal *refusal)
 {
     for (size_t i = 0; i < n; i++) {
-        size_t entry = mend_participant(&list[i]);
+        size_t entry = mezulobu_mend_participant(&list[i]);
         if (entry != SOUND)
-            return misused(refusal, MEZULOBU_KIND_PARTICIPANT, i, entry);
+            return mezulobu_misused(refusal, MEZULOBU_KIND_PARTICIPANT, i, entry);
     }
     return (int)mezulobu_rt_negotiate(platform, n ? list : &no_participant, n, settings, refusal);
 }
@@ -135,14 +123,17 @@ int mezulobu_negotiate(const struct mezulobu_platform *platform, const struct me
     if (why->struct_size != sizeof *why)
         return MEZULOBU_MISUSED;
     if (!settings || settings->struct_size != sizeof *settings)
-        return misused(why, 0, MEZULOBU_NOBODY, 0);
-    if (!platform)
-        return misused(why, MEZULOBU_KIND_PLATFORM, MEZULOBU_NOBODY, 0);
+        return mezulobu_misused(why, 0, MEZULOBU_NOBODY, 0);
+    // A smaller struct is not read beyond its first member.
+    if (!platform || platform->struct_size != sizeof *platform)
+        return mezulobu_misused(why, MEZULOBU_KIND_PLATFORM, MEZULOBU_NOBODY, 0);
     struct mezulobu_platform on = *platform;
-    if (!mend_platform(&on))
-        return misused(why, MEZULOBU_KIND_PLATFORM, MEZULOBU_NOBODY, 0);
+    if (!mezulobu_mend_platform(&on))
+        return mezulobu_misused(why, MEZULOBU_KIND_PLATFORM, MEZULOBU_NOBODY, 0);
     if (lacks(participants, n) || n > SIZE_MAX / sizeof *participants)
-        return misused(why, MEZULOBU_KIND_PARTICIPANT, MEZULOBU_NOBODY, MEZULOBU_NOBODY);
+        return mezulobu_misused(why, MEZULOBU_KIND_PARTICIPANT, MEZULOBU_NOBODY, MEZULOBU_NOBODY);
+    if (n && participants->struct_size != sizeof *participants)
+        return mezulobu_misused(why, MEZULOBU_KIND_PARTICIPANT, 0, MEZULOBU_NOBODY);
     struct mezulobu_participant *list = n ? malloc(n * sizeof *list) : NULL;
     if (n && !list) {
         *why = (struct mezulobu_refusal){.struct_size = sizeof *why, .who = MEZULOBU_NOBODY};
@@ -175,15 +166,14 @@ const char *mezulobu_field_name(uint32_t field)
 
 const char *mezulobu_status_name(int status)
 {
-    switch (status) {
-    case MEZULOBU_DONE: return "DONE";
-    case MEZULOBU_MISUSED: return "MISUSED";
-    case MEZULOBU_REFUSED: return "REFUSED";
-    case MEZULOBU_NO_MEMORY: return "NO_MEMORY";
-    case MEZULOBU_TOO_SMALL: return "TOO_SMALL";
-    case MEZULOBU_NO: return "NO";
-    default: return "?";
-    }
+    static const char *const names[] = {
+        [MEZULOBU_DONE] = "DONE", [MEZULOBU_MISUSED] = "MISUSED", [MEZULOBU_REFUSED] = "REFUSED", [MEZULOBU_NO_MEMORY] = "NO_MEMORY",
+        [MEZULOBU_TOO_SMALL] = "TOO_SMALL", [MEZULOBU_NO] = "NO", [MEZULOBU_WRONG_STATE] = "WRONG_STATE",
+        [MEZULOBU_TOO_MANY_NODES] = "TOO_MANY_NODES", [MEZULOBU_NO_CHILDREN] = "NO_CHILDREN", [MEZULOBU_NOT_SELECTED] = "NOT_SELECTED",
+        [MEZULOBU_DOMAIN_FAILED] = "DOMAIN_FAILED", [MEZULOBU_INTERSECTION_EMPTY] = "INTERSECTION_EMPTY",
+        [MEZULOBU_TOO_MANY_SELECTIONS] = "TOO_MANY_SELECTIONS", [MEZULOBU_PENDING] = "PENDING", [MEZULOBU_STRANGE] = "STRANGE",
+    };
+    return status >= 0 && (size_t)status < sizeof names / sizeof names[0] && names[status] ? names[status] : "?";
 }
 
 uint32_t mezulobu_version(void) { return MEZULOBU_VERSION; }

@@ -1,9 +1,11 @@
 /* mezulobu.h: the shared-buffer negotiator for C and C++. Link with: pkg-config --cflags --libs mezulobu
  *
- * No call keeps anything: any thread may call at any time, with memory of its own. No call prints, ends the process, or
- * touches a file, errno, a signal or the environment. Memory comes from the program's malloc, realloc and free alone, and
- * each call has freed all of it when it returns. Don't call from a signal handler, nor in the forked child of a process
- * with threads. Memory that a call writes to may not overlap other memory that it is given. */
+ * Two halves. The first keeps nothing: its calls take all that they work on, and have freed all of their memory when they
+ * return. The second, "Live collections" at the end, keeps collections between calls, behind handles. Any thread may make any
+ * call of both at any time, with memory of its own. No call prints, ends the process, or touches a file by name, a signal or the
+ * environment, and none of the first half touches errno. Memory comes from the program's malloc, realloc and free alone.
+ * Don't call from a signal handler, nor in the forked child of a process with threads. Memory that a call writes to may not
+ * overlap other memory that it is given. */
 #ifndef MEZULOBU_H
 #define MEZULOBU_H
 
@@ -17,7 +19,7 @@
 extern "C" {
 #endif
 
-#define MEZULOBU_VERSION 0x00010002u /* major 16 bits, minor 16 bits */
+#define MEZULOBU_VERSION 0x00010003u /* major 16 bits, minor 16 bits */
 
 /* What a call answers: the exit status that the program has of the same, and 2 and 5 for what only a caller can get wrong. */
 enum mezulobu_status {
@@ -26,7 +28,19 @@ enum mezulobu_status {
     MEZULOBU_REFUSED = 3,   /* the script or the certificate is refused, or a struct */
     MEZULOBU_NO_MEMORY = 4, /* memory was refused, to all of it or to a decision */
     MEZULOBU_TOO_SMALL = 5, /* a buffer is too small; each size says what is needed */
-    MEZULOBU_NO = 6         /* a check: no; a strict explanation: not all went well; a negotiation: no settings meet everybody */
+    MEZULOBU_NO = 6,        /* a check: no; a strict explanation: not all went well; a negotiation: no settings meet everybody;
+                             * a wait: nothing was decided in that time */
+
+    /* Of live collections alone: why a call is refused, 16 and the number that reports have. E1 is NO_MEMORY. */
+    MEZULOBU_WRONG_STATE = 18,         /* E2: the handle isn't in a state that allows the call */
+    MEZULOBU_TOO_MANY_NODES = 19,      /* E3: more than 128 in one collection, those that are gone included */
+    MEZULOBU_NO_CHILDREN = 20,         /* E4: of all_children_present, of a group without a child */
+    MEZULOBU_NOT_SELECTED = 21,        /* E5: another alternative was chosen */
+    MEZULOBU_DOMAIN_FAILED = 22,       /* E6: somebody closed too early, or what it was attached to has no settings */
+    MEZULOBU_INTERSECTION_EMPTY = 23,  /* E7: no settings meet everybody: mezulobu_collection_explain says who is in the way */
+    MEZULOBU_TOO_MANY_SELECTIONS = 24, /* E8: more than 4,096 selections of alternatives */
+    MEZULOBU_PENDING = 25,             /* E9: nothing is decided yet */
+    MEZULOBU_STRANGE = 26              /* E10: no correct run gives it */
 };
 
 /* ---- Bytes in, bytes out ------------------------------------------------------------------------------------------
@@ -306,6 +320,136 @@ const char *mezulobu_status_name(int status);
 
 /* The version of the library, as MEZULOBU_VERSION is that of the header. */
 uint32_t mezulobu_version(void);
+
+/* ---- Live collections --------------------------------------------------------------------------------------------------
+ *
+ * The same negotiation while it goes on: a camera, a codec, a GPU and a display driver, each on a thread of its own, hold
+ * tokens and collections of one collection of buffers, act on them, and are told once nobody is awaited any more. FORMATS says
+ * what each call does ("What the calls do"), and LIVE, which is installed as share/doc/mezulobu/LIVE.md, how a program is made
+ * of them. The least is:
+ *
+ *     struct mezulobu_allocator *allocator;
+ *     struct mezulobu_token *root = NULL, *camera = NULL, *screen = NULL;
+ *     mezulobu_allocator_new(&platform, &allocator, NULL);
+ *     mezulobu_allocate_shared(allocator, &root);
+ *     mezulobu_token_duplicate(root, &camera); // to the camera's thread
+ *     mezulobu_token_duplicate(root, &screen); // to the display's
+ *     mezulobu_token_release(&root);
+ *     // and each on its own thread:
+ *     struct mezulobu_collection *mine = NULL;
+ *     mezulobu_token_bind(&camera, &mine);
+ *     mezulobu_collection_set_constraints(mine, &asked, NULL);
+ *     int status = mezulobu_collection_wait(mine, 1000, &settings); // or mezulobu_collection_fd with poll
+ *     mezulobu_collection_release(&mine); // once it doesn't use its buffers any more
+ *
+ * **Threads.** Calls on handles of one collection may run at once, on one handle too, but for the call that spends it: no other
+ * thread may come with that handle then or later. All calls of a collection are steps in one order, which
+ * mezulobu_collection_script writes down. A handle may be passed to another thread.
+ *
+ * **Decisions.** A decision is made by the thread whose call leaves nobody awaited, within that call, and without a lock:
+ * mezulobu_collection_check, _wait, _fd, _node, _name_of, _selection and the calls that set a name are answered meanwhile, and so
+ * are calls of other collections. A call that acts on the same collection waits until the decision is entered, and so does one that
+ * writes a text or a refusal: some microseconds mostly, and at most what 4,096 selections take.
+ *
+ * **A call that spends its handle**, which takes a pointer to it (bind, release, close), spends it where it is DONE, and writes
+ * NULL there. At any other status the caller still has it. Each handle is freed by being spent, and in no other way. release and
+ * close take no memory: close is refused of nothing that is open, and release of a group alone that isn't complete. So each
+ * handle can be given up, without memory too. What a call would hand out is as it was unless the status is DONE. MISUSED is
+ * also the status of a handle of another kind and, as long as its collection has other handles, of one that is spent. */
+
+struct mezulobu_allocator;
+struct mezulobu_token;
+struct mezulobu_group;
+struct mezulobu_collection;
+
+/* What makes collections, which are decided for one platform. DONE, MISUSED, NO_MEMORY; REFUSED: the platform states nothing that
+ * could be meant, and why, which may be null, has kind PLATFORM and says which field. Or from the JSON of a platform as scripts
+ * have it: at REFUSED code, which may be null, is the number of its fault, 1 of S1 and so on, and 0 where it is no JSON. */
+int mezulobu_allocator_new(const struct mezulobu_platform *platform, struct mezulobu_allocator **allocator,
+                           struct mezulobu_refusal *why);
+int mezulobu_allocator_new_record(const void *record, size_t size, struct mezulobu_allocator **allocator, uint32_t *code);
+
+/* Frees it, once no call uses it; null is nothing to free. The collections that it made live on. */
+void mezulobu_allocator_free(struct mezulobu_allocator *allocator);
+
+/* A new collection, by the token of its root. DONE, MISUSED, NO_MEMORY. */
+int mezulobu_allocate_shared(struct mezulobu_allocator *allocator, struct mezulobu_token **token);
+
+/* Of a token: the right to take part. A call that acts, here and below, takes no memory but where it is said, and is DONE or changes
+ * nothing: then its status is the first reason of its refusal, from WRONG_STATE on, as a report has it of the same call. */
+int mezulobu_token_duplicate(struct mezulobu_token *token, struct mezulobu_token **made);
+int mezulobu_token_create_group(struct mezulobu_token *token, struct mezulobu_group **made);
+int mezulobu_token_bind(struct mezulobu_token **token, struct mezulobu_collection **bound);
+int mezulobu_token_release(struct mezulobu_token **token);
+int mezulobu_token_close(struct mezulobu_token **token);
+
+/* Of a group: alternatives, of which one is selected. */
+int mezulobu_group_create_child(struct mezulobu_group *group, struct mezulobu_token **made);
+int mezulobu_group_all_children_present(struct mezulobu_group *group);
+int mezulobu_group_release(struct mezulobu_group **group);
+int mezulobu_group_close(struct mezulobu_group **group);
+
+/* Of a collection: a participant. What it asks for it says once; where asked is null, for nothing. At REFUSED the participant
+ * states nothing that could be meant, why has kind PARTICIPANT, who 0, and says which field, and nothing was set. A record is the
+ * JSON of constraints as scripts have it, and code as above. NO_MEMORY: nothing was set; it can be tried again. */
+int mezulobu_collection_set_constraints(struct mezulobu_collection *collection, const struct mezulobu_participant *asked,
+                                        struct mezulobu_refusal *why);
+int mezulobu_collection_set_constraints_record(struct mezulobu_collection *collection, const void *record, size_t size,
+                                               uint32_t *code);
+int mezulobu_collection_attach_token(struct mezulobu_collection *collection, struct mezulobu_token **made);
+int mezulobu_collection_release(struct mezulobu_collection **collection);
+int mezulobu_collection_close(struct mezulobu_collection **collection);
+
+/* What was decided for a collection. DONE: settings, which may be null. Else why there are none, or PENDING; NO_MEMORY: the
+ * decision had no memory. The answer stays once it isn't PENDING. Of settings with a format that has no code, which is L8 alone, the
+ * image is all 0. */
+int mezulobu_collection_check(struct mezulobu_collection *collection, struct mezulobu_settings *settings);
+
+/* The same, once it isn't PENDING; NO where it still is after so many milliseconds. Below 0 it waits as long as it takes; 0 doesn't
+ * wait. It may be cancelled, and a thread that is holds no lock then. MISUSED: the handle was spent meanwhile. */
+int mezulobu_collection_wait(struct mezulobu_collection *collection, int milliseconds, struct mezulobu_settings *settings);
+
+/* A file descriptor that polls as readable as soon as check isn't PENDING, and stays so; -1 where the system gives none, or the
+ * handle is misused. Don't read, write or close it: it is the collection's, which closes it when it is spent. So take it out of a
+ * set of epoll before that. */
+int mezulobu_collection_fd(struct mezulobu_collection *collection);
+
+/* Names a node, in scripts and explanations, which else call it `n` and its number: 1 to 32 letters, digits, '_' or '-', and a 0.
+ * The first node of all is always `root`. MISUSED: of that one, another name than these, `root`, `n` with digits, or a name that
+ * another node of the collection has. NO_MEMORY. A further name takes the place of the one before. */
+int mezulobu_token_set_name(struct mezulobu_token *token, const char *name);
+int mezulobu_group_set_name(struct mezulobu_group *group, const char *name);
+int mezulobu_collection_set_name(struct mezulobu_collection *collection, const char *name);
+
+/* The number of the collection's node: 0 is the first token of all, and each call that makes one takes the next. */
+int mezulobu_collection_node(struct mezulobu_collection *collection, uint32_t *node);
+
+/* The name of the node of a number. A text as above; MISUSED where there is no such node. */
+int mezulobu_collection_name_of(struct mezulobu_collection *collection, uint32_t node, char *name, size_t *name_size);
+
+/* Which alternatives were chosen: of each group that is selected itself, in the order of the tree, each node before its children,
+ * the number of its child, counted from 0. n goes in as the room of choices and comes out as their number: 0 without groups.
+ * DONE; TOO_SMALL; else as check of a collection that is selected. */
+int mezulobu_collection_selection(struct mezulobu_collection *collection, uint8_t *choices, size_t *n);
+
+/* Who is in the way, where check says INTERSECTION_EMPTY of a domain without groups that isn't attached. DONE: why, as a
+ * negotiation of its participants has it, in the order in which their nodes were made, but that **who is the number of a node**. NO:
+ * it isn't so, and mezulobu_collection_explain tells more. NO_MEMORY. */
+int mezulobu_collection_refusal(struct mezulobu_collection *collection, struct mezulobu_refusal *why);
+
+/* All calls of the whole collection that were done so far, as a script, and what proves its decisions; texts as above, and
+ * certificate and certificate_size may be null. Both are of one moment. mezulobu_run accepts each of its calls and decides the
+ * same, which is tried before it is handed out, so this takes what the decisions took; mezulobu_check says yes to the certificate.
+ * REFUSED: there is no such script, since a decision had no memory, or it would be longer than a script may be; each size is 0. What
+ * isn't in it: calls that were refused, check and wait. Of two scripts the later one begins with the calls of the earlier one, under
+ * the names of its own moment. */
+int mezulobu_collection_script(struct mezulobu_collection *collection, char *text, size_t *text_size,
+                               void *certificate, size_t *certificate_size);
+
+/* mezulobu_explain of the script, and mezulobu_explain_json, with "collection" for its file: who is awaited, what decided each
+ * value, who is in the way and which changes help. REFUSED: there is no such script, and the size is 0. */
+int mezulobu_collection_explain(struct mezulobu_collection *collection, char *text, size_t *text_size);
+int mezulobu_collection_explain_json(struct mezulobu_collection *collection, char *text, size_t *text_size);
 
 #ifdef __cplusplus
 }

@@ -7,6 +7,7 @@
 
 mod buffer;
 mod explained;
+mod live;
 mod told;
 mod words;
 

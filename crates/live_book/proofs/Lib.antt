@@ -1,0 +1,5 @@
+pub mod Copies
+pub mod Eager
+pub mod Parts
+pub mod Ruled
+pub mod Still

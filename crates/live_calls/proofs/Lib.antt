@@ -1,0 +1,6 @@
+pub mod Endings
+pub mod Frozen
+pub mod GivenUp
+pub mod OtherNumbers
+pub mod Stated
+pub mod Writable

@@ -1,0 +1,121 @@
+//! A collection's history as a script: the accepted calls, in their order.
+
+ghost use Rattle.std.specs.Prelude.{◌≡◌};
+
+use crate::records::{put_participant, put_platform};
+use crate::replaying::is_script_of;
+use live_book::Snapshot;
+use std::alloc::{AllocError, Global};
+use sysmem_alloc::Entry;
+use sysmem_tree::{ActionKind, NodeId, Tree};
+
+fn word_of(kind: ActionKind) -> &'static str {
+    match kind {
+        ActionKind::Duplicate => "duplicate",
+        ActionKind::CreateGroup => "create_group",
+        ActionKind::Bind => "bind",
+        ActionKind::CreateChild => "create_child",
+        ActionKind::AllChildrenPresent => "all_children_present",
+        ActionKind::SetConstraints => "set_constraints",
+        ActionKind::AttachToken => "attach_token",
+        ActionKind::Release => "release",
+        ActionKind::Close => "close",
+    }
+}
+
+fn put_constraints(text: &mut String, tree: &Tree, number: u32) -> Result<(), AllocError> {
+    let Some(node) = tree.node(number) else {
+        return Ok(());
+    };
+    if let Some(asked) = tree.constraints_of(node) {
+        text.push_str(",\"constraints\":")?;
+        put_participant(text, asked)?;
+    }
+    Ok(())
+}
+
+/// Puts a call, and tells how many nodes there are behind it.
+fn put_call(
+    text: &mut String,
+    snapshot: &Snapshot,
+    number: u32,
+    kind: ActionKind,
+    nodes: u32,
+) -> Result<u32, AllocError> {
+    text.push_str("{\"call\":\"")?;
+    text.push_str(word_of(kind))?;
+    text.push_str("\",\"on\":\"")?;
+    snapshot.names().put(text, number)?;
+    text.push_str("\"")?;
+    let mut nodes = nodes;
+    if kind.makes().is_some() {
+        text.push_str(",\"as\":\"")?;
+        snapshot.names().put(text, nodes)?;
+        text.push_str("\"")?;
+        nodes = nodes.saturating_add(1);
+    }
+    if kind == ActionKind::SetConstraints {
+        put_constraints(text, snapshot.tree(), number)?;
+    }
+    text.push_str("}")?;
+    Ok(nodes)
+}
+
+/// What is meant to be the script of a collection's history, with a newline.
+fn written(alloc: Global, snapshot: &Snapshot) -> Result<Vec<u8>, AllocError> {
+    let mut text = String::from_str(alloc, "{\"platform\":")?;
+    let tree = snapshot.tree();
+    put_platform(&mut text, snapshot.platform())?;
+    text.push_str(",\n\"calls\":[")?;
+    let mut nodes = 1;
+    let mut first = true;
+    for entry in snapshot.history() {
+        if let Entry::Acted(node, kind) = entry {
+            text.push_str(if first { "\n" } else { ",\n" })?;
+            let number = number_of(tree, *node);
+            nodes = put_call(&mut text, snapshot, number, *kind, nodes)?;
+            first = false;
+        }
+    }
+    text.push_str("]}\n")?;
+    Ok(text.into_bytes())
+}
+
+/// Why a collection's script isn't written.
+#[derive(Clone, Copy, Debug, Drop)]
+pub enum Unwritten {
+    NoMemory,
+    /// Its replay would come to something else, as where memory was refused to a decision, or it is
+    /// too long for a script.
+    Differs,
+}
+
+impl From<AllocError> for Unwritten {
+    ghost use Rattle.live_script.specs.declared.script.Unwritten.TheVariants.{NoMemory};
+
+    ghost from_gives = { λ _ unwritten. unwritten ≡ NoMemory };
+
+    fn from(_: AllocError) -> Unwritten {
+        Unwritten::NoMemory
+    }
+}
+
+/// The script of a collection: its accepted calls, in their order. It is read and replayed before
+/// it is given.
+pub fn script_of(alloc: Global, snapshot: &Snapshot) -> Result<Vec<u8>, Unwritten> {
+    let text = written(alloc, snapshot)?;
+    if is_script_of(alloc, &text, snapshot)? {
+        Ok(text)
+    } else {
+        Err(Unwritten::Differs)
+    }
+}
+
+fn number_of(tree: &Tree, node: NodeId) -> u32 {
+    for number in 0..tree.node_count() {
+        if tree.node(number) == Some(node) {
+            return number;
+        }
+    }
+    0
+}

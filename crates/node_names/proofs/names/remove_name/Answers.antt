@@ -1,0 +1,7 @@
+-- The names that stay are the others'.
+use Rattle.std.proofs.Common.{rules}
+use Rattle.std.proofs.lemmas.Fn.{filter_same}
+use Rattle.node_names.proofs.names.remove_name.Goals as goal
+
+pub returns-clause-others : goal.returns-clause-others
+returns-clause-others c = filter_same _ _ _ (λ x b f' k. search rules) _ _ c.retain.ensures.filtered
