@@ -1,0 +1,168 @@
+"""What the caller states: the platform, and what each participant asks for. A number that is 0 says nothing, as in mezulobu.h."""
+from __future__ import annotations
+
+import ctypes
+from dataclasses import dataclass, fields
+from typing import Any, NamedTuple, Optional, Sequence, Union
+
+from . import _abi
+from .codes import Color, Usage
+
+Format = Union[int, str]
+"""A DRM format: its number, or its four letters, as "NV12"."""
+
+
+class Size(NamedTuple):
+    """A width and a height in pixels."""
+
+    width: int = 0
+    height: int = 0
+
+
+@dataclass(frozen=True)
+class Heap:
+    """A heap, which is named by its index on the platform. At least one of the three coherency domains is true."""
+
+    contiguous: bool = False
+    secure: bool = False
+    cpu: bool = False
+    ram: bool = False
+    inaccessible: bool = False
+
+
+@dataclass(frozen=True)
+class Pair:
+    """A format in a modifier, DRM_FORMAT_MOD_*, of which 0 is linear."""
+
+    format: Format
+    modifier: int = 0
+
+
+@dataclass(frozen=True)
+class Platform:
+    """What the allocator offers. Each list is in the order of preference, isn't empty, and has no item twice."""
+
+    heaps: Sequence[Heap]
+    pairs: Sequence[Pair]
+    colors: Sequence[Color]
+
+
+@dataclass(frozen=True)
+class Entry:
+    """One image format that a participant takes, and its bounds on such images. A format or a modifier that is None is any."""
+
+    format: Optional[Format]
+    colors: Color
+    modifier: Optional[int] = 0
+    rows_end_at_pixels: bool = False
+    min_size: Size = Size()
+    max_size: Size = Size()
+    size_alignment: Size = Size()
+    min_pitch: int = 0
+    max_pitch: int = 0
+    pitch_divisor: int = 0
+    offset_divisor: int = 0
+    display_rect_alignment: Size = Size()
+    required_min_size: Size = Size()
+    required_max_size: Size = Size()
+    max_pixels: int = 0
+
+
+@dataclass(frozen=True)
+class Participant:
+    """What a participant asks for. Without entries it takes every offer. Bit i of heaps permits heap i; 0 permits each."""
+
+    usage: Usage
+    contiguous: bool = False
+    secure: bool = False
+    cpu: bool = False
+    ram: bool = False
+    inaccessible: bool = False
+    camping: int = 0
+    dedicated_slack: int = 0
+    shared_slack: int = 0
+    min_count: int = 0
+    max_count: int = 0
+    min_bytes: int = 0
+    max_bytes: int = 0
+    heaps: int = 0
+    entries: Sequence[Entry] = ()
+
+
+def fourcc(format: Format) -> int:
+    """The number of a format."""
+    if isinstance(format, int):
+        return format
+    letters = format.encode("ascii")
+    if len(letters) != 4:
+        raise ValueError(f"a DRM format has four letters: {format!r}")
+    return int.from_bytes(letters, "little")
+
+
+def _number(name: str, value: int, bits: int) -> int:
+    """A number that fits, since ctypes would cut it silently."""
+    if not 0 <= value < 1 << bits:
+        raise OverflowError(f"{name}: {value} doesn't fit {bits} bits")
+    return value
+
+
+def put(flat: ctypes.Structure, name: str, value: Any) -> None:
+    """Puts a value into a member of a struct, as wide as the member is."""
+    kind = dict(flat._fields_)[name]
+    if kind is _abi.mezulobu_size:
+        size = kind()
+        put(size, "width", value[0])
+        put(size, "height", value[1])
+        value = size
+    elif kind is not ctypes.c_bool:
+        value = _number(name, int(value), 8 * ctypes.sizeof(kind))
+    setattr(flat, name, value)
+
+
+def put_all(flat: ctypes.Structure, stated: Any, *apart: str) -> None:
+    """Puts each field of a dataclass into the member of the same name, but for those that are put apart."""
+    for it in fields(stated):
+        if it.name not in apart:
+            put(flat, it.name, getattr(stated, it.name))
+
+
+def flat_heap(heap: Heap) -> _abi.mezulobu_heap:
+    flat = _abi.mezulobu_heap()
+    put_all(flat, heap)
+    return flat
+
+
+def flat_pair(pair: Pair) -> _abi.mezulobu_pair:
+    flat = _abi.mezulobu_pair()
+    put(flat, "format", fourcc(pair.format))
+    put(flat, "modifier", pair.modifier)
+    return flat
+
+
+def flat_entry(entry: Entry) -> _abi.mezulobu_entry:
+    flat = _abi.mezulobu_entry(ctypes.sizeof(_abi.mezulobu_entry))
+    put_all(flat, entry, "format", "modifier")
+    put(flat, "format", fourcc(entry.format or 0))
+    put(flat, "modifier", entry.modifier or 0)
+    flat.any_format, flat.any_modifier = entry.format is None, entry.modifier is None
+    return flat
+
+
+def flat_participant(stated: Participant) -> _abi.mezulobu_participant:
+    flat = _abi.mezulobu_participant(ctypes.sizeof(_abi.mezulobu_participant))
+    put_all(flat, stated, "entries")
+    entries = (_abi.mezulobu_entry * len(stated.entries))(*map(flat_entry, stated.entries))
+    # What is assigned is kept alive by the struct.
+    flat.entries, flat.n_entries = entries, len(entries)
+    return flat
+
+
+def flat_platform(stated: Platform) -> _abi.mezulobu_platform:
+    heaps = (_abi.mezulobu_heap * len(stated.heaps))(*map(flat_heap, stated.heaps))
+    pairs = (_abi.mezulobu_pair * len(stated.pairs))(*map(flat_pair, stated.pairs))
+    colors = (ctypes.c_uint32 * len(stated.colors))(*(_number("colors", it, 32) for it in stated.colors))
+    flat = _abi.mezulobu_platform(ctypes.sizeof(_abi.mezulobu_platform))
+    flat.heaps, flat.n_heaps = heaps, len(heaps)
+    flat.pairs, flat.n_pairs = pairs, len(pairs)
+    flat.colors, flat.n_colors = ctypes.cast(colors, ctypes.POINTER(ctypes.c_uint32)), len(colors)
+    return flat

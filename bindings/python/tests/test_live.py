@@ -1,0 +1,200 @@
+"""Collections that live, beside what a run of the script that they write decides."""
+import asyncio
+import gc
+import select
+import threading
+import unittest
+import warnings
+
+import mezulobu
+from mezulobu import Color, Entry, Field, Heap, Kind, Pair, Participant, Platform, Size, Status, Usage, live
+
+PLATFORM = Platform([Heap(cpu=True, ram=True)], [Pair("NV12")], [Color.REC709])
+RECORD = b'{"heaps":[{"heap_type":"ram","domains":["cpu"]}],"pairs":[{"pixel_format":"NV12"}],"color_spaces":["REC709"]}'
+
+
+def asked(camping: int, max_size: Size = Size(), min_count: int = 0) -> Participant:
+    entry = Entry("NV12", Color.REC709, min_size=Size(64, 64), max_size=max_size)
+    return Participant(Usage.VIDEO, camping=camping, min_count=min_count, entries=[entry])
+
+
+def both() -> "list[live.Collection]":
+    """Two collections of one that is made, and whose root is released."""
+    with live.Allocator(PLATFORM) as allocator, allocator.allocate_shared() as root:
+        tokens = [root.duplicate(), root.duplicate()]
+        root.release()
+    return [token.bind() for token in tokens]
+
+
+class Live(unittest.TestCase):
+    def refused(self, status: Status, call: "object", *words: "object") -> None:
+        with self.assertRaises(live.CallRefused) as caught:
+            call(*words)  # type: ignore[operator]
+        self.assertEqual((caught.exception.status, str(caught.exception)), (status, status.name))
+
+    def is_written(self, of: live.Collection, decision: str) -> None:
+        """What is written is run to the same decision, and the certificate is right for it."""
+        script, certificate = of.script_with_certificate()
+        self.assertEqual(of.script(), script)
+        self.assertIn(decision, mezulobu.run(script))
+        self.assertTrue(mezulobu.check(script, certificate).is_right)
+
+    def test_a_thread_waits_for_the_other(self) -> None:
+        camera, encoder = both()
+        found: "list[mezulobu.Settings]" = []
+        with camera, encoder:
+            camera.set_name("camera")
+            camera.set_constraints(asked(2))
+            self.assertIsNone(camera.check())
+            with self.assertRaises(TimeoutError):
+                camera.wait(0.01)
+            waiting = threading.Thread(target=lambda: found.append(camera.wait()), daemon=True)
+            waiting.start()
+            encoder.set_constraints(asked(3))
+            waiting.join(10)
+            self.assertEqual((found[0].count, found[0].bytes), (5, 64 * 64 * 3 // 2))
+            self.assertEqual((camera.check(), encoder.wait(0)), (found[0], found[0]))
+            self.is_written(camera, "domain / chosen - count 5 ")
+            self.assertEqual((camera.node, camera.name_of(1), camera.selection()), (1, "camera", ()))
+            self.assertIn("camera", camera.explain())
+            self.assertTrue(camera.explain(is_json=True).startswith("{"))
+            self.assertEqual(select.select([camera], [], [], 0)[0], [camera])
+            self.refused(Status.MISUSED, camera.name_of, 9)
+            for name in ("root", "n7", "", "a\0b"):
+                self.refused(Status.MISUSED, camera.set_name, name)
+
+    def test_who_leaves_too_early_fails_the_domain(self) -> None:
+        camera, encoder = both()
+        with camera:
+            with encoder:
+                pass
+            self.refused(Status.DOMAIN_FAILED, camera.check)
+            self.refused(Status.DOMAIN_FAILED, camera.set_constraints, None)
+
+    def test_a_spent_handle_is_told(self) -> None:
+        camera, encoder = both()
+        camera.close()
+        camera.close()
+        encoder.release()
+        self.assertTrue(camera.is_spent and encoder.is_spent)
+        self.assertEqual(repr(camera), "<Collection (spent)>")
+        for call in (camera.check, camera.release, camera.script, encoder.release, encoder.fileno):
+            with self.assertRaises(live.Spent):
+                call()
+
+    def test_who_spends_a_handle_ends_its_waits(self) -> None:
+        camera, encoder = both()
+        ended = threading.Event()
+
+        def wait() -> None:
+            try:
+                camera.wait()
+            except live.Spent:
+                ended.set()
+
+        waiting = threading.Thread(target=wait, daemon=True)
+        with encoder:
+            waiting.start()
+            camera.release()
+            self.assertTrue(ended.wait(10))
+
+    def test_what_is_forgotten_is_closed_and_told(self) -> None:
+        camera, encoder = both()
+        with camera, warnings.catch_warnings(record=True) as said:
+            warnings.simplefilter("always")
+            del encoder
+            gc.collect()
+            self.assertEqual([str(it.message) for it in said], ["a Collection wasn't closed"])
+            self.refused(Status.DOMAIN_FAILED, camera.check)
+
+    def test_who_is_in_the_way_is_told_by_its_node(self) -> None:
+        camera, encoder = both()
+        with camera, encoder:
+            camera.set_constraints(asked(1))
+            encoder.set_constraints(asked(1, Size(32, 32)))
+            self.refused(Status.INTERSECTION_EMPTY, camera.check)
+            why = encoder.refusal()
+            assert why is not None
+            self.assertEqual((why.who, why.field, why.kind, why.alone), (encoder.node, Field.MAX_SIZE, Kind.OFFERS, True))
+            self.is_written(camera, "domain / empty")
+
+    def test_what_cannot_be_meant_is_refused(self) -> None:
+        camera, encoder = both()
+        with camera, encoder:
+            with self.assertRaises(mezulobu.Refused) as caught:
+                camera.set_constraints(Participant(Usage(0)))
+            self.assertEqual(caught.exception.refusal.field, Field.USAGE)
+            for record, number in ((b"{", 0), (b'{"usage":[]}', 5)):
+                with self.assertRaises(live.RecordRefused) as fault:
+                    camera.set_constraints_record(record)
+                self.assertEqual(fault.exception.number, number)
+            camera.set_constraints_record(b'{"usage":["cpu"]}')
+            self.refused(Status.WRONG_STATE, camera.set_constraints, None)
+            encoder.set_constraints(None)
+            self.assertEqual(camera.wait().count, 1)
+            self.assertIsNone(camera.refusal())
+        with self.assertRaises(live.RecordRefused):
+            live.Allocator(b"{}")
+        with self.assertRaises(mezulobu.Refused):
+            live.Allocator(Platform([], [], []))
+
+    def test_the_first_alternative_that_can_be_had_is_selected(self) -> None:
+        with live.Allocator(PLATFORM) as allocator, allocator.allocate_shared() as root:
+            with root.create_group() as group:
+                group.set_name("either")
+                self.refused(Status.NO_CHILDREN, group.all_children_present)
+                first, second = (group.create_child().bind() for _ in range(2))
+                self.refused(Status.WRONG_STATE, group.release)
+                group.all_children_present()
+                group.release()
+            root.release()
+        with first, second:
+            first.set_constraints(asked(1, Size(32, 32)))
+            second.set_constraints(asked(1))
+            self.assertEqual((second.wait().count, second.selection()), (1, (1,)))
+            self.refused(Status.NOT_SELECTED, first.check)
+
+    def test_a_late_participant_accepts_the_settings(self) -> None:
+        with live.Allocator(RECORD) as allocator:
+            camera = allocator.allocate_shared().bind()
+        with camera:
+            camera.set_constraints(asked(1, min_count=3))
+            with camera.attach_token().bind() as late:
+                late.set_constraints(asked(1))
+                self.assertEqual(late.wait(), camera.check())
+
+
+class Tasks(unittest.IsolatedAsyncioTestCase):
+    async def test_a_task_waits_for_the_other(self) -> None:
+        camera, encoder = both()
+        with camera, encoder:
+            camera.set_constraints(asked(2))
+            waiting = asyncio.create_task(camera.chosen())
+            await asyncio.sleep(0)
+            encoder.set_constraints(asked(3))
+            self.assertEqual((await waiting).count, 5)
+            self.assertEqual(await encoder.chosen(), await camera.chosen())
+
+    async def test_a_task_is_cancelled_and_told_of_refusals(self) -> None:
+        camera, encoder = both()
+        with camera:
+            with self.assertRaises(asyncio.TimeoutError):
+                await asyncio.wait_for(camera.chosen(), 0.01)
+            waiting = asyncio.create_task(camera.chosen())
+            await asyncio.sleep(0)
+            encoder.close()
+            with self.assertRaises(live.CallRefused):
+                await waiting
+
+    async def test_who_spends_a_handle_ends_its_tasks(self) -> None:
+        camera, encoder = both()
+        with encoder:
+            waiting = asyncio.create_task(camera.chosen())
+            await asyncio.sleep(0)
+            camera.release()
+            with self.assertRaises(live.Spent):
+                await asyncio.wait_for(waiting, 10)
+
+
+if __name__ == "__main__":
+    unittest.main()

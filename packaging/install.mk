@@ -1,0 +1,24 @@
+# What `make install` puts beside the library and the program: the header for C++, CMake's files, manual pages and completions.
+PREFIX ?= /usr/local
+LIBDIR ?= $(PREFIX)/lib
+SHARE := $(DESTDIR)$(PREFIX)/share
+CMAKE := $(LIBDIR)/cmake/Mezulobu
+PROGRAM := $(if $(UNPROVED),out/unproved,crates/sysmem_replay/out)/sysmem_replay
+VERSION := $(shell bindings/version)
+SAID := s|@VERSION@|$(VERSION)|; s|@MAJOR@|$(firstword $(subst ., ,$(VERSION)))|
+SAID := $(SAID); s|@INCLUDE@|$(shell realpath -m --relative-to='$(CMAKE)' '$(PREFIX)/include')|
+
+.PHONY: beside manual completions
+beside: manual completions
+	install -d $(DESTDIR)$(PREFIX)/include $(DESTDIR)$(CMAKE)
+	install -m 644 bindings/cxx/mezulobu.hpp $(DESTDIR)$(PREFIX)/include
+	for name in MezulobuConfig MezulobuConfigVersion; do \
+		sed '$(SAID)' packaging/cmake/$$name.cmake.in > $(DESTDIR)$(CMAKE)/$$name.cmake || exit; \
+	done
+
+manual:
+	install -d $(SHARE)/man/man1 $(SHARE)/man/man3 $(SHARE)/man/man5
+	packaging/manual $(PROGRAM) $(SHARE)/man
+
+completions:
+	packaging/completions $(PROGRAM) $(SHARE)
