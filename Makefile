@@ -1,21 +1,41 @@
-# Mezulobu: the two commands are `make run FILE=examples/NAME.json` and `make test`.
-PROGRAM := crates/sysmem_replay
-FILE ?= examples/one_participant.json
+# Mezulobu. `make` prints what can be made; docs/COMMANDS.md says more of each.
+PROGRAM := crates/sysmem_replay/out/sysmem_replay
+# What `make install` and `make lib` take: what is proved, or with UNPROVED=1 what `make build` has.
+UNPROVED ?=
 # How many proofs the gate makes side by side: one a processor, where each has 4 GB of memory; of
 # four processors or more one stays free, since proofs wait for memory, and each takes less processor
 # time beside fewer. A proof is made by one process, which takes about a third less than several.
 JOBS ?= $(shell awk -v n=$$(nproc) '/^MemAvailable/ { m = int($$2 / 4000000); n -= n > 3; print m < 1 ? 1 : m < n ? m : n }' /proc/meminfo)
 
-.PHONY: run proved test program-test wrong-bodies shown-by-test threads-often bench lib install \
-	lib-test
+.PHONY: help needs build prove quick-test test built-test program-test lib lib-test install wrong-bodies \
+	shown-by-test threads-often live-often bench
 
-# Runs a script: with the proved program where `make proved` has built it, else without proving.
-run:
-	@./run "$(FILE)"
+help:
+	@echo 'make build        the program and the library, not proved: 2 to 4 minutes, once'
+	@echo 'make quick-test   the tests of these two: 3 minutes more; run this first'
+	@echo 'make prove        the program, proved with all that it stands on: over an hour, once'
+	@echo 'make lib          the library for C, C++ and Python, proved: 3 minutes after make prove'
+	@echo 'make install      the program and the library under PREFIX, as made by the two above;'
+	@echo '                  with UNPROVED=1 as made by make build'
+	@echo 'make test         the whole gate: every proof, wrong edit, test and program: over an hour'
+	@echo 'make built-test   the tests of the proved program and library: a minute'
+	@echo 'docs/COMMANDS.md has the others: wrong-bodies, shown-by-test, threads-often, bench.'
 
-# Proves the program and all that it stands on, and builds it.
-proved:
-	cd $(PROGRAM) && rt run -- run $(abspath examples/one_participant.json)
+# What builds and tests need of Debian's packages: where it may not be installed it is named.
+needs:
+	@tools/needs build test || true
+
+# The program and the library, without proofs.
+build:
+	@tools/unproved program
+	@$(MAKE) --no-print-directory lib UNPROVED=1
+
+# Proves the program and all that it stands on, and builds it. A source that changes meanwhile is
+# newer than the program.
+prove:
+	@mkdir -p out && touch out/begun
+	cd crates/sysmem_replay && rt run -- run "$$OLDPWD/examples/one_participant.json"
+	@touch -r out/begun $(PROGRAM)
 	cd crates/workbench && rt run -- handles data/attached.json
 
 # The whole gate: every proof, the must-fail edits, the tests, the program. A kit that keeps what
@@ -27,34 +47,45 @@ test:
 # and as objects, refusals, records, worked values, small trees beside each of their selections,
 # participants in each order of their calls, certificates and their checks, files that fail, each
 # allocation refused in turn, scripts played through handles, scripts on threads, and
-# explanations. Before these, the pages and the lists of names that stand beside definitions.
-program-test: proved
+# explanations. Before these, the pages and the lists of names that stand beside definitions, and
+# the launcher.
+program-test: prove
 	@$(MAKE) --no-print-directory built-test
 
-# The same where `make test` or `make proved` has just built the program. With `-j` they run side by
+# The same where `make test` or `make prove` has just built the program. With `-j` they run side by
 # side: none reads what another writes.
-OF_TEXT := docs/columns docs/definitions
-OF_PROGRAM := names reports json_reports refusals records values every_selection orders \
-	run_command certificates checks failing_files want_of_memory handles threads explanations \
+OF_TEXT := docs/columns docs/definitions docs/schema
+OF_PROGRAM := names schema reports json_reports refusals records values every_selection orders \
+	launcher certificates checks failing_files want_of_memory threads explanations \
 	json_explanations
+OF_WORKBENCH := handles
 
-.PHONY: built-test $(OF_TEXT) $(OF_PROGRAM:%=tests/%)
+OF_LIBRARY := live
+TESTS := $(OF_LIBRARY:%=tests/%) $(OF_PROGRAM:%=tests/%) $(OF_WORKBENCH:%=tests/%)
+
+.PHONY: $(OF_TEXT) $(TESTS)
 # The longest first.
-built-test: lib-test $(OF_TEXT) $(OF_PROGRAM:%=tests/%)
+built-test: lib-test $(OF_TEXT) $(TESTS)
 
 $(OF_TEXT):
 	$@ --check
 
-$(OF_PROGRAM:%=tests/%):
+$(TESTS):
 	$@
 
-# The library for C, C++ and Python, proved, as an archive and as a shared object, in out/. It
-# needs a C compiler and binutils.
+# The same of what `make build` makes, but for what plays scripts through handles, which is a
+# program of its own.
+quick-test: needs build
+	@SYSMEM_REPLAY="$$PWD/out/unproved/sysmem_replay" UNPROVED=1 \
+		$(MAKE) --no-print-directory -j $$(nproc) --output-sync=target lib-test $(OF_TEXT) $(OF_PROGRAM:%=tests/%)
+
+# The library for C, C++ and Python, as an archive and as a shared object, in out/; with UNPROVED=1
+# in out/unproved/. It needs a C compiler and binutils.
 lib:
-	c/archive
+	@$(if $(UNPROVED),tools/unproved library,c/archive)
 	@$(MAKE) --no-print-directory -f c/lib.mk
 
-# Installs it with its header and its pkg-config file under PREFIX.
+# Installs it with its header and its pkg-config file under PREFIX, in LIBDIR, and the program.
 install: lib
 	@$(MAKE) --no-print-directory -f c/lib.mk install
 
@@ -74,14 +105,64 @@ shown-by-test:
 
 # Scripts on threads, each row a thousand times, and two thousand random ones. With `--oracle FILE`
 # these are compared with another implementation, and `--valgrind` plays rows under its tools.
-threads-often: proved
+threads-often: prove
 	tests/threads_often
+
+# Live collections through the library's handles again and again, with sanitizers, tools of valgrind
+# and libFuzzer, for an hour or less.
+live-often:
+	tests/live --often
 
 # Times the proved program beside the reading of the same bytes as a JSON value, and calls on
 # small and large trees; counts instructions of runs, certificates and checks.
-bench: proved
+bench: prove
 	cd crates/workbench && rt run -- decisions data/groups_share_nv12.json read,search,together,add,settle,prove,check,write,serialise 3
 	bench/run
 	bench/library
 	bench/trees
 	bench/certificates
+
+# ---- What is installed beside the program and the library: bindings for Rust, Python and C++, manual
+# pages, completions; and what is packed. With UNPROVED=1 of what `make build` makes.
+
+.PHONY: tests/bindings tests/installed dist wheel packages packages-test
+built-test: tests/bindings tests/installed
+
+# They find the library built, so that none builds it beside another.
+lib-test $(OF_LIBRARY:%=tests/%) tests/bindings tests/installed: | lib
+tests/bindings tests/installed:
+	$@
+
+# A tarball of what is committed, and its SHA-256, in out/.
+dist:
+	@packaging/dist
+
+# The Python package with the library inside, in out/.
+wheel: lib
+	@bindings/python/wheel $(if $(UNPROVED),out/unproved,out)/libmezulobu.so.1 out
+
+# The packages for Debian, in out/packages/.
+packages: lib
+	@packaging/debs
+
+# Lintian of the packages, and what they install, run in a system made by debootstrap: as root.
+packages-test: packages
+	tests/packages
+
+# What devices take, and real drivers: they need a C compiler, pkg-config and libdrm, and the second
+# one QEMU and a kernel, which it gets from Debian's packages and keeps in out/.
+.PHONY: install-devices real-drivers tests/devices tests/real_drivers
+built-test: tests/devices tests/real_drivers
+
+install-devices:
+	@$(MAKE) --no-print-directory -f c/devices/devices.mk install
+
+real-drivers: lib
+	tests/real_drivers --valgrind
+
+tests/devices:
+	$@
+
+# After the library's tests, which build its archive.
+tests/real_drivers: lib-test
+	$@

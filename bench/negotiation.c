@@ -5,36 +5,13 @@
 //
 // usage: negotiation SCRIPT COUNT SIZE
 #define _POSIX_C_SOURCE 200809L
-#include <mezulobu.h>
+#include "three.h"
 #include <stdio.h>
-#include <stdlib.h>
 #include <string.h>
-#include <time.h>
 
-#define ABGR8888 0x34324241u
-#define NV12 0x3231564eu
 #define ROUNDS 15
 #define MANY 2000
 #define MOST 128u
-
-static const struct mezulobu_heap heaps[] = {{.cpu = true, .ram = true}, {.contiguous = true, .cpu = true, .ram = true}};
-static const struct mezulobu_pair pairs[] = {{.format = ABGR8888}, {.format = NV12}};
-static const uint32_t colors[] = {MEZULOBU_SRGB, MEZULOBU_REC709};
-static const struct mezulobu_platform platform = {sizeof platform, heaps, 2, pairs, 2, colors, 2};
-
-static const struct mezulobu_entry captured = {
-    .struct_size = sizeof captured, .format = NV12, .colors = MEZULOBU_REC709, .min_size = {1920, 1080}, .max_size = {3840, 2160}};
-static const struct mezulobu_entry encoded = {
-    .struct_size = sizeof encoded, .format = NV12, .colors = MEZULOBU_REC709, .max_size = {4096, 2304}, .size_alignment = {16, 16}};
-static const struct mezulobu_entry shown = {.struct_size = sizeof shown, .format = NV12, .colors = MEZULOBU_COLOR_DO_NOT_CARE};
-
-static const struct mezulobu_participant participants[] = {
-    {.struct_size = sizeof participants[0], .usage = MEZULOBU_USE_CPU, .cpu = true, .ram = true, .camping = 1, .shared_slack = 2, .entries = &shown, .n_entries = 1},
-    {.struct_size = sizeof participants[0], .usage = MEZULOBU_USE_VIDEO, .cpu = true, .ram = true, .camping = 2, .entries = &captured, .n_entries = 1},
-    {.struct_size = sizeof participants[0], .usage = MEZULOBU_USE_VIDEO, .ram = true, .inaccessible = true, .camping = 3, .dedicated_slack = 1, .shared_slack = 1,
-     .entries = &encoded, .n_entries = 1},
-};
-#define PARTICIPANTS 3
 
 // ---- The merge by hand: the same fields of the same structs, without tiles, and without what none
 // of the three asks for beside sizes, rows and alignments ----
@@ -185,17 +162,6 @@ static int by_merge(void)
     memset(&by_hand, 0, sizeof by_hand);
     by_hand.struct_size = sizeof by_hand;
     return merge(&platform, participants, PARTICIPANTS, &by_hand);
-}
-
-static double spent(int (*job)(void), int times)
-{
-    struct timespec from, to;
-    clock_gettime(CLOCK_PROCESS_CPUTIME_ID, &from);
-    for (int time = 0; time < times; time++)
-        if (job() != MEZULOBU_DONE)
-            exit(1);
-    clock_gettime(CLOCK_PROCESS_CPUTIME_ID, &to);
-    return ((double)(to.tv_sec - from.tv_sec) * 1e9 + (double)(to.tv_nsec - from.tv_nsec)) / times;
 }
 
 int main(int words, char **word)

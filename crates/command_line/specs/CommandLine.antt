@@ -61,12 +61,14 @@ certificate_rule = record (new_rule (codes "PROOF")) { required = true }
 abbrev pub check_app : App
 check_app = with_rule (with_rule (new_app (codes "check")) file_rule) certificate_rule
 
--- the words begin with no program's name, and have to name a job
+-- the words begin with no program's name, and have to name a job, or to ask for help or the
+-- version
 abbrev pub settings : Shape → Shape
 settings s = record s {
   no_binary_name = true;
   disable_help_subcommand = true;
   subcommand_required = true;
+  has_version = true;
 }
 
 -- sysmem_replay with no subcommand

@@ -8,6 +8,9 @@ ghost use Rattle.command_line.specs.CommandLine.{AsksForJob, AsksForNone, Emptie
 use clap::{Arg, ArgAction, ArgMatches, Command, Error};
 use std::alloc::{AllocError, Global};
 
+/// The version that `--version` tells: major and minor number, as in `c/mezulobu.h`.
+const VERSION: &str = "1.3";
+
 /// What a command line asks for, with the files that it names.
 #[derive(Clone, Copy)]
 pub enum Job<'a> {
@@ -48,8 +51,8 @@ pub enum Refusal {
 }
 
 /// Reads the words after the program's name. It answers a request for help by an error of the kind
-/// `DisplayHelp`, and want of memory by one of the kind `OutOfMemory`. A job whose FILE and OUT are
-/// one word is refused; whether two words name one file isn't looked at.
+/// `DisplayHelp`, one for the version by `DisplayVersion`, and want of memory by `OutOfMemory`. A
+/// job whose FILE and OUT are one word is refused; whether two words name one file isn't looked at.
 pub fn read_words<'a>(alloc: Global, words: &'a [String]) -> Result<Job<'a>, Refusal>
     ensures entries { IfOk result (λ job. IsSomeAnd (subcommand_of replay_app
         (map string_bytes words.entry.now))
@@ -228,6 +231,7 @@ fn jobless_command<'a>(alloc: Global) -> Result<Command<'a>, AllocError>
         .about(
             "Negotiates shared buffers for the calls of a script, by a profile of Fuchsia's sysmem",
         )
+        .version(VERSION)
         .no_binary_name(true)
         .disable_help_subcommand(true)
         .subcommand_required(true);
@@ -285,7 +289,7 @@ fn file_arg<'a>(alloc: Global) -> Arg<'a>
     ensures local { result.global ≡ false }
 {
     Arg::new(alloc, "FILE").required(true).help(
-        "A JSON script, of at most 4194304 bytes: a platform, and the calls to replay on it",
+        "A JSON script (- is standard input), of at most 4194304 bytes: a platform, and calls on it",
     )
 }
 
@@ -337,6 +341,6 @@ fn certificate_arg<'a>(alloc: Global) -> Arg<'a>
     ensures local { result.global ≡ false }
 {
     Arg::new(alloc, "PROOF").required(true).help(
-        "A certificate of the script's decisions, of at most 4194304 bytes",
+        "A certificate of the script's decisions (- is standard input), of at most 4194304 bytes",
     )
 }

@@ -7,8 +7,10 @@
 //! comes from, with `--json` as an object of JSON for each item; with `--page OUT` it also writes
 //! that as a page of HTML, and with `--strict` the exit status tells whether all went well.
 //! `sysmem_replay check FILE PROOF` tests such a certificate.
+//! Where FILE or PROOF is `-`, it is standard input.
 #![tactic(auto)]
 
+mod input;
 mod refusal;
 
 use byte_transfer::{Counted, Sink, Source};
@@ -18,6 +20,7 @@ pub use explain::{
     Outcome, explain_as_json, explain_as_json_to_page, explain_file, explain_to_page,
     explained_ending,
 };
+use input::{STDIN, is_one_file, open_input};
 use refusal::refusal_ending;
 pub use report_json::{run_as_json, run_as_json_with_proof};
 pub use script_check::check_file;
@@ -57,40 +60,65 @@ fn given_words(rt: &HostRuntime) -> Result<Vec<String>, Ending> {
     Ok(given)
 }
 
+/// What is told where a file would be emptied before it is read.
+const ONE_FILE: &str = "FILE and OUT are the same file, which would be emptied";
+
 /// Does what the words ask for; only `threads` starts any.
 fn obey<T: Threads + Wait + Sync>(rt: &HostRuntime, threads: &T, words: &[String]) -> Ending {
-    match read_words(rt.alloc(), words) {
-        Ok(
-            Job::Run {
-                file,
-                is_json: true,
-                proof,
-            },
-        ) => ending_of(tell_file(rt, file, proof)),
-        Ok(Job::Run { file, proof, .. }) => ending_of(run_file(rt, file, proof)),
-        Ok(Job::Threads { file }) => ending_of(play_file(rt, threads, file)),
-        Ok(
-            Job::Explain {
-                file,
-                is_json: true,
-                page,
-                is_strict,
-            },
-        ) => explained_ending(tell_script(rt, file, page), is_strict),
-        Ok(
-            Job::Explain {
-                file,
-                page,
-                is_strict,
-                ..
-            },
-        ) => explained_ending(explain_script(rt, file, page), is_strict),
-        Ok(Job::Check { file, proof }) => ending_of(check_files(rt, file, proof)),
-        Err(Refusal::Parser(error)) => tell(rt, &error),
-        Err(Refusal::OneFile) => refuse(
-            rt,
-            "FILE and OUT are the same file, which would be emptied",
-        ),
+    let job = match read_words(rt.alloc(), words) {
+        Ok(job) => job,
+        Err(Refusal::Parser(error)) => return tell(rt, &error),
+        Err(Refusal::OneFile) => return refuse(rt, ONE_FILE),
+    };
+    match refused_files(rt, job) {
+        Some(why) => refuse(rt, why),
+        None => done(rt, threads, job),
+    }
+}
+
+/// Why a job's files are refused before one is opened: one would be emptied, or read twice.
+fn refused_files(rt: &HostRuntime, job: Job<'_>) -> Option<&'static str> {
+    match job {
+        Job::Run {
+            file,
+            proof: Some(out),
+            ..
+        }
+        | Job::Explain {
+            file,
+            page: Some(out),
+            ..
+        } if is_one_file(rt, file, out) => Some(ONE_FILE),
+        Job::Check { file, proof } if file == STDIN && proof == STDIN => {
+            Some("FILE and PROOF are both standard input")
+        }
+        _ => None,
+    }
+}
+
+/// Does a job, and tells how it ended.
+fn done<T: Threads + Wait + Sync>(rt: &HostRuntime, threads: &T, job: Job<'_>) -> Ending {
+    match job {
+        Job::Run {
+            file,
+            is_json: true,
+            proof,
+        } => ending_of(tell_file(rt, file, proof)),
+        Job::Run { file, proof, .. } => ending_of(run_file(rt, file, proof)),
+        Job::Threads { file } => ending_of(play_file(rt, threads, file)),
+        Job::Explain {
+            file,
+            is_json: true,
+            page,
+            is_strict,
+        } => explained_ending(tell_script(rt, file, page), is_strict),
+        Job::Explain {
+            file,
+            page,
+            is_strict,
+            ..
+        } => explained_ending(explain_script(rt, file, page), is_strict),
+        Job::Check { file, proof } => ending_of(check_files(rt, file, proof)),
     }
 }
 
@@ -108,9 +136,7 @@ fn tell(rt: &HostRuntime, error: &Error) -> Ending {
 
 /// Opens the script, then empties the certificate's file where one is asked for, and replays.
 fn run_file(rt: &HostRuntime, file: &str, proof: Option<&str>) -> Result<Ended, RunFault> {
-    let Ok(script) = File::open(rt, file) else {
-        return Err(RunFault::Read);
-    };
+    let script = open_input(rt, file)?;
     let mut reader = Counted::new(script);
     let mut writer = Counted::new(io::writer(rt));
     let Some(out) = proof else {
@@ -138,9 +164,7 @@ fn run_last<R: Source, W: Sink>(
 /// Opens the script, then empties the certificate's file where one is asked for, replays, and
 /// writes the objects of the report.
 fn tell_file(rt: &HostRuntime, file: &str, proof: Option<&str>) -> Result<Ended, RunFault> {
-    let Ok(script) = File::open(rt, file) else {
-        return Err(RunFault::Read);
-    };
+    let script = open_input(rt, file)?;
     let mut reader = Counted::new(script);
     let mut writer = Counted::new(io::writer(rt));
     let Some(out) = proof else {
@@ -159,57 +183,52 @@ fn play_file<T: Threads + Wait + Sync>(
     threads: &T,
     file: &str,
 ) -> Result<Ended, RunFault> {
-    let Ok(script) = File::open(rt, file) else {
-        return Err(RunFault::Read);
-    };
+    let script = open_input(rt, file)?;
     let mut reader = Counted::new(script);
     let mut writer = Counted::new(io::writer(rt));
     run_threads(threads, rt.alloc(), &mut reader, &mut writer)
 }
 
+/// The name of a script in its explanation.
+fn shown(file: &str) -> &str {
+    if file == STDIN { "<stdin>" } else { file }
+}
+
 /// Opens the script, then empties the page's file where one is asked for, and explains it.
 fn explain_script(rt: &HostRuntime, file: &str, page: Option<&str>) -> Result<Outcome, RunFault> {
-    let Ok(script) = File::open(rt, file) else {
-        return Err(RunFault::Read);
-    };
+    let script = open_input(rt, file)?;
     let mut reader = Counted::new(script);
     let mut writer = Counted::new(io::writer(rt));
     let Some(out) = page else {
-        return explain_file(rt.alloc(), file, &mut reader, &mut writer);
+        return explain_file(rt.alloc(), shown(file), &mut reader, &mut writer);
     };
     let Ok(page) = File::create(rt, out) else {
         return Err(RunFault::Write);
     };
     let mut page = Counted::new(page);
-    explain_to_page(rt.alloc(), file, &mut reader, &mut writer, &mut page)
+    explain_to_page(rt.alloc(), shown(file), &mut reader, &mut writer, &mut page)
 }
 
 /// Opens the script, then empties the page's file where one is asked for, explains it, and writes
 /// the objects of the explanation.
 fn tell_script(rt: &HostRuntime, file: &str, page: Option<&str>) -> Result<Outcome, RunFault> {
-    let Ok(script) = File::open(rt, file) else {
-        return Err(RunFault::Read);
-    };
+    let script = open_input(rt, file)?;
     let mut reader = Counted::new(script);
     let mut writer = Counted::new(io::writer(rt));
     let Some(out) = page else {
-        return explain_as_json(rt.alloc(), file, &mut reader, &mut writer);
+        return explain_as_json(rt.alloc(), shown(file), &mut reader, &mut writer);
     };
     let Ok(page) = File::create(rt, out) else {
         return Err(RunFault::Write);
     };
     let mut page = Counted::new(page);
-    explain_as_json_to_page(rt.alloc(), file, &mut reader, &mut writer, &mut page)
+    explain_as_json_to_page(rt.alloc(), shown(file), &mut reader, &mut writer, &mut page)
 }
 
 /// Opens the script and then the certificate, and tests that.
 fn check_files(rt: &HostRuntime, file: &str, proof: &str) -> Result<Ended, RunFault> {
-    let Ok(script) = File::open(rt, file) else {
-        return Err(RunFault::Read);
-    };
-    let Ok(certificate) = File::open(rt, proof) else {
-        return Err(RunFault::Read);
-    };
+    let script = open_input(rt, file)?;
+    let certificate = open_input(rt, proof)?;
     let mut reader = Counted::new(script);
     let mut proof = Counted::new(certificate);
     let mut writer = Counted::new(io::writer(rt));
