@@ -1,11 +1,13 @@
 // zero_copy: cameras fill, by dma-buf, the very buffers that a display scans out. Each driver has a
-// thread of its own, which asks its device what it takes; once all have said it, the settings are
-// negotiated. The display makes the buffers, as dumb ones, and the cameras fill them in turn; each
-// picture is read back and shown. It fails where a driver takes another pitch, size or number of
-// buffers than was settled.
+// thread of its own, with a token of one collection: it binds that, says what its device takes, and
+// waits for the settings. The display makes the buffers, as dumb ones, so the platform is what it
+// takes; the cameras fill them in turn, and each picture is read back and shown. Where nothing is
+// decided the collection explains why. Where a driver takes something else than was settled, its
+// record was wrong: that is said, and the status is 1.
 //
 // cc zero_copy.c $(pkg-config --cflags --libs mezulobu mezulobu-devices) -pthread -o zero_copy
-// ./zero_copy CAMERA.. DISPLAY WIDTHxHEIGHT [--format FOURCC] [--pitch-divisor BYTES] [--frames N] [--hold SECONDS]
+// ./zero_copy CAMERA.. DISPLAY WIDTHxHEIGHT [--format FOURCC] [--pitch-divisor BYTES]
+//             [--frames N] [--screens N] [--hold SECONDS]
 #define _GNU_SOURCE
 #include <errno.h>
 #include <fcntl.h>
@@ -23,7 +25,11 @@
 #include <xf86drm.h>
 #include <xf86drmMode.h>
 
-enum { MOST_CAMERAS = 3, MOST_BUFFERS = 128, MOST_ENTRIES = 64 };
+enum {
+    MOST_CAMERAS = 3, MOST_SCREENS = 4, MOST_BUFFERS = 128, MOST_ENTRIES = 64, MOST_OMITTED = 256,
+    MOST_FAULTS = 16, // pictures with errors in a row, of one camera
+    PATIENCE = 10     // seconds that a device may take for a picture or a flip
+};
 
 // What the program is started with.
 struct asked {
@@ -31,7 +37,9 @@ struct asked {
     size_t n_cameras;
     struct mezulobu_size size;
     uint32_t format, pitch_divisor; // 0: any
-    unsigned frames, hold; // how many of each camera are shown, and how many seconds the last one stays
+    // How many pictures of each camera are shown, on how many screens, and how many seconds the
+    // last one stays.
+    unsigned frames, screens, hold;
 };
 
 struct buffer {
@@ -47,32 +55,47 @@ struct line {
     size_t first, n;
 };
 
-// What the threads share, under the lock. The display is the last participant.
-struct sharing {
-    pthread_mutex_t lock;
-    pthread_cond_t changed;
-    struct asked asked;
-    struct mezulobu_entry entries[MOST_CAMERAS + 1][MOST_ENTRIES];
-    struct mezulobu_participant said[MOST_CAMERAS + 1];
-    size_t n_said;
-    bool is_settled, are_made, is_over, has_failed;
+// A driver's part in the collection. It has its token until that is bound.
+struct seat {
+    struct sharing *with;
+    size_t who; // the display comes after the cameras
+    struct mezulobu_token *token;
+    struct mezulobu_collection *collection;
     struct mezulobu_settings settings;
-    struct buffer buffers[MOST_BUFFERS];
-    struct line empty[MOST_CAMERAS], filled;
-    size_t camera_of[MOST_BUFFERS];
 };
 
-struct driver {
-    struct sharing *with;
-    size_t who;
+struct screen {
+    uint32_t crtc, connector;
+    drmModeModeInfo mode;
+};
+
+struct display {
+    int fd;
+    struct mezulobu_entry entries[MOST_ENTRIES];
+    struct mezulobu_participant asked;
+    struct screen screens[MOST_SCREENS];
+    size_t n_screens;
+};
+
+// What the threads share: what stands before the lock is of the display's thread, until it says
+// that the buffers are made, and isn't changed after that.
+struct sharing {
+    struct asked asked;
+    struct seat seats[MOST_CAMERAS + 1];
+    struct display display;
+    struct buffer buffers[MOST_BUFFERS];
+    pthread_mutex_t lock;
+    pthread_cond_t changed;
+    bool are_made, is_over, has_failed;
+    struct line empty[MOST_CAMERAS], filled;
 };
 
 // Says why all end, once.
 static bool fail(struct sharing *s, const char *text, ...)
 {
-    va_list words;
     pthread_mutex_lock(&s->lock);
     if (!s->has_failed) {
+        va_list words;
         va_start(words, text);
         vfprintf(stderr, text, words);
         va_end(words);
@@ -84,15 +107,26 @@ static bool fail(struct sharing *s, const char *text, ...)
     return false;
 }
 
-static bool fail_by_errno(struct sharing *s, const char *what) { return fail(s, "%s: %s", what, strerror(errno)); }
+static bool fail_by_errno(struct sharing *s, const char *path, const char *what)
+{
+    return fail(s, "%s: %s: %s", path, what, strerror(errno));
+}
 
-// Waits until something is true of what is shared; false where all end before that.
-static bool wait_until(struct sharing *s, const bool *is_true)
+static bool is_over(struct sharing *s)
 {
     pthread_mutex_lock(&s->lock);
-    while (!*is_true && !s->is_over)
+    bool over = s->is_over;
+    pthread_mutex_unlock(&s->lock);
+    return over;
+}
+
+// Waits until the display has made the buffers; false where all end before that.
+static bool are_made(struct sharing *s)
+{
+    pthread_mutex_lock(&s->lock);
+    while (!s->are_made && !s->is_over)
         pthread_cond_wait(&s->changed, &s->lock);
-    bool is_so = *is_true && !s->is_over;
+    bool is_so = s->are_made && !s->is_over;
     pthread_mutex_unlock(&s->lock);
     return is_so;
 }
@@ -129,73 +163,78 @@ static bool take(struct sharing *s, struct line *line, bool waits, uint32_t *buf
     return is_there;
 }
 
-// ---- What the devices say ------------------------------------------------------------------------
+// ---- The collection -----------------------------------------------------------------------------
 
-static const char *path_of(const struct sharing *s, size_t who) { return who < s->asked.n_cameras ? s->asked.cameras[who] : s->asked.display; }
-
-// States what a device takes, but for formats that weren't asked for, and waits for the settings.
-static bool state(struct driver *d, int status, const struct mezulobu_device *device)
+static const char *path_of(const struct seat *seat)
 {
-    struct sharing *s = d->with;
-    struct mezulobu_participant said = device->participant;
-    if (status != MEZULOBU_DONE)
-        return fail(s, "%s: %s", path_of(s, d->who), mezulobu_trouble_text(device->trouble));
-    said.n_entries = 0;
-    for (size_t i = 0; i < device->n_entries; i++) {
-        struct mezulobu_entry entry = device->entries[i];
-        if (s->asked.format && entry.format != s->asked.format)
-            continue;
-        if (said.usage & MEZULOBU_USE_DISPLAY && s->asked.pitch_divisor) {
-            entry.pitch_divisor = s->asked.pitch_divisor;
-            entry.max_pitch = 0;
-        }
-        device->entries[said.n_entries++] = entry;
-    }
-    if (!said.n_entries)
-        return fail(s, "%s doesn't take this format", path_of(s, d->who));
-    pthread_mutex_lock(&s->lock);
-    s->said[d->who] = said;
-    s->n_said++;
-    pthread_cond_broadcast(&s->changed);
-    pthread_mutex_unlock(&s->lock);
-    return wait_until(s, &s->is_settled);
+    const struct asked *asked = &seat->with->asked;
+    return seat->who < asked->n_cameras ? asked->cameras[seat->who] : asked->display;
 }
 
-static struct mezulobu_device device_of(struct driver *d)
+static const char *trouble_of(int status, const struct mezulobu_device *told)
 {
-    return (struct mezulobu_device){.struct_size = sizeof(struct mezulobu_device), .entries = d->with->entries[d->who], .n_entries = MOST_ENTRIES};
+    if (told->error)
+        return strerror(told->error);
+    return told->trouble ? mezulobu_trouble_text(told->trouble) : mezulobu_status_name(status);
 }
 
-// The settings that all can share, on a platform of what they name and of one heap.
-static bool negotiate(struct sharing *s)
+// Takes part: says what the device takes. The answer comes later.
+static bool state(struct seat *seat, const struct mezulobu_participant *asked)
 {
-    struct mezulobu_pair pairs[(MOST_CAMERAS + 1) * MOST_ENTRIES];
-    uint32_t colors[8];
-    size_t n = s->asked.n_cameras + 1, n_pairs = sizeof pairs / sizeof *pairs, n_colors = 8;
-    const struct mezulobu_heap heap = {.cpu = true, .ram = true};
-    if (mezulobu_devices_platform(s->said, n, pairs, &n_pairs, colors, &n_colors) != MEZULOBU_DONE)
-        return fail(s, "there is no platform");
-    struct mezulobu_platform platform = {sizeof platform, &heap, 1, pairs, n_pairs, colors, n_colors};
     struct mezulobu_refusal why = {.struct_size = sizeof why};
-    s->settings = (struct mezulobu_settings){.struct_size = sizeof s->settings};
-    int status = mezulobu_negotiate(&platform, s->said, n, &s->settings, &why);
-    if (status == MEZULOBU_NO && why.who < n)
-        return fail(s, "%s is in the way by %s", path_of(s, why.who), mezulobu_field_name(why.field));
-    if (status != MEZULOBU_DONE)
-        return fail(s, "no settings: %s", mezulobu_status_name(status));
-    const struct mezulobu_image *image = &s->settings.image;
-    printf("settled: %u buffers of %llu bytes, %s %s %ux%u, pitch %u\n", s->settings.count, (unsigned long long)s->settings.bytes,
-           mezulobu_pixel_format_name(image->format), mezulobu_color_name(image->color), image->width, image->height, image->layout.planes[0].pitch);
-    announce(s, &s->is_settled);
-    return true;
+    int status = mezulobu_token_bind(&seat->token, &seat->collection);
+    if (status == MEZULOBU_DONE)
+        status = mezulobu_collection_set_constraints(seat->collection, asked, &why);
+    if (status == MEZULOBU_REFUSED)
+        return fail(seat->with, "%s: its record states no %s that could be meant", path_of(seat),
+                    mezulobu_field_name(why.field));
+    return status == MEZULOBU_DONE
+        || fail(seat->with, "%s: %s", path_of(seat), mezulobu_status_name(status));
 }
 
-// ---- The camera ----------------------------------------------------------------------------------
+// Leaves the collection. Before the decision that calls the whole negotiation off.
+static void leave(struct seat *seat)
+{
+    if (seat->token)
+        mezulobu_token_close(&seat->token);
+    if (seat->collection)
+        mezulobu_collection_close(&seat->collection);
+}
+
+// What was decided, once the collection's descriptor is readable, as for an event loop.
+static int awaited(struct seat *seat)
+{
+    struct pollfd decided = {.fd = mezulobu_collection_fd(seat->collection), .events = POLLIN};
+    if (decided.fd < 0)
+        return mezulobu_collection_wait(seat->collection, -1, &seat->settings);
+    while (poll(&decided, 1, -1) < 0 && errno == EINTR)
+        ;
+    return mezulobu_collection_check(seat->collection, &seat->settings);
+}
+
+// Who is in the way or has left, in words.
+static void explain(struct mezulobu_collection *collection)
+{
+    char *text = NULL;
+    size_t size = 0;
+    int status = mezulobu_collection_explain(collection, NULL, &size);
+    while (status == MEZULOBU_TOO_SMALL) {
+        free(text);
+        text = malloc(size);
+        status = text ? mezulobu_collection_explain(collection, text, &size) : MEZULOBU_NO_MEMORY;
+    }
+    if (status == MEZULOBU_DONE && text)
+        fprintf(stderr, "%.*s", (int)size, text);
+    free(text);
+}
+
+// ---- A camera -----------------------------------------------------------------------------------
 
 struct camera {
-    struct driver driver;
+    struct seat *seat;
+    const char *path;
     int fd;
-    uint32_t type, n_queued;
+    uint32_t type, n_queued, n_faults;
 };
 
 static int ask(int fd, unsigned long request, void *argument)
@@ -207,215 +246,358 @@ static int ask(int fd, unsigned long request, void *argument)
     return status;
 }
 
+static bool is_mplane(const struct camera *c)
+{
+    return c->type == V4L2_BUF_TYPE_VIDEO_CAPTURE_MPLANE;
+}
+
+// Asks the camera what it takes, states that, and waits for the settings.
+static bool join_camera(struct camera *c)
+{
+    struct sharing *s = c->seat->with;
+    struct mezulobu_entry entries[MOST_ENTRIES];
+    struct mezulobu_omitted omitted[MOST_OMITTED];
+    struct mezulobu_device told = {
+        .struct_size = sizeof told, .entries = entries, .n_entries = MOST_ENTRIES,
+        .omitted = omitted, .n_omitted = MOST_OMITTED};
+    c->fd = open(c->path, O_RDWR | O_CLOEXEC);
+    if (c->fd < 0)
+        return fail(s, "%s: %s", c->path, strerror(errno));
+    c->type = mezulobu_v4l2_type(c->fd, MEZULOBU_QUEUE_CAPTURE);
+    int status = mezulobu_v4l2_participant(c->fd, MEZULOBU_QUEUE_CAPTURE, s->asked.size, &told);
+    if (status != MEZULOBU_DONE)
+        return fail(s, "%s: %s", c->path, trouble_of(status, &told));
+    if (!state(c->seat, &told.participant))
+        return false;
+    status = mezulobu_collection_wait(c->seat->collection, -1, &c->seat->settings);
+    return status == MEZULOBU_DONE; // else the display says why
+}
+
 // Sets the driver to what was settled, and compares what it makes of that.
 static bool set_camera(struct camera *c)
 {
-    struct sharing *s = c->driver.with;
-    const struct mezulobu_image *image = &s->settings.image;
+    struct sharing *s = c->seat->with;
+    const struct mezulobu_settings *settings = &c->seat->settings;
+    struct v4l2_requestbuffers r = {
+        .count = settings->count, .type = c->type, .memory = V4L2_MEMORY_DMABUF};
     struct v4l2_format f;
-    if (mezulobu_v4l2_format(c->type, image, &f) != MEZULOBU_DONE)
-        return fail(s, "V4L2 has no code for what was settled");
+    if (mezulobu_v4l2_format(c->type, &settings->image, &f) != MEZULOBU_DONE)
+        return fail(s, "%s: V4L2 has no code for what was settled", c->path);
     if (ask(c->fd, VIDIOC_S_FMT, &f))
-        return fail_by_errno(s, "VIDIOC_S_FMT");
-    bool is_mplane = c->type == V4L2_BUF_TYPE_VIDEO_CAPTURE_MPLANE;
-    uint32_t pitch = is_mplane ? f.fmt.pix_mp.plane_fmt[0].bytesperline : f.fmt.pix.bytesperline;
-    uint32_t bytes = is_mplane ? f.fmt.pix_mp.plane_fmt[0].sizeimage : f.fmt.pix.sizeimage;
-    if (f.fmt.pix.width != image->width || f.fmt.pix.height != image->height || pitch != image->layout.planes[0].pitch || bytes > s->settings.bytes)
-        return fail(s, "the camera takes %ux%u with pitch %u and %u bytes", f.fmt.pix.width, f.fmt.pix.height, pitch, bytes);
-    struct v4l2_requestbuffers r = {.count = s->settings.count, .type = c->type, .memory = V4L2_MEMORY_DMABUF};
+        return fail_by_errno(s, c->path, "VIDIOC_S_FMT");
+    const char *other = mezulobu_v4l2_difference(&f, settings);
+    if (other)
+        return fail(s, "%s: the driver takes another %s than was settled", c->path, other);
     if (ask(c->fd, VIDIOC_REQBUFS, &r))
-        return fail_by_errno(s, "VIDIOC_REQBUFS");
-    return r.count == s->settings.count || fail(s, "the camera takes %u buffers", r.count);
+        return fail_by_errno(s, c->path, "VIDIOC_REQBUFS");
+    if (r.count != settings->count)
+        return fail(s, "%s: the driver takes %u buffers, and %u were settled", c->path, r.count,
+                    settings->count);
+    return true;
 }
 
-// Gives the driver a buffer to fill, or gets one that it has filled.
-static bool pass(struct camera *c, unsigned long request, uint32_t *buffer)
+// Gives the driver a buffer to fill.
+static bool queue(struct camera *c, uint32_t buffer)
 {
-    struct sharing *s = c->driver.with;
-    struct v4l2_plane plane = {0};
-    struct v4l2_buffer b = {.index = *buffer, .type = c->type, .memory = V4L2_MEMORY_DMABUF};
-    bool gives = request == VIDIOC_QBUF;
-    int file = gives ? s->buffers[*buffer].file : 0;
-    uint32_t size = gives ? (uint32_t)s->buffers[*buffer].size : 0;
-    if (c->type == V4L2_BUF_TYPE_VIDEO_CAPTURE_MPLANE) {
-        plane = (struct v4l2_plane){.m.fd = file, .length = size};
+    const struct buffer *given = &c->seat->with->buffers[buffer];
+    struct v4l2_plane plane = {.m.fd = given->file, .length = (uint32_t)given->size};
+    struct v4l2_buffer b = {.index = buffer, .type = c->type, .memory = V4L2_MEMORY_DMABUF,
+                            .m.fd = given->file, .length = (uint32_t)given->size};
+    if (is_mplane(c)) {
         b.m.planes = &plane;
         b.length = 1;
-    } else {
-        b.m.fd = file;
-        b.length = size;
     }
-    if (ask(c->fd, request, &b))
-        return fail_by_errno(s, gives ? "VIDIOC_QBUF" : "VIDIOC_DQBUF");
+    if (ask(c->fd, VIDIOC_QBUF, &b))
+        return fail_by_errno(c->seat->with, c->path, "VIDIOC_QBUF");
+    c->n_queued++;
+    return true;
+}
+
+// Waits until the driver has filled a buffer; false where all end.
+static bool is_filled(struct camera *c)
+{
+    struct pollfd file = {.fd = c->fd, .events = POLLIN};
+    for (int tenth = 0; tenth < 10 * PATIENCE; tenth++) {
+        if (is_over(c->seat->with))
+            return false;
+        int n = poll(&file, 1, 100);
+        if (n > 0)
+            return true;
+        if (n < 0 && errno != EINTR)
+            return fail_by_errno(c->seat->with, c->path, "poll");
+    }
+    return fail(c->seat->with, "%s: no buffer is filled in %d seconds", c->path, PATIENCE);
+}
+
+// Gets a buffer back, and whether the driver says that it is faulty.
+static bool dequeue(struct camera *c, uint32_t *buffer, bool *is_faulty)
+{
+    struct v4l2_plane plane = {0};
+    struct v4l2_buffer b = {.type = c->type, .memory = V4L2_MEMORY_DMABUF};
+    if (is_mplane(c)) {
+        b.m.planes = &plane;
+        b.length = 1;
+    }
+    if (!is_filled(c))
+        return false;
+    if (ask(c->fd, VIDIOC_DQBUF, &b))
+        return fail_by_errno(c->seat->with, c->path, "VIDIOC_DQBUF");
+    if (plane.data_offset)
+        return fail(c->seat->with, "%s: the image begins at byte %u, and 0 was settled", c->path,
+                    plane.data_offset);
     *buffer = b.index;
-    c->n_queued += gives ? 1 : -1u;
+    *is_faulty = b.flags & V4L2_BUF_FLAG_ERROR;
+    c->n_queued--;
+    return true;
+}
+
+// A picture goes to the display; one with errors back to the driver, as long as there are few.
+static bool pass_on(struct camera *c, uint32_t buffer, bool is_faulty)
+{
+    c->n_faults = is_faulty ? c->n_faults + 1 : 0;
+    if (c->n_faults > MOST_FAULTS)
+        return fail(c->seat->with, "%s: all its pictures have errors", c->path);
+    if (is_faulty) {
+        fprintf(stderr, "%s: a picture with errors is left out\n", c->path);
+        return queue(c, buffer);
+    }
+    put(c->seat->with, &c->seat->with->filled, buffer);
     return true;
 }
 
 // Gives the driver what is empty, and waits for a buffer where it has none.
 static bool refill(struct camera *c)
 {
-    struct sharing *s = c->driver.with;
     uint32_t buffer;
-    while (take(s, &s->empty[c->driver.who], !c->n_queued, &buffer))
-        if (!pass(c, VIDIOC_QBUF, &buffer))
+    while (take(c->seat->with, &c->seat->with->empty[c->seat->who], !c->n_queued, &buffer))
+        if (!queue(c, buffer))
             return false;
     return c->n_queued;
 }
 
 static void capture(struct camera *c)
 {
-    struct sharing *s = c->driver.with;
     uint32_t buffer = 0;
+    bool is_faulty = false;
     if (!refill(c))
         return;
     if (ask(c->fd, VIDIOC_STREAMON, &c->type)) {
-        fail_by_errno(s, "VIDIOC_STREAMON");
+        fail_by_errno(c->seat->with, c->path, "VIDIOC_STREAMON");
         return;
     }
-    while (refill(c) && pass(c, VIDIOC_DQBUF, &buffer))
-        put(s, &s->filled, buffer);
-    ask(c->fd, VIDIOC_STREAMOFF, &c->type);
+    while (refill(c) && dequeue(c, &buffer, &is_faulty) && pass_on(c, buffer, is_faulty))
+        ;
+    if (ask(c->fd, VIDIOC_STREAMOFF, &c->type))
+        fail_by_errno(c->seat->with, c->path, "VIDIOC_STREAMOFF");
 }
 
-static void *run_camera(void *driver)
+static void *run_camera(void *seat)
 {
-    struct camera c = {.driver = *(struct driver *)driver};
-    struct sharing *s = c.driver.with;
-    struct mezulobu_device device = device_of(&c.driver);
-    struct mezulobu_omitted omitted[256];
-    device.omitted = omitted;
-    device.n_omitted = 256;
-    c.fd = open(s->asked.cameras[c.driver.who], O_RDWR | O_CLOEXEC);
-    c.type = mezulobu_v4l2_type(c.fd, MEZULOBU_QUEUE_CAPTURE);
-    int status = mezulobu_v4l2_participant(c.fd, MEZULOBU_QUEUE_CAPTURE, s->asked.size, &device);
-    if (state(&c.driver, status, &device) && wait_until(s, &s->are_made) && set_camera(&c))
+    struct camera c = {.seat = seat, .path = path_of(seat), .fd = -1};
+    if (join_camera(&c) && are_made(c.seat->with) && set_camera(&c))
         capture(&c);
-    close(c.fd);
+    if (c.fd >= 0)
+        close(c.fd); // the driver gives its buffers back by that
+    leave(c.seat);
     return NULL;
 }
 
-// ---- The display ---------------------------------------------------------------------------------
+// ---- The display --------------------------------------------------------------------------------
 
-struct display {
-    struct driver driver;
-    int fd;
-    uint32_t crtc, connector;
-    drmModeModeInfo mode;
-};
-
-// A buffer of the display, whose rows are those that were settled.
-static bool make_buffer(struct display *d, struct buffer *b)
+// Asks the display what it takes, of the formats and with the pitch that were asked for.
+static bool ask_display(struct sharing *s)
 {
-    struct sharing *s = d->driver.with;
-    const struct mezulobu_layout *layout = &s->settings.image.layout;
+    struct display *d = &s->display;
+    struct mezulobu_omitted omitted[MOST_OMITTED];
+    struct mezulobu_device told = {
+        .struct_size = sizeof told, .entries = d->entries, .n_entries = MOST_ENTRIES,
+        .omitted = omitted, .n_omitted = MOST_OMITTED};
+    d->fd = open(s->asked.display, O_RDWR | O_CLOEXEC);
+    if (d->fd < 0)
+        return fail(s, "%s: %s", s->asked.display, strerror(errno));
+    int status = mezulobu_drm_participant(d->fd, 0, s->asked.size, &told);
+    if (status != MEZULOBU_DONE)
+        return fail(s, "%s: %s", s->asked.display, trouble_of(status, &told));
+    d->asked = told.participant;
+    d->asked.n_entries = 0;
+    for (size_t i = 0; i < told.n_entries; i++) {
+        struct mezulobu_entry entry = d->entries[i];
+        if (s->asked.format && entry.format != s->asked.format)
+            continue;
+        if (s->asked.pitch_divisor) {
+            entry.pitch_divisor = s->asked.pitch_divisor;
+            entry.max_pitch = 0;
+        }
+        d->entries[d->asked.n_entries++] = entry;
+    }
+    return d->asked.n_entries || fail(s, "%s: it doesn't take this format", s->asked.display);
+}
+
+// A dumb buffer whose rows are those that were settled, and its framebuffer.
+static bool make_framebuffer(struct sharing *s, const struct mezulobu_settings *settings,
+                             struct buffer *b)
+{
+    const struct mezulobu_image *image = &settings->image;
+    const struct mezulobu_layout *layout = &image->layout;
     uint32_t pitch = layout->planes[0].pitch, handles[4] = {0}, pitches[4] = {0}, offsets[4] = {0};
     // A row is as many pixels as fit, or, where they don't fit exactly, bytes.
-    uint32_t bytes = mezulobu_pixel_bytes(s->settings.image.format), unit = pitch % bytes ? 1 : bytes;
-    struct drm_mode_create_dumb made = {.width = pitch / unit, .height = (uint32_t)((s->settings.bytes + pitch - 1) / pitch), .bpp = 8 * unit};
-    if (drmIoctl(d->fd, DRM_IOCTL_MODE_CREATE_DUMB, &made))
-        return fail_by_errno(s, "a dumb buffer");
+    uint32_t bytes = mezulobu_pixel_bytes(image->format), unit = (pitch % bytes) ? 1 : bytes;
+    struct drm_mode_create_dumb made = {
+        .width = pitch / unit, .height = (uint32_t)((settings->bytes + pitch - 1) / pitch),
+        .bpp = 8 * unit};
+    if (drmIoctl(s->display.fd, DRM_IOCTL_MODE_CREATE_DUMB, &made))
+        return fail_by_errno(s, s->asked.display, "a dumb buffer");
     b->handle = made.handle;
     b->size = made.size;
-    if (made.pitch != pitch || made.size < s->settings.bytes)
-        return fail(s, "the display makes a buffer of pitch %u and %llu bytes", made.pitch, (unsigned long long)made.size);
+    if (made.pitch != pitch || made.size < settings->bytes)
+        return fail(s, "%s: the driver makes a buffer of %llu bytes with pitch %u, and %llu with %u"
+                    " were settled", s->asked.display, (unsigned long long)made.size, made.pitch,
+                    (unsigned long long)settings->bytes, pitch);
     for (uint32_t i = 0; i < layout->n_planes; i++) {
         handles[i] = made.handle;
         pitches[i] = layout->planes[i].pitch;
         offsets[i] = (uint32_t)layout->planes[i].offset;
     }
-    const struct mezulobu_image *image = &s->settings.image;
-    if (drmModeAddFB2(d->fd, image->width, image->height, image->format, handles, pitches, offsets, &b->framebuffer, 0))
-        return fail_by_errno(s, "a framebuffer");
-    struct drm_mode_map_dumb map = {.handle = made.handle};
-    if (drmPrimeHandleToFD(d->fd, made.handle, DRM_CLOEXEC | DRM_RDWR, &b->file) || drmIoctl(d->fd, DRM_IOCTL_MODE_MAP_DUMB, &map))
-        return fail_by_errno(s, "the buffer's dma-buf");
-    b->bytes = mmap(NULL, made.size, PROT_READ, MAP_SHARED, d->fd, (off_t)map.offset);
-    return b->bytes != MAP_FAILED || fail_by_errno(s, "mmap");
+    return !drmModeAddFB2(s->display.fd, image->width, image->height, image->format, handles,
+                          pitches, offsets, &b->framebuffer, 0)
+        || fail_by_errno(s, s->asked.display, "a framebuffer");
 }
 
-static bool make_buffers(struct display *d)
+// The buffer's dma-buf, and where it is read.
+static bool export_buffer(struct sharing *s, struct buffer *b)
 {
-    struct sharing *s = d->driver.with;
-    for (uint32_t i = 0; i < s->settings.count; i++) {
-        if (!make_buffer(d, &s->buffers[i]))
+    struct drm_mode_map_dumb map = {.handle = b->handle};
+    int fd = s->display.fd;
+    if (drmPrimeHandleToFD(fd, b->handle, DRM_CLOEXEC | DRM_RDWR, &b->file)) {
+        b->file = -1;
+        return fail_by_errno(s, s->asked.display, "a dma-buf");
+    }
+    if (drmIoctl(fd, DRM_IOCTL_MODE_MAP_DUMB, &map))
+        return fail_by_errno(s, s->asked.display, "a dumb buffer's place");
+    void *at = mmap(NULL, b->size, PROT_READ, MAP_SHARED, fd, (off_t)map.offset);
+    if (at == MAP_FAILED)
+        return fail_by_errno(s, s->asked.display, "mmap");
+    b->bytes = at;
+    return true;
+}
+
+static bool make_buffers(struct sharing *s, const struct mezulobu_settings *settings)
+{
+    for (uint32_t i = 0; i < settings->count; i++) {
+        s->buffers[i].file = -1;
+        if (!make_framebuffer(s, settings, &s->buffers[i]) || !export_buffer(s, &s->buffers[i]))
             return false;
-        s->camera_of[i] = i % s->asked.n_cameras;
-        put(s, &s->empty[s->camera_of[i]], i);
+        put(s, &s->empty[i % s->asked.n_cameras], i);
     }
     announce(s, &s->are_made);
     return true;
 }
 
-static void drop_buffers(struct display *d)
+// After all threads have ended, so that no camera fills a buffer any more.
+static void drop_buffers(struct sharing *s)
 {
-    struct sharing *s = d->driver.with;
     for (uint32_t i = 0; i < MOST_BUFFERS; i++) {
         struct buffer *b = &s->buffers[i];
-        if (b->bytes && b->bytes != MAP_FAILED)
+        struct drm_mode_destroy_dumb gone = {.handle = b->handle};
+        if (!b->handle)
+            continue;
+        if (b->bytes)
             munmap(b->bytes, b->size);
-        if (b->file)
+        if (b->file >= 0)
             close(b->file);
         if (b->framebuffer)
-            drmModeRmFB(d->fd, b->framebuffer);
-        if (b->handle)
-            drmIoctl(d->fd, DRM_IOCTL_MODE_DESTROY_DUMB, &(struct drm_mode_destroy_dumb){.handle = b->handle});
+            drmModeRmFB(s->display.fd, b->framebuffer);
+        drmIoctl(s->display.fd, DRM_IOCTL_MODE_DESTROY_DUMB, &gone);
     }
 }
 
-// The connector's largest mode that the image covers, and a CRTC for it.
-static bool choose_mode(struct display *d, const drmModeRes *has, const drmModeConnector *c)
+static bool is_shown_on(const struct display *d, uint32_t crtc)
 {
-    const struct mezulobu_image *image = &d->driver.with->settings.image;
-    uint32_t crtcs = drmModeConnectorGetPossibleCrtcs(d->fd, c);
+    for (size_t i = 0; i < d->n_screens; i++)
+        if (d->screens[i].crtc == crtc)
+            return true;
+    return false;
+}
+
+// Adds a connector's screen, with its largest mode that the image covers, where a CRTC is left.
+static void add_screen(struct display *d, const drmModeRes *has, const drmModeConnector *c,
+                       const struct mezulobu_image *image)
+{
+    struct screen screen = {.connector = c->connector_id};
+    uint32_t crtcs = drmModeConnectorGetPossibleCrtcs(d->fd, c), most = 0;
     for (int i = 0; i < c->count_modes; i++) {
         const drmModeModeInfo *m = &c->modes[i];
-        bool is_larger = (uint32_t)m->hdisplay * m->vdisplay > (uint32_t)d->mode.hdisplay * d->mode.vdisplay;
-        if (is_larger && m->hdisplay <= image->width && m->vdisplay <= image->height)
-            d->mode = *m;
+        uint32_t pixels = (uint32_t)m->hdisplay * m->vdisplay;
+        if (pixels <= most || m->hdisplay > image->width || m->vdisplay > image->height)
+            continue;
+        screen.mode = *m;
+        most = pixels;
     }
-    for (int i = 0; i < has->count_crtcs && !d->crtc; i++)
-        if (crtcs & 1u << i)
-            d->crtc = has->crtcs[i];
-    d->connector = c->connector_id;
-    return d->mode.hdisplay && d->crtc;
+    for (int i = 0; i < has->count_crtcs && !screen.crtc; i++)
+        if (crtcs & 1U << i && !is_shown_on(d, has->crtcs[i]))
+            screen.crtc = has->crtcs[i];
+    if (screen.crtc && most)
+        d->screens[d->n_screens++] = screen;
 }
 
-// The first screen that is connected, and can show such images.
-static bool find_screen(struct display *d)
+// The first screens that are connected and can show such images, as many as were asked for.
+static bool find_screens(struct sharing *s, const struct mezulobu_image *image)
 {
+    struct display *d = &s->display;
     drmModeRes *has = drmModeGetResources(d->fd);
-    bool is_found = false;
-    for (int i = 0; has && i < has->count_connectors && !is_found; i++) {
+    for (int i = 0; has && i < has->count_connectors && d->n_screens < s->asked.screens; i++) {
         drmModeConnector *c = drmModeGetConnector(d->fd, has->connectors[i]);
-        is_found = c && c->connection == DRM_MODE_CONNECTED && choose_mode(d, has, c);
+        if (c && c->connection == DRM_MODE_CONNECTED)
+            add_screen(d, has, c, image);
         drmModeFreeConnector(c);
     }
     drmModeFreeResources(has);
-    return is_found || fail(d->driver.with, "no screen shows images of this size");
+    return d->n_screens == s->asked.screens
+        || fail(s, "%s: of %u screens %zu show images of this size", s->asked.display,
+                s->asked.screens, d->n_screens);
 }
 
-static void flipped(int fd, unsigned sequence, unsigned seconds, unsigned microseconds, void *is_done)
+static void flipped(int fd, unsigned sequence, unsigned seconds, unsigned microseconds, void *left)
 {
     (void)fd, (void)sequence, (void)seconds, (void)microseconds;
-    *(bool *)is_done = true;
+    --*(size_t *)left;
 }
 
-// Shows a buffer: the first by a mode, the others by a flip, which is waited for.
-static bool show(struct display *d, const struct buffer *b, bool is_first)
+// Waits until as many screens as are left have flipped.
+static bool all_flipped(struct sharing *s, size_t *left)
 {
-    struct sharing *s = d->driver.with;
     drmEventContext events = {.version = 2, .page_flip_handler = flipped};
-    struct pollfd file = {.fd = d->fd, .events = POLLIN};
-    bool is_done = false;
-    if (is_first)
-        return !drmModeSetCrtc(d->fd, d->crtc, b->framebuffer, 0, 0, &d->connector, 1, &d->mode) || fail_by_errno(s, "drmModeSetCrtc");
-    if (drmModePageFlip(d->fd, d->crtc, b->framebuffer, DRM_MODE_PAGE_FLIP_EVENT, &is_done))
-        return fail_by_errno(s, "drmModePageFlip");
-    while (!is_done)
-        if (poll(&file, 1, 10000) != 1 || drmHandleEvent(d->fd, &events))
-            return fail(s, "the display doesn't flip");
+    struct pollfd file = {.fd = s->display.fd, .events = POLLIN};
+    while (*left) {
+        int n = poll(&file, 1, 1000 * PATIENCE);
+        if (n < 0 && errno == EINTR)
+            continue;
+        if (n != 1 || drmHandleEvent(s->display.fd, &events))
+            return fail(s, "%s: it doesn't flip", s->asked.display);
+    }
     return true;
+}
+
+// Shows a buffer on each screen: the first by a mode, the others by a flip, which is waited for.
+static bool show(struct sharing *s, const struct buffer *b, bool is_first)
+{
+    const struct display *d = &s->display;
+    size_t left = 0;
+    for (size_t i = 0; i < d->n_screens; i++) {
+        struct screen screen = d->screens[i];
+        if (is_first) {
+            if (drmModeSetCrtc(d->fd, screen.crtc, b->framebuffer, 0, 0, &screen.connector, 1,
+                               &screen.mode))
+                return fail_by_errno(s, s->asked.display, "drmModeSetCrtc");
+            continue;
+        }
+        if (drmModePageFlip(d->fd, screen.crtc, b->framebuffer, DRM_MODE_PAGE_FLIP_EVENT, &left)) {
+            fail_by_errno(s, s->asked.display, "drmModePageFlip");
+            break;
+        }
+        left++;
+    }
+    return all_flipped(s, &left) && !is_over(s);
 }
 
 // A number for some bytes, by which two pictures are compared (FNV-1a).
@@ -427,97 +609,163 @@ static uint32_t number_of(const uint8_t *bytes, uint64_t n)
     return number;
 }
 
-static void tell(const struct sharing *s, uint32_t frame, uint32_t buffer)
+static void tell(const struct mezulobu_layout *layout, const struct buffer *b, size_t camera,
+                 uint32_t frame, uint32_t buffer)
 {
-    const struct mezulobu_layout *layout = &s->settings.image.layout;
-    const uint8_t *bytes = s->buffers[buffer].bytes;
-    printf("frame %u of camera %zu in buffer %u: first row %08x, image %08x\n", frame, s->camera_of[buffer], buffer,
-           number_of(bytes, layout->planes[0].pitch), number_of(bytes, layout->bytes));
+    printf("frame %u of camera %zu in buffer %u: first row %08x, image %08x\n", frame, camera,
+           buffer, number_of(b->bytes, layout->planes[0].pitch),
+           number_of(b->bytes, layout->bytes));
 }
 
 // Shows the pictures that come. What was on the screen goes back to a camera, to each in turn.
-static bool show_frames(struct display *d)
+static bool show_frames(struct sharing *s, const struct mezulobu_settings *settings)
 {
-    struct sharing *s = d->driver.with;
-    uint32_t buffer, shown = MOST_BUFFERS;
-    for (uint32_t frame = 0; frame < s->asked.frames * s->asked.n_cameras; frame++) {
+    const struct asked *asked = &s->asked;
+    size_t camera_of[MOST_BUFFERS];
+    uint32_t buffer, shown = MOST_BUFFERS, frames = (uint32_t)(asked->frames * asked->n_cameras);
+    for (uint32_t i = 0; i < settings->count; i++)
+        camera_of[i] = i % asked->n_cameras;
+    for (uint32_t frame = 0; frame < frames; frame++) {
         if (!take(s, &s->filled, true, &buffer))
             return false;
-        tell(s, frame, buffer);
-        if (!show(d, &s->buffers[buffer], !frame))
+        tell(&settings->image.layout, &s->buffers[buffer], camera_of[buffer], frame, buffer);
+        if (!show(s, &s->buffers[buffer], !frame))
             return false;
         if (frame) {
-            s->camera_of[shown] = frame % s->asked.n_cameras;
-            put(s, &s->empty[s->camera_of[shown]], shown);
+            camera_of[shown] = frame % asked->n_cameras;
+            put(s, &s->empty[camera_of[shown]], shown);
         }
         shown = buffer;
     }
-    sleep(s->asked.hold);
-    printf("%u buffers shared without a copy, %zu frames shown in %ux%u\n", s->settings.count, s->asked.frames * s->asked.n_cameras, d->mode.hdisplay, d->mode.vdisplay);
+    sleep(asked->hold);
+    printf("%u buffers shared without a copy, %u frames shown", settings->count, frames);
+    for (size_t i = 0; i < s->display.n_screens; i++)
+        printf("%s in %ux%u", i ? " and" : "", s->display.screens[i].mode.hdisplay,
+               s->display.screens[i].mode.vdisplay);
+    printf("\n");
     return true;
 }
 
-static void *run_display(void *driver)
+// States what the display takes; tells what was settled, or why nothing was.
+static bool join_display(struct seat *seat)
 {
-    struct display d = {.driver = *(struct driver *)driver};
-    struct sharing *s = d.driver.with;
-    struct mezulobu_device device = device_of(&d.driver);
-    struct mezulobu_omitted omitted[256];
-    device.omitted = omitted;
-    device.n_omitted = 256;
-    d.fd = open(s->asked.display, O_RDWR | O_CLOEXEC);
-    int status = mezulobu_drm_participant(d.fd, 0, s->asked.size, &device);
-    if (state(&d.driver, status, &device) && find_screen(&d) && make_buffers(&d))
-        show_frames(&d);
+    const struct mezulobu_settings *told = &seat->settings;
+    const struct mezulobu_image *image = &told->image;
+    if (!state(seat, &seat->with->display.asked))
+        return false;
+    int status = awaited(seat);
+    if (status != MEZULOBU_DONE) {
+        fail(seat->with, "nothing is settled: %s", mezulobu_status_name(status));
+        explain(seat->collection);
+        return false;
+    }
+    printf("settled: %u buffers of %llu bytes, %s %s %ux%u, pitch %u\n", told->count,
+           (unsigned long long)told->bytes, mezulobu_pixel_format_name(image->format),
+           mezulobu_color_name(image->color), image->width, image->height,
+           image->layout.planes[0].pitch);
+    return true;
+}
+
+static void *run_display(void *at)
+{
+    struct seat *seat = at;
+    struct sharing *s = seat->with;
+    const struct mezulobu_settings *settings = &seat->settings;
+    if (join_display(seat) && find_screens(s, &settings->image) && make_buffers(s, settings))
+        show_frames(s, settings);
     announce(s, &s->is_over);
-    drop_buffers(&d);
-    close(d.fd);
+    leave(seat);
     return NULL;
 }
 
-// ---- The app -------------------------------------------------------------------------------------
+// ---- The app ------------------------------------------------------------------------------------
 
-// Waits until each driver has said what it takes.
-static bool all_said(struct sharing *s)
+// The allocator of a platform with one heap, and the images that the display takes.
+static bool make_allocator(struct sharing *s, struct mezulobu_allocator **made)
 {
-    pthread_mutex_lock(&s->lock);
-    while (s->n_said <= s->asked.n_cameras && !s->is_over)
-        pthread_cond_wait(&s->changed, &s->lock);
-    bool is_over = s->is_over;
-    pthread_mutex_unlock(&s->lock);
-    return !is_over;
+    struct mezulobu_pair pairs[MOST_ENTRIES];
+    uint32_t colors[8];
+    size_t n_pairs = MOST_ENTRIES, n_colors = 8;
+    const struct mezulobu_heap heap = {.cpu = true, .ram = true};
+    int status =
+        mezulobu_devices_platform(&s->display.asked, 1, pairs, &n_pairs, colors, &n_colors);
+    struct mezulobu_platform platform = {
+        sizeof platform, &heap, 1, pairs, n_pairs, colors, n_colors};
+    if (status == MEZULOBU_DONE)
+        status = mezulobu_allocator_new(&platform, made, NULL);
+    return status == MEZULOBU_DONE || fail(s, "no allocator: %s", mezulobu_status_name(status));
+}
+
+// A token for each driver, with a name for explanations.
+static bool hand_out(struct sharing *s, struct mezulobu_allocator *allocator)
+{
+    struct mezulobu_token *root = NULL;
+    int status = mezulobu_allocate_shared(allocator, &root);
+    for (size_t i = 0; i <= s->asked.n_cameras && status == MEZULOBU_DONE; i++) {
+        char name[33] = "display";
+        struct seat *seat = &s->seats[i];
+        *seat = (struct seat){.with = s, .who = i, .settings.struct_size = sizeof seat->settings};
+        if (i < s->asked.n_cameras)
+            snprintf(name, sizeof name, "camera%zu", i);
+        status = mezulobu_token_duplicate(root, &seat->token);
+        if (status == MEZULOBU_DONE)
+            status = mezulobu_token_set_name(seat->token, name);
+    }
+    if (root)
+        mezulobu_token_release(&root); // nobody else comes
+    return status == MEZULOBU_DONE || fail(s, "no tokens: %s", mezulobu_status_name(status));
+}
+
+// A thread for each driver; where one isn't begun the negotiation is off.
+static void run_drivers(struct sharing *s)
+{
+    pthread_t threads[MOST_CAMERAS + 1];
+    size_t n = s->asked.n_cameras + 1, begun = 0;
+    int error = 0;
+    while (begun < n && !error) {
+        struct seat *seat = &s->seats[begun];
+        void *(*driver)(void *) = begun + 1 < n ? run_camera : run_display;
+        error = pthread_create(&threads[begun], NULL, driver, seat);
+        if (error)
+            fail(s, "no thread: %s", strerror(error));
+        else
+            begun++;
+    }
+    for (size_t i = begun; i < n; i++)
+        leave(&s->seats[i]);
+    while (begun)
+        pthread_join(threads[--begun], NULL);
 }
 
 static int run(struct sharing *s)
 {
-    pthread_t threads[MOST_CAMERAS + 1];
-    struct driver drivers[MOST_CAMERAS + 1];
-    size_t n = s->asked.n_cameras + 1, begun = 0;
-    while (begun < n) {
-        drivers[begun] = (struct driver){s, begun};
-        if (pthread_create(&threads[begun], NULL, begun + 1 < n ? run_camera : run_display, &drivers[begun])) {
-            fail(s, "no thread");
-            break;
-        }
-        begun++;
+    struct mezulobu_allocator *allocator = NULL;
+    if (ask_display(s) && make_allocator(s, &allocator)) {
+        if (hand_out(s, allocator))
+            run_drivers(s);
+        for (size_t i = 0; i <= s->asked.n_cameras; i++)
+            leave(&s->seats[i]);
     }
-    if (all_said(s))
-        negotiate(s);
-    while (begun)
-        pthread_join(threads[--begun], NULL);
+    drop_buffers(s);
+    if (s->display.fd >= 0)
+        close(s->display.fd);
+    mezulobu_allocator_free(allocator);
     return s->has_failed;
 }
 
 static bool read_option(struct asked *asked, const char *name, const char *value)
 {
+    unsigned number = (unsigned)strtoul(value, NULL, 10);
     if (!strcmp(name, "--format") && strlen(value) == 4)
         memcpy(&asked->format, value, 4);
     else if (!strcmp(name, "--pitch-divisor"))
-        asked->pitch_divisor = (uint32_t)strtoul(value, NULL, 10);
+        asked->pitch_divisor = number;
     else if (!strcmp(name, "--frames"))
-        asked->frames = (unsigned)strtoul(value, NULL, 10);
+        asked->frames = number;
+    else if (!strcmp(name, "--screens") && number && number <= MOST_SCREENS)
+        asked->screens = number;
     else if (!strcmp(name, "--hold"))
-        asked->hold = (unsigned)strtoul(value, NULL, 10);
+        asked->hold = number;
     else
         return false;
     return true;
@@ -526,7 +774,8 @@ static bool read_option(struct asked *asked, const char *name, const char *value
 static bool read_asked(struct asked *asked, int n, char **words)
 {
     int size = 3;
-    while (size < n && sscanf(words[size], "%ux%u", &asked->size.width, &asked->size.height) != 2)
+    while (size < n
+           && sscanf(words[size], "%ux%u", &asked->size.width, &asked->size.height) != 2)
         size++;
     if (size >= n || size - 2 > MOST_CAMERAS || (n - size - 1) % 2)
         return false;
@@ -541,9 +790,13 @@ static bool read_asked(struct asked *asked, int n, char **words)
 
 int main(int n, char **words)
 {
-    static struct sharing s = {.lock = PTHREAD_MUTEX_INITIALIZER, .changed = PTHREAD_COND_INITIALIZER, .asked = {.frames = 8}};
+    static struct sharing s = {.lock = PTHREAD_MUTEX_INITIALIZER,
+                               .changed = PTHREAD_COND_INITIALIZER, .display.fd = -1,
+                               .asked = {.frames = 8, .screens = 1}};
     if (!read_asked(&s.asked, n, words)) {
-        fputs("usage: zero_copy CAMERA.. DISPLAY WIDTHxHEIGHT [--format FOURCC] [--pitch-divisor BYTES] [--frames N] [--hold SECONDS]\n", stderr);
+        fputs("usage: zero_copy CAMERA.. DISPLAY WIDTHxHEIGHT [--format FOURCC]\n"
+              "                 [--pitch-divisor BYTES] [--frames N] [--screens N]\n"
+              "                 [--hold SECONDS]\n", stderr);
         return 2;
     }
     return run(&s);

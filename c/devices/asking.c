@@ -116,6 +116,8 @@ const char *mezulobu_omission_text(uint32_t why)
     case MEZULOBU_OMITTED_FIELDS: return "it comes in fields, and not as whole images";
     case MEZULOBU_OMITTED_COLORS: return "there is no name for its colours";
     case MEZULOBU_OMITTED_SIZE: return "the driver hasn't it in this size";
+    case MEZULOBU_OMITTED_MODIFIERS: return "there is no name for any of its modifiers";
+    case MEZULOBU_OMITTED_UNLISTED: return "the driver lists no modifier for it";
     default: return "?";
     }
 }

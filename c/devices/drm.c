@@ -9,7 +9,7 @@
 #include <xf86drmMode.h>
 
 /* Longer ones aren't asked for: their buffers would be large. */
-#define LONG_PITCH (1u << 17)
+#define LONG_PITCH (1U << 17)
 #define MOST_STEP 65536
 
 /* A plane that is to be asked, and what is known before it is. */
@@ -57,7 +57,7 @@ static uint32_t yuv_colors(const struct color_values *v)
 }
 
 static void read_property(struct plane *plane, const drmModePropertyRes *property, uint64_t value,
-                          struct color_values *colors)
+                          struct color_values *values)
 {
     if (!strcmp(property->name, "type"))
         plane->type = value;
@@ -65,22 +65,22 @@ static void read_property(struct plane *plane, const drmModePropertyRes *propert
         plane->in_formats = drmModeGetPropertyBlob(plane->fd, (uint32_t)value);
     if (!strcmp(property->name, "COLOR_ENCODING") || !strcmp(property->name, "COLOR_RANGE"))
         for (int i = 0; i < property->count_enums; i++)
-            add_color_value(colors, property->enums[i].name);
+            add_color_value(values, property->enums[i].name);
 }
 
 static void read_properties(struct plane *plane)
 {
-    struct color_values colors = {0};
+    struct color_values values = {0};
     drmModeObjectPropertiesPtr all =
         drmModeObjectGetProperties(plane->fd, plane->told->plane_id, DRM_MODE_OBJECT_PLANE);
     for (uint32_t i = 0; all && i < all->count_props; i++) {
         drmModePropertyPtr property = drmModeGetProperty(plane->fd, all->props[i]);
         if (property)
-            read_property(plane, property, all->prop_values[i], &colors);
+            read_property(plane, property, all->prop_values[i], &values);
         drmModeFreeProperty(property);
     }
     drmModeFreeObjectProperties(all);
-    plane->yuv_colors = yuv_colors(&colors);
+    plane->yuv_colors = yuv_colors(&values);
 }
 
 /* ---- Which plane ---------------------------------------------------------------------------- */
@@ -108,7 +108,7 @@ static int crtc_of(int fd, const drmModeRes *has, const drmModeConnector *connec
 {
     uint32_t possible = drmModeConnectorGetPossibleCrtcs(fd, connector);
     for (int i = 0; i < has->count_crtcs; i++)
-        if (possible & 1u << i)
+        if (possible & 1U << i)
             return i;
     return -1;
 }
@@ -131,7 +131,7 @@ static bool is_wanted(const struct plane *plane, uint32_t id, int crtc)
     if (id)
         return plane->told->plane_id == id;
     return plane->type == DRM_PLANE_TYPE_PRIMARY && crtc >= 0
-        && plane->told->possible_crtcs & 1u << crtc;
+        && plane->told->possible_crtcs & 1U << crtc;
 }
 
 static void let_go(struct plane *plane)
@@ -251,24 +251,50 @@ static void add_pair(const struct plane *plane, const struct format *format, uin
     add_entry(answer, &entry);
 }
 
+/* Of a format that has no name here the kernel's is told. */
+static void omit_format(uint32_t code, uint32_t why, struct answer *answer)
+{
+    struct mezulobu_omitted omitted = {.why = why, .format = code};
+    const struct format *known = format_of_drm(code);
+    char *name = known ? NULL : drmGetFormatName(code);
+    const char *told = known ? known->name : name ? name : "?";
+    put_text(omitted.name, sizeof omitted.name, told, sizeof omitted.name);
+    free(name);
+    add_omitted(answer, &omitted);
+}
+
+/* The pairs of a format and those of its modifiers in IN_FORMATS that have names here: 0, or why
+ * there are none. */
+static uint32_t add_listed(const struct plane *plane, const struct format *format,
+                           struct answer *answer)
+{
+    drmModeFormatModifierIterator each = {0};
+    uint32_t why = MEZULOBU_OMITTED_UNLISTED;
+    while (drmModeFormatModifierBlobIterNext(plane->in_formats, &each)) {
+        if (each.fmt != format->drm)
+            continue;
+        if (modifier_of(each.mod)) {
+            add_pair(plane, format, each.mod, answer);
+            why = 0;
+        } else if (why)
+            why = MEZULOBU_OMITTED_MODIFIERS;
+    }
+    return why;
+}
+
 /* A format's modifiers: those of IN_FORMATS, or linear alone. */
 static void add_format(const struct plane *plane, uint32_t code, struct answer *answer)
 {
     const struct format *format = format_of_drm(code);
-    drmModeFormatModifierIterator each = {0};
-    if (!format) {
-        struct mezulobu_omitted omitted = {.why = MEZULOBU_OMITTED_FORMAT, .format = code};
-        char *name = drmGetFormatName(code);
-        put_text(omitted.name, sizeof omitted.name, name ? name : "?", sizeof omitted.name);
-        free(name);
-        add_omitted(answer, &omitted);
-        return;
-    }
-    if (!plane->in_formats)
+    uint32_t why = 0;
+    if (!format)
+        why = MEZULOBU_OMITTED_FORMAT;
+    else if (plane->in_formats)
+        why = add_listed(plane, format, answer);
+    else
         add_pair(plane, format, DRM_FORMAT_MOD_LINEAR, answer);
-    while (plane->in_formats && drmModeFormatModifierBlobIterNext(plane->in_formats, &each))
-        if (each.fmt == code && modifier_of(each.mod))
-            add_pair(plane, format, each.mod, answer);
+    if (why)
+        omit_format(code, why, answer);
 }
 
 /* The modifiers of a driver's list that have no name here, each once. */

@@ -32,7 +32,7 @@ static const struct modifier modifiers[] = {
 #define FULL V4L2_QUANTIZATION_FULL_RANGE
 #define LIMITED V4L2_QUANTIZATION_LIM_RANGE
 
-const struct color colors[N_COLORS] = {
+const struct color known_colors[N_COLORS] = {
     {"SRGB", MEZULOBU_SRGB,
      {V4L2_COLORSPACE_SRGB, V4L2_YCBCR_ENC_601, FULL, V4L2_XFER_FUNC_SRGB}},
     {"REC601_NTSC", MEZULOBU_REC601_NTSC,
@@ -89,8 +89,8 @@ bool is_pair(const struct format *format, uint64_t modifier)
 const struct color *color_of(uint32_t bit)
 {
     for (size_t i = 0; i < N_COLORS; i++)
-        if (colors[i].bit == bit)
-            return &colors[i];
+        if (known_colors[i].bit == bit)
+            return &known_colors[i];
     return NULL;
 }
 
@@ -120,11 +120,11 @@ static uint32_t encoded_colors(const struct colorimetry *c)
 {
     uint32_t any = 0, exact = 0;
     for (size_t i = 0; i < N_COLORS; i++) {
-        if (!is_encoded(&colors[i], c))
+        if (!is_encoded(&known_colors[i], c))
             continue;
-        any |= colors[i].bit;
-        if (colors[i].v4l2.space == c->space)
-            exact |= colors[i].bit;
+        any |= known_colors[i].bit;
+        if (known_colors[i].v4l2.space == c->space)
+            exact |= known_colors[i].bit;
     }
     return exact ? exact : any;
 }

@@ -42,7 +42,7 @@ struct color {
 };
 
 #define N_COLORS 8
-extern const struct color colors[N_COLORS];
+extern const struct color known_colors[N_COLORS];
 
 const struct color *color_of(uint32_t bit);
 

@@ -116,10 +116,10 @@ static int ask_device(int fd, const struct choice *choice, struct mezulobu_size 
 static void put_letters(uint32_t code, char letters[8])
 {
     for (int i = 0; i < 4; i++) {
-        char letter = (char)(code >> 8 * i & 0x7f);
-        letters[i] = letter >= ' ' && letter <= '~' ? letter : '?';
+        uint32_t letter = code >> 8 * i & 0x7f;
+        letters[i] = (char)(letter >= ' ' && letter <= '~' ? letter : '?');
     }
-    strcpy(letters + 4, code >> 31 ? "-BE" : "");
+    snprintf(letters + 4, 4, "%s", code >> 31 ? "-BE" : "");
 }
 
 static void tell_omitted(const char *name, const struct mezulobu_omitted *omitted)

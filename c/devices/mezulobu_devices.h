@@ -39,7 +39,9 @@ enum mezulobu_omission {
     MEZULOBU_OMITTED_PLANES = 5,     /* its planes lie in buffers of their own */
     MEZULOBU_OMITTED_FIELDS = 6,     /* the driver gives fields in place of whole images */
     MEZULOBU_OMITTED_COLORS = 7,     /* there is no name here for its colours */
-    MEZULOBU_OMITTED_SIZE = 8        /* the driver hasn't the format in the size asked for */
+    MEZULOBU_OMITTED_SIZE = 8,       /* the driver hasn't the format in the size asked for */
+    MEZULOBU_OMITTED_MODIFIERS = 9,  /* there is no name here for any of the format's modifiers */
+    MEZULOBU_OMITTED_UNLISTED = 10   /* the driver's IN_FORMATS has no modifier for the format */
 };
 
 struct mezulobu_omitted {
@@ -99,6 +101,11 @@ struct v4l2_format;
  * DONE; REFUSED where V4L2 has no code for it; MISUSED. */
 int mezulobu_v4l2_format(uint32_t type, const struct mezulobu_image *image,
                          struct v4l2_format *format);
+
+/* What isn't as it was settled in a format that the driver has made of that one: the name of
+ * V4L2's member, as "bytesperline"; null where all is, as it is where the device's record is right. */
+const char *mezulobu_v4l2_difference(const struct v4l2_format *format,
+                                     const struct mezulobu_settings *settings);
 
 /* The names that scripts have for a format, a modifier and a colour; null where there is none. */
 const char *mezulobu_pixel_format_name(uint32_t format);

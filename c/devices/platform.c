@@ -72,10 +72,10 @@ static size_t put_colors(uint32_t set, uint32_t *list, size_t room)
 {
     size_t count = 0;
     for (size_t i = 0; i < N_COLORS; i++) {
-        if (!(set & colors[i].bit))
+        if (!(set & known_colors[i].bit))
             continue;
         if (count < room)
-            list[count] = colors[i].bit;
+            list[count] = known_colors[i].bit;
         count++;
     }
     return count;
@@ -91,15 +91,15 @@ static bool are_usable(const struct mezulobu_participant *list, size_t n)
 
 int mezulobu_devices_platform(const struct mezulobu_participant *participants, size_t n,
                               struct mezulobu_pair *pairs, size_t *n_pairs,
-                              uint32_t *list, size_t *n_colors)
+                              uint32_t *colors, size_t *n_colors)
 {
     if ((n && !participants) || !are_usable(participants, n) || !n_pairs || !n_colors
-        || (*n_pairs && !pairs) || (*n_colors && !list))
+        || (*n_pairs && !pairs) || (*n_colors && !colors))
         return MEZULOBU_MISUSED;
     struct order order = ordered(participants, n);
     size_t pairs_room = *n_pairs, colors_room = *n_colors;
     *n_pairs = put_pairs(&order, pairs, pairs_room);
-    *n_colors = put_colors(colors_named(participants, n), list, colors_room);
+    *n_colors = put_colors(colors_named(participants, n), colors, colors_room);
     bool is_short = *n_pairs > pairs_room || *n_colors > colors_room;
     return is_short ? MEZULOBU_TOO_SMALL : MEZULOBU_DONE;
 }

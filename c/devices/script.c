@@ -37,8 +37,8 @@ static void put_colors(FILE *out, uint32_t set)
     struct joint names = {out, ",", false};
     fputs("\"color_spaces\":[", out);
     for (size_t i = 0; i < N_COLORS; i++)
-        if (set & colors[i].bit)
-            fprintf(next(&names), "\"%s\"", colors[i].name);
+        if (set & known_colors[i].bit)
+            fprintf(next(&names), "\"%s\"", known_colors[i].name);
     fputs("]", out);
 }
 

@@ -7,7 +7,7 @@
 
 /* More than any driver has: asked for so much, it tells the most that it takes. */
 #define MANY_BUFFERS 128
-#define LONG_PITCH (1u << 30)
+#define LONG_PITCH (1U << 30)
 /* The greatest alignment and divisor that an entry can state. */
 #define MOST_STEP 65536
 
@@ -240,9 +240,9 @@ static uint32_t colors_taken(const struct queue *queue, const struct format *for
     if (!is_output(queue->type) && !(flags & CONVERTS_COLORS))
         return set;
     for (size_t i = 0; i < N_COLORS; i++)
-        if (format->is_rgb == (colors[i].bit == MEZULOBU_SRGB)
-            && takes_color(queue, format, image, &colors[i]))
-            set |= colors[i].bit;
+        if (format->is_rgb == (known_colors[i].bit == MEZULOBU_SRGB)
+            && takes_color(queue, format, image, &known_colors[i]))
+            set |= known_colors[i].bit;
     return set;
 }
 
@@ -438,4 +438,27 @@ int mezulobu_v4l2_format(uint32_t type, const struct mezulobu_image *image,
         .size = {image->width, image->height}, .colors = color->v4l2};
     *format = as_format(type, &wanted);
     return MEZULOBU_DONE;
+}
+
+const char *mezulobu_v4l2_difference(const struct v4l2_format *format,
+                                     const struct mezulobu_settings *settings)
+{
+    const struct mezulobu_image *wanted = &settings->image;
+    const struct format *known = format_of_drm(wanted->format);
+    struct image made = as_image(format);
+    if (!known || made.code != known->v4l2)
+        return "pixelformat";
+    if (made.size.width != wanted->width)
+        return "width";
+    if (made.size.height != wanted->height)
+        return "height";
+    if (made.field != V4L2_FIELD_NONE)
+        return "field";
+    if (made.planes != 1)
+        return "num_planes";
+    if (made.pitch != wanted->layout.planes[0].pitch)
+        return "bytesperline";
+    if (made.bytes > settings->bytes)
+        return "sizeimage";
+    return (colors_of(made.colors, known->is_rgb) & wanted->color) ? NULL : "colorspace";
 }

@@ -142,10 +142,18 @@ static const struct asked all[] = {
      "left out RG16: these tiles go with formats of 4 bytes alone\n"
      "left out XR30: there is no name for this format\n"
      "left out NV12: these tiles go with formats of 4 bytes alone\n"
+     "left out AB24: there is no name for any of its modifiers\n"
+     "left out XB24: the driver lists no modifier for it\n"
      "left out Y_TILED_CCS: there is no name for this modifier\n"},
     {FIRST_DRM, 32, {1280, 720},
      "i915: camping 2, at most 0, bytes 0\n"
      "B8G8R8A8 LINEAR 256x256..256x256 by 0x0, pitch 1024..17408 by 64, SRGB\n"},
+    {FIRST_DRM, 33, {1280, 720},
+     "i915: camping 2, at most 0, bytes 0\n"
+     "B8G8R8X8 LINEAR 1280x720..16384x8192 by 0x0, pitch 5120..20736 by 64, SRGB\n"
+     "left out RG16: there is no name for any of its modifiers\n"
+     "left out AR24: the driver lists no modifier for it\n"
+     "left out Y_TILED_CCS: there is no name for this modifier\n"},
     {FIRST_DRM, 30, {0, 0},
      "i915: camping 2, at most 0, bytes 0\n"
      "B8G8R8X8 LINEAR 1920x1080..16384x8192 by 0x0, pitch 7680..30976 by 64, SRGB\n"},
@@ -276,6 +284,40 @@ static void formats(void)
     check(mezulobu_v4l2_type(FIRST_V4L2 + 1, MEZULOBU_QUEUE_OUTPUT) == V4L2_BUF_TYPE_VIDEO_OUTPUT_MPLANE && !mezulobu_v4l2_type(3, MEZULOBU_QUEUE_ONLY), "types of buffers", "", "\n");
 }
 
+// A format as it was settled, and one with each member of another value: `mezulobu_v4l2_difference` names that.
+static void differences(void)
+{
+    const struct mezulobu_settings s = {.bytes = 1382400, .image = {.format = DRM_FORMAT_NV12, .color = MEZULOBU_REC709, .width = 1280, .height = 720,
+                                                                    .layout = {.planes = {{.pitch = 1280}}}}};
+    const struct v4l2_pix_format taken = {1280, 720, V4L2_PIX_FMT_NV12, V4L2_FIELD_NONE, 1280, 1382400, V4L2_COLORSPACE_REC709, 0, 0, {0}, 0, 0};
+    struct v4l2_format f = {.type = V4L2_BUF_TYPE_VIDEO_CAPTURE}, planes = {.type = V4L2_BUF_TYPE_VIDEO_CAPTURE_MPLANE};
+    const struct {
+        uint32_t *member, value;
+        const char *name;
+    } all_members[] = {
+        {&f.fmt.pix.pixelformat, V4L2_PIX_FMT_NV21, "pixelformat"}, {&f.fmt.pix.width, 1296, "width"},
+        {&f.fmt.pix.height, 736, "height"}, {&f.fmt.pix.field, V4L2_FIELD_INTERLACED, "field"},
+        {&f.fmt.pix.bytesperline, 1344, "bytesperline"}, {&f.fmt.pix.sizeimage, 1382401, "sizeimage"},
+        {&f.fmt.pix.colorspace, V4L2_COLORSPACE_SMPTE170M, "colorspace"}, {&f.fmt.pix.quantization, V4L2_QUANTIZATION_FULL_RANGE, "colorspace"},
+        {&f.fmt.pix.ycbcr_enc, V4L2_YCBCR_ENC_601, "colorspace"},
+    };
+    f.fmt.pix = taken;
+    check(!mezulobu_v4l2_difference(&f, &s), "a format that was taken", "a difference ", "\n");
+    for (size_t i = 0; i < sizeof all_members / sizeof all_members[0]; i++) {
+        f.fmt.pix = taken;
+        *all_members[i].member = all_members[i].value;
+        const char *name = mezulobu_v4l2_difference(&f, &s);
+        check(name && !strcmp(name, all_members[i].name), "a format that was changed", name ? name : "nothing ", all_members[i].name);
+    }
+    planes.fmt.pix_mp = (struct v4l2_pix_format_mplane){
+        .width = 1280, .height = 720, .pixelformat = V4L2_PIX_FMT_NV12, .field = V4L2_FIELD_NONE, .colorspace = V4L2_COLORSPACE_REC709, .num_planes = 1,
+        .plane_fmt = {{.bytesperline = 1280, .sizeimage = 1382400}}};
+    check(!mezulobu_v4l2_difference(&planes, &s), "a format of one plane that was taken", "a difference ", "\n");
+    planes.fmt.pix_mp.num_planes = 2;
+    const char *name = mezulobu_v4l2_difference(&planes, &s);
+    check(name && !strcmp(name, "num_planes"), "a format of two planes", "no difference ", "\n");
+}
+
 static void misuse(void)
 {
     const struct mezulobu_size size = {640, 480}, half = {640, 0};
@@ -312,6 +354,7 @@ int main(int n, char **words)
     faults();
     platform();
     formats();
+    differences();
     misuse();
     printf("%d passed, %d failed\n", passed, failed);
     return failed != 0;

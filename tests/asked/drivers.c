@@ -97,16 +97,27 @@ const struct fake_v4l2 fake_cameras[] = {
 static const uint32_t screen_formats[] = {DRM_FORMAT_XRGB8888, DRM_FORMAT_RGB565, DRM_FORMAT_XRGB2101010, DRM_FORMAT_NV12};
 static const uint32_t cursor_formats[] = {DRM_FORMAT_ARGB8888};
 static const uint32_t plain_formats[] = {DRM_FORMAT_XRGB8888};
-static const uint64_t tilings[] = {DRM_FORMAT_MOD_LINEAR, I915_FORMAT_MOD_X_TILED, I915_FORMAT_MOD_Y_TILED_CCS};
-static const struct fake_plane intel[] = {
-    {30, DRM_PLANE_TYPE_OVERLAY, 1, plain_formats, 1, NULL, 0, false},
-    {31, DRM_PLANE_TYPE_PRIMARY, 1, screen_formats, 4, tilings, 3, true},
-    {32, DRM_PLANE_TYPE_CURSOR, 1, cursor_formats, 1, NULL, 0, false},
+// One more that is compressed alone, and one that no modifier goes with.
+static const uint32_t tiled_formats[] = {
+    DRM_FORMAT_XRGB8888, DRM_FORMAT_RGB565, DRM_FORMAT_XRGB2101010, DRM_FORMAT_NV12, DRM_FORMAT_ABGR8888, DRM_FORMAT_XBGR8888,
 };
-static const struct fake_plane plain[] = {{35, DRM_PLANE_TYPE_PRIMARY, 1, screen_formats, 4, NULL, 0, false}};
+static const struct fake_mask tilings[] = {{0x0f, 0, DRM_FORMAT_MOD_LINEAR}, {0x0f, 0, I915_FORMAT_MOD_X_TILED}, {0x15, 0, I915_FORMAT_MOD_Y_TILED_CCS}};
+static const struct fake_blob tiled = {tiled_formats, 6, tilings, 3};
+// Behind 64 other formats two that a second mask says something of, and a third one that isn't in the list.
+static const uint32_t late_formats[] = {DRM_FORMAT_RGB565, DRM_FORMAT_XRGB8888, DRM_FORMAT_ARGB8888};
+static const uint32_t long_list[66] = {[64] = DRM_FORMAT_XRGB8888, [65] = DRM_FORMAT_RGB565};
+static const struct fake_mask late[] = {{~0ull, 0, I915_FORMAT_MOD_X_TILED}, {1, 64, DRM_FORMAT_MOD_LINEAR}, {2, 64, I915_FORMAT_MOD_Y_TILED_CCS}};
+static const struct fake_blob listed_late = {long_list, 66, late, 3};
+static const struct fake_plane intel[] = {
+    {30, DRM_PLANE_TYPE_OVERLAY, 1, plain_formats, 1, NULL, false},
+    {31, DRM_PLANE_TYPE_PRIMARY, 1, tiled_formats, 6, &tiled, true},
+    {32, DRM_PLANE_TYPE_CURSOR, 1, cursor_formats, 1, NULL, false},
+    {33, DRM_PLANE_TYPE_OVERLAY, 1, late_formats, 3, &listed_late, false},
+};
+static const struct fake_plane plain[] = {{35, DRM_PLANE_TYPE_PRIMARY, 1, screen_formats, 4, NULL, false}};
 
 const struct fake_drm fake_displays[] = {
-    {.driver = "i915", .planes = intel, .n_planes = 3, .max_width = 16384, .max_height = 8192, .min_height = 32, .cursor = 256, .active = {1920, 1080}, .mode = {1920, 1080},
+    {.driver = "i915", .planes = intel, .n_planes = 4, .max_width = 16384, .max_height = 8192, .min_height = 32, .cursor = 256, .active = {1920, 1080}, .mode = {1920, 1080},
      .pitch_step = 64, .most_pitch = 32768, .has_dumb = true},
     // no IN_FORMATS, no mode yet, framebuffers of one pitch
     {.driver = "tiny", .planes = plain, .n_planes = 1, .max_width = 1024, .max_height = 768, .mode = {800, 600}, .pitch_step = 1, .has_dumb = true},

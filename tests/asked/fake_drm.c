@@ -111,7 +111,7 @@ static int object_properties(const struct fake_drm *d, struct drm_mode_obj_get_p
     const struct fake_plane *p = plane_of(d, o->obj_id);
     uint32_t ids[4] = {TYPE}, n = 1, count = o->count_props;
     uint64_t values[4] = {p->type};
-    if (p->n_modifiers) {
+    if (p->in_formats) {
         ids[n] = IN_FORMATS;
         values[n++] = FIRST_BLOB + (uint32_t)(p - d->planes);
     }
@@ -140,17 +140,17 @@ static int get_property(struct drm_mode_get_property *g)
 
 static int get_blob(const struct fake_drm *d, struct drm_mode_get_blob *g)
 {
-    const struct fake_plane *p = &d->planes[g->blob_id - FIRST_BLOB];
+    const struct fake_blob *b = d->planes[g->blob_id - FIRST_BLOB].in_formats;
     struct {
         struct drm_format_modifier_blob head;
-        uint32_t formats[8];
-        struct drm_format_modifier modifiers[8];
-    } blob = {.head = {.version = 1, .count_formats = p->n_formats, .count_modifiers = (uint32_t)p->n_modifiers}};
+        uint32_t formats[72];
+        struct drm_format_modifier modifiers[4];
+    } blob = {.head = {.version = FORMAT_BLOB_CURRENT, .count_formats = b->n_formats, .count_modifiers = b->n_masks}};
     blob.head.formats_offset = offsetof(__typeof__(blob), formats);
     blob.head.modifiers_offset = offsetof(__typeof__(blob), modifiers);
-    memcpy(blob.formats, p->formats, 4 * p->n_formats);
-    for (uint32_t i = 0; i < p->n_modifiers; i++)
-        blob.modifiers[i] = (struct drm_format_modifier){.formats = (1ull << p->n_formats) - 1, .modifier = p->modifiers[i]};
+    memcpy(blob.formats, b->formats, 4 * b->n_formats);
+    for (uint32_t i = 0; i < b->n_masks; i++)
+        blob.modifiers[i] = (struct drm_format_modifier){.formats = b->masks[i].formats, .offset = b->masks[i].offset, .modifier = b->masks[i].modifier};
     fill(g->data, &g->length, &blob, 1, sizeof blob);
     g->length = sizeof blob;
     return 0;

@@ -37,10 +37,24 @@ struct fake_v4l2 {
     int fault_of_buffers;                          // an errno
 };
 
+// A modifier, and the formats of a list that go with it: of 64 from the one of this offset on, one a bit.
+struct fake_mask {
+    uint64_t formats;
+    uint32_t offset;
+    uint64_t modifier;
+};
+
+// What IN_FORMATS holds.
+struct fake_blob {
+    const uint32_t *formats, n_formats;
+    const struct fake_mask *masks;
+    uint32_t n_masks;
+};
+
 struct fake_plane {
     uint32_t id, type, crtcs;
     const uint32_t *formats, n_formats;
-    const uint64_t *modifiers, n_modifiers; // of each of its formats; none: there is no IN_FORMATS
+    const struct fake_blob *in_formats; // null: there is none
     bool has_color_encoding;
 };
 

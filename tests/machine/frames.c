@@ -3,6 +3,8 @@
 // frames alone CAMERA FOURCC WIDTH HEIGHT PITCH COLOUR: into memory of its own, without the text that the camera else draws into the picture.
 // frames red CAMERA FOURCC COLOUR: the bytes of a red pixel.
 // frames through CAMERA OUTPUT CARD FOURCC WIDTH HEIGHT: a camera and an output share buffers as they are settled for both, which the card only makes.
+// frames press CAMERA CONTROL: presses a button of the camera, as the one after which its next picture has errors.
+// frames planes CARD: the numbers of its primary planes, each on a line.
 #define _GNU_SOURCE
 #include <errno.h>
 #include <fcntl.h>
@@ -15,6 +17,7 @@
 #include <sys/mman.h>
 #include <unistd.h>
 #include <xf86drm.h>
+#include <xf86drmMode.h>
 
 enum { BUFFERS = 4, MOST_ENTRIES = 32 };
 
@@ -46,16 +49,16 @@ static void tell(const char *what, const uint8_t *bytes, const struct mezulobu_i
     printf("%s: first row %08x, image %08x\n", what, number_of(bytes, image->layout.planes[0].pitch), number_of(bytes, image->layout.bytes));
 }
 
-// Leaves out the text, by the control of this name.
-static void leave_out_text(int fd)
+// Sets the control of this name.
+static void set_control(int fd, const char *name, int value)
 {
     struct v4l2_queryctrl q = {.id = V4L2_CTRL_FLAG_NEXT_CTRL};
     for (; !ioctl(fd, VIDIOC_QUERYCTRL, &q); q.id |= V4L2_CTRL_FLAG_NEXT_CTRL)
-        if (!strcmp((const char *)q.name, "OSD Text Mode")) {
-            require(!ioctl(fd, VIDIOC_S_CTRL, &(struct v4l2_control){q.id, 2}), "the text's control");
+        if (!strcmp((const char *)q.name, name)) {
+            require(!ioctl(fd, VIDIOC_S_CTRL, &(struct v4l2_control){q.id, value}), name);
             return;
         }
-    require(0, "the camera has no control of its text");
+    require(0, "the camera has no such control");
 }
 
 static int is_mplane(uint32_t type) { return type == V4L2_BUF_TYPE_VIDEO_CAPTURE_MPLANE || type == V4L2_BUF_TYPE_VIDEO_OUTPUT_MPLANE; }
@@ -149,7 +152,7 @@ static int alone(char **words)
 {
     int fd = opened(words[0]);
     struct mezulobu_image image = image_of(words[1], (uint32_t)atoi(words[2]), (uint32_t)atoi(words[3]), (uint32_t)atoi(words[4]), words[5]);
-    leave_out_text(fd);
+    set_control(fd, "OSD Text Mode", 2); // no text
     capture(fd, &image, tell);
     return close(fd);
 }
@@ -259,6 +262,33 @@ static int through(char **words)
     return 0;
 }
 
+static int press(char **words)
+{
+    int fd = opened(words[0]);
+    set_control(fd, words[1], 1);
+    return close(fd);
+}
+
+static int planes(char **words)
+{
+    int fd = opened(words[0]);
+    require(!drmSetClientCap(fd, DRM_CLIENT_CAP_UNIVERSAL_PLANES, 1), "all planes");
+    drmModePlaneRes *all = drmModeGetPlaneResources(fd);
+    require(all != NULL, "planes");
+    for (uint32_t i = 0; i < all->count_planes; i++) {
+        drmModeObjectProperties *has = drmModeObjectGetProperties(fd, all->planes[i], DRM_MODE_OBJECT_PLANE);
+        for (uint32_t k = 0; has && k < has->count_props; k++) {
+            drmModePropertyRes *property = drmModeGetProperty(fd, has->props[k]);
+            if (property && !strcmp(property->name, "type") && has->prop_values[k] == DRM_PLANE_TYPE_PRIMARY)
+                printf("%u\n", all->planes[i]);
+            drmModeFreeProperty(property);
+        }
+        drmModeFreeObjectProperties(has);
+    }
+    drmModeFreePlaneResources(all);
+    return close(fd);
+}
+
 int main(int n, char **words)
 {
     if (n == 8 && !strcmp(words[1], "alone"))
@@ -267,6 +297,11 @@ int main(int n, char **words)
         return red(words + 2);
     if (n == 8 && !strcmp(words[1], "through"))
         return through(words + 2);
-    fputs("usage: frames alone CAMERA FOURCC WIDTH HEIGHT PITCH COLOUR | red CAMERA FOURCC COLOUR | through CAMERA OUTPUT CARD FOURCC WIDTH HEIGHT\n", stderr);
+    if (n == 4 && !strcmp(words[1], "press"))
+        return press(words + 2);
+    if (n == 3 && !strcmp(words[1], "planes"))
+        return planes(words + 2);
+    fputs("usage: frames alone CAMERA FOURCC WIDTH HEIGHT PITCH COLOUR | red CAMERA FOURCC COLOUR | through CAMERA OUTPUT CARD FOURCC WIDTH HEIGHT\n"
+          "       frames press CAMERA CONTROL | planes CARD\n", stderr);
     return 2;
 }

@@ -28,6 +28,7 @@ while read -r module; do
     *) insmod $module ;;
     esac
 done </modules
+echo on >/sys/class/drm/card0-Virtual-2/status # a second screen is connected, as by a hand that plugs it in
 cd /tmp
 . /commands >/dev/ttyS1 2>&1
 poweroff -f
@@ -129,7 +130,7 @@ def fill(root, folder, files, commands):
     for name in ("proc", "sys", "dev", "tmp"):
         os.makedirs(os.path.join(root, name))
     put(root, find("busybox"), "/bin/busybox")
-    for name in ("sh", "mount", "insmod", "cat", "poweroff", "sleep", "ls", "dmesg"):
+    for name in ("sh", "mount", "insmod", "cat", "poweroff", "sleep", "ls", "dmesg", "grep", "head", "ln", "sed", "wc"):
         os.symlink("busybox", os.path.join(root, "bin", name))
     loaded = modules(folder)
     for module in loaded:
@@ -157,12 +158,12 @@ def pack(room, folder, files, commands):
     return packed
 
 
-class Screen(threading.Thread):
-    """Asks QEMU, as long as it runs, what is on the screen of a display; keeps each picture that differs from the one before."""
+class Screens(threading.Thread):
+    """Asks QEMU, as long as it runs, what is on the two screens of a display in turn; keeps each picture that differs from the one before on the same screen."""
 
     def __init__(self, room):
         super().__init__(daemon=True)
-        self.at, self.picture, self.pictures = os.path.join(room, "monitor"), os.path.join(room, "picture"), []
+        self.at, self.picture, self.pictures = os.path.join(room, "monitor"), os.path.join(room, "picture"), ([], [])
 
     def connected(self):
         """The lines to and from QEMU's monitor, once it is there."""
@@ -177,36 +178,45 @@ class Screen(threading.Thread):
 
     def run(self):
         lines = self.connected()
-        words = [{"execute": "qmp_capabilities"}]
-        dump = {"execute": "screendump", "arguments": {"filename": self.picture, "device": "screen"}}
         try:
-            while lines.readline():
-                self.keep()
+            lines.readline()
+            self.told(lines, {"execute": "qmp_capabilities"})
+            while True:
+                for screen, pictures in enumerate(self.pictures):
+                    self.told(lines, {"execute": "screendump", "arguments": {"filename": self.picture, "device": "screen", "head": screen}})
+                    self.keep(pictures)
                 time.sleep(0.3)
-                lines.write(json.dumps(words.pop() if words else dump) + "\n")
-                lines.flush()
         except (OSError, ValueError):
             return
 
-    def keep(self):
+    def told(self, lines, words):
+        """Waits for the answer, among what else is told."""
+        lines.write(json.dumps(words) + "\n")
+        lines.flush()
+        while not re.search('"(return|error)"', line := lines.readline()):
+            if not line:
+                raise OSError
+
+    def keep(self, pictures):
         if not os.path.exists(self.picture):
             return
         with open(self.picture, "rb") as file:
             found = file.read()
-        if found and found != (self.pictures or [b""])[-1]:
-            self.pictures.append(found)
+        os.remove(self.picture)
+        if found and found != (pictures or [b""])[-1]:
+            pictures.append(found)
 
 
 def boot(room, files, commands, seconds):
-    """Starts a machine that runs the commands: what they print, the pictures that were on its screen, and how many seconds it took."""
+    """Starts a machine that runs the commands: what they print, the pictures that were on each screen, and how many seconds it took."""
     folder, begun = kernel(), time.time()
-    packed, told, screen = pack(room, folder, files, commands), os.path.join(room, "told"), Screen(room)
+    packed, told, screens = pack(room, folder, files, commands), os.path.join(room, "told"), Screens(room)
     words = ["qemu-system-x86_64", "-accel", "tcg", "-cpu", "max", "-m", "768", "-smp", "2", "-no-reboot", "-nodefaults", "-display", "none"]
     words += ["-kernel", glob.glob(os.path.join(folder, "boot", "vmlinuz-*"))[0], "-initrd", packed, "-append", "console=ttyS0 quiet panic=-1"]
-    words += ["-serial", f"file:{os.path.join(room, 'console')}", "-serial", f"file:{told}", "-qmp", f"unix:{screen.at},server=on,wait=off"]
-    # Without EDID the screen has all modes of VESA's list.
-    words += ["-device", "virtio-gpu-pci,id=screen,edid=off", "-device", "cirrus-vga"]
-    screen.start()
+    words += ["-serial", f"file:{os.path.join(room, 'console')}", "-serial", f"file:{told}", "-qmp", f"unix:{screens.at},server=on,wait=off"]
+    # Without EDID a screen has all modes of VESA's list.
+    words += ["-device", "virtio-gpu-pci,id=screen,edid=off,max_outputs=2", "-device", "cirrus-vga"]
+    screens.start()
     try:
         said, _ = output(*words, timeout=seconds)
     except subprocess.TimeoutExpired:
@@ -215,4 +225,4 @@ def boot(room, files, commands, seconds):
     if not os.path.exists(told):
         raise Missing(f"no machine is started: {said.strip()[-200:]}")
     with open(told, encoding="utf-8", errors="replace", newline="") as text:
-        return text.read().replace("\r\n", "\n"), screen.pictures, time.time() - begun
+        return text.read().replace("\r\n", "\n"), screens.pictures, time.time() - begun
