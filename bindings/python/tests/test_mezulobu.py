@@ -9,6 +9,7 @@ import dataclasses
 import enum
 import os
 import subprocess
+import sys
 import unittest
 from typing import Any
 
@@ -62,6 +63,14 @@ class Layouts(unittest.TestCase):
         for name in ("Heap", "Pair", "Platform", "Entry", "Participant"):
             members = {member for member, *_ in getattr(_abi, f"mezulobu_{name.lower()}")._fields_} - OWN
             self.assertEqual({it.name for it in dataclasses.fields(getattr(mezulobu, name))}, members, name)
+
+
+class Library(unittest.TestCase):
+    def test_a_folder_without_it_is_told(self) -> None:
+        env = {**os.environ, "MEZULOBU_LIB_DIR": os.path.dirname(os.path.abspath(__file__))}
+        done = subprocess.run([sys.executable, "-c", "import mezulobu"], env=env, stderr=subprocess.PIPE, text=True)
+        self.assertEqual(done.returncode, 1)
+        self.assertRegex(done.stderr.splitlines()[-1], r"ImportError: .*tests/libmezulobu\.so\.1.*: set MEZULOBU_LIB_DIR to the folder")
 
 
 class Widths(unittest.TestCase):
