@@ -12,14 +12,16 @@ JOBS ?= $(shell awk -v n=$$(nproc) '/^MemAvailable/ { m = int($$2 / 4000000); n 
 
 help:
 	@echo 'make build        the program and the library, not proved: 2 to 4 minutes, once'
-	@echo 'make quick-test   the tests of these two: 3 minutes more; run this first'
+	@echo 'make quick-test   the same, and the tests of these two: 8 minutes at most; run this first'
 	@echo 'make prove        the program, proved with all that it stands on: over an hour, once'
 	@echo 'make lib          the library for C, C++ and Python, proved: 3 minutes after make prove'
 	@echo 'make install      the program and the library under PREFIX, as made by the two above;'
-	@echo '                  with UNPROVED=1 as made by make build'
+	@echo '                  with UNPROVED=1 as made by make build: seconds'
+	@echo 'make packages     the same as packages for Debian, make wheel as one for Python: seconds'
+	@echo 'make dist         a tarball of what is committed, and its SHA-256: a second'
 	@echo 'make test         the whole gate: every proof, wrong edit, test and program: over an hour'
-	@echo 'make built-test   the tests of the proved program and library: a minute'
-	@echo 'docs/COMMANDS.md has the others: wrong-bodies, shown-by-test, threads-often, bench.'
+	@echo 'make built-test   the tests of the proved program and library: minutes'
+	@echo 'docs/COMMANDS.md has the others, as wrong-bodies, threads-often, bench, packages-test.'
 
 # What builds and tests need of Debian's packages: where it may not be installed it is named.
 needs:

@@ -25,6 +25,10 @@ $(OUT)/face/%.o: c/%.c $(wildcard c/*.h)
 	@mkdir -p $(@D)
 	$(CC) -std=c11 -Wall -Wextra -Wpedantic -Werror -D_POSIX_C_SOURCE=200809L -fPIC $(CFLAGS) -c $< -o $@
 
+# `make lib` sees to it that it is new.
+$(EXPORTS):
+	$(if $(UNPROVED),tools/unproved library,c/archive)
+
 $(OUT)/whole.o: $(FACE) $(EXPORTS) c/exports.map
 	$(LD) -r --whole-archive $(EXPORTS) --no-whole-archive $(FACE) $(KIT)c/liblibc_c.a -o $@
 	objcopy $(addprefix --keep-global-symbol=,$(NAMES)) $@
