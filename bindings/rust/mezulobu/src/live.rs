@@ -62,7 +62,10 @@ impl fmt::Display for Why {
     fn fmt(&self, f: &mut fmt::Formatter<'_>) -> fmt::Result {
         match self {
             Self::Status(status) => status.fmt(f),
-            Self::Stated(amiss) => write!(f, "refused: {amiss}"),
+            Self::Stated(amiss) => {
+                f.write_str("refused: ")?;
+                amiss.write_field(f)
+            }
             Self::Record(0) => f.write_str("refused: no JSON"),
             Self::Record(number) => write!(f, "refused: S{number}"),
         }
@@ -446,7 +449,7 @@ impl<S> Collection<S> {
         let mut why = no_refusal();
         // Safety: the handle lives, and so does the refusal.
         match unsafe { sys::mezulobu_collection_refusal(self.0, &mut why) } {
-            sys::MEZULOBU_DONE => Ok(Some(Conflict::of(&why))),
+            sys::MEZULOBU_DONE => Ok(Some(Conflict::of(&why, true))),
             sys::MEZULOBU_NO => Ok(None),
             other => Err(Status(other)),
         }
