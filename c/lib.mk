@@ -20,6 +20,7 @@ VERSION := $(shell awk '/define MEZULOBU_VERSION/ { v = substr($$3, 3, 8); print
 .DELETE_ON_ERROR:
 
 library: $(OUT)/libmezulobu.a $(OUT)/libmezulobu.so.1
+	@:
 
 $(OUT)/face/%.o: c/%.c $(wildcard c/*.h)
 	@mkdir -p $(@D)
