@@ -12,14 +12,16 @@ JOBS ?= $(shell awk -v n=$$(nproc) '/^MemAvailable/ { m = int($$2 / 4000000); n 
 
 help:
 	@echo 'make build        the program and the library, not proved: 2 to 4 minutes, once'
-	@echo 'make quick-test   the tests of these two: 3 minutes more; run this first'
+	@echo 'make quick-test   the same, and the tests of these two: 8 minutes at most; run this first'
 	@echo 'make prove        the program, proved with all that it stands on: over an hour, once'
 	@echo 'make lib          the library for C, C++ and Python, proved: 3 minutes after make prove'
 	@echo 'make install      the program and the library under PREFIX, as made by the two above;'
-	@echo '                  with UNPROVED=1 as made by make build'
+	@echo '                  with UNPROVED=1 as made by make build: seconds'
+	@echo 'make packages     the same as packages for Debian, make wheel as one for Python: seconds'
+	@echo 'make dist         a tarball of what is committed, and its SHA-256: a second'
 	@echo 'make test         the whole gate: every proof, wrong edit, test and program: over an hour'
-	@echo 'make built-test   the tests of the proved program and library: a minute'
-	@echo 'docs/COMMANDS.md has the others: wrong-bodies, shown-by-test, threads-often, bench.'
+	@echo 'make built-test   the tests of the proved program and library: minutes'
+	@echo 'docs/COMMANDS.md has the others, as wrong-bodies, threads-often, bench, packages-test.'
 
 # What builds and tests need of Debian's packages: where it may not be installed it is named.
 needs:
@@ -55,29 +57,42 @@ program-test: prove
 # The same where `make test` or `make prove` has just built the program. With `-j` they run side by
 # side: none reads what another writes.
 OF_TEXT := docs/columns docs/definitions docs/schema
-OF_PROGRAM := names schema reports json_reports refusals records values every_selection orders \
+OF_PROGRAM := names pages schema reports json_reports refusals records values every_selection orders \
 	launcher certificates checks failing_files want_of_memory threads explanations \
 	json_explanations
 OF_WORKBENCH := handles
 
-OF_LIBRARY := live
-TESTS := $(OF_LIBRARY:%=tests/%) $(OF_PROGRAM:%=tests/%) $(OF_WORKBENCH:%=tests/%)
+OF_LIBRARY := live bindings installed
+OF_DEVICES := devices real_drivers
+TESTS := $(OF_LIBRARY:%=tests/%) $(OF_PROGRAM:%=tests/%) $(OF_WORKBENCH:%=tests/%) $(OF_DEVICES:%=tests/%)
+# A test that calls make isn't this one's: it gets neither its options, which `-B` or `-t` would be,
+# nor its jobs, of which it would warn, nor where this one is to install.
+ALONE := env -u MAKEFLAGS -u MFLAGS -u MAKELEVEL -u DESTDIR -u PREFIX -u LIBDIR
 
 .PHONY: $(OF_TEXT) $(TESTS)
 # The longest first.
 built-test: lib-test $(OF_TEXT) $(TESTS)
 
 $(OF_TEXT):
-	$@ --check
+	@echo $@ && $(ALONE) $@ --check
+
+# Of the library's tests none builds it beside another.
+$(OF_LIBRARY:%=tests/%): | lib
+# The library's tests build the archive that it takes.
+tests/real_drivers: lib-test
 
 $(TESTS):
-	$@
+	@echo $@ && $(ALONE) $@
 
 # The same of what `make build` makes, but for what plays scripts through handles, which is a
-# program of its own.
-quick-test: needs build
-	@SYSMEM_REPLAY="$$PWD/out/unproved/sysmem_replay" UNPROVED=1 \
-		$(MAKE) --no-print-directory -j $$(nproc) --output-sync=target lib-test $(OF_TEXT) $(OF_PROGRAM:%=tests/%)
+# program of its own, and for real drivers. It goes on where a test fails, to tell of all.
+QUICK := lib-test $(OF_TEXT) $(OF_LIBRARY:%=tests/%) $(OF_PROGRAM:%=tests/%) tests/devices
+quick-test:
+	@tools/needs build test || true
+	@$(MAKE) --no-print-directory build
+	@SYSMEM_REPLAY="$$PWD/out/unproved/sysmem_replay" UNPROVED=1 $(MAKE) --no-print-directory \
+		$(if $(filter -j%,$(MAKEFLAGS)),,-j $$(nproc)) --keep-going --output-sync=target $(QUICK)
+	@echo 'make quick-test: all passed'
 
 # The library for C, C++ and Python, as an archive and as a shared object, in out/; with UNPROVED=1
 # in out/unproved/. It needs a C compiler and binutils.
@@ -90,48 +105,42 @@ install: lib
 	@$(MAKE) --no-print-directory -f c/lib.mk install
 
 # Tests of the library as installed (they need compilers of C and C++, Python and pkg-config).
-lib-test:
-	tests/library
+lib-test: | lib
+	@echo tests/library && $(ALONE) tests/library
 
 # Wrong bodies beyond those of the gate, each of which the prover must refuse. Of a crate the
 # functions that they change are checked, and the crates below it are built.
 wrong-bodies:
-	tests/wrong_bodies
+	$(ALONE) tests/wrong_bodies
 
 # Wrong bodies that no clause refuses, each of which the test that its file names must show. Each is
 # built without proof, for a minute or more.
 shown-by-test:
-	tests/shown_by_test
+	$(ALONE) tests/shown_by_test
 
 # Scripts on threads, each row a thousand times, and two thousand random ones. With `--oracle FILE`
 # these are compared with another implementation, and `--valgrind` plays rows under its tools.
 threads-often: prove
-	tests/threads_often
+	$(ALONE) tests/threads_often
 
 # Live collections through the library's handles again and again, with sanitizers, tools of valgrind
 # and libFuzzer, for an hour or less.
 live-often:
-	tests/live --often
+	$(ALONE) tests/live --often
 
 # Times the proved program beside the reading of the same bytes as a JSON value, and calls on
 # small and large trees; counts instructions of runs, certificates and checks.
 bench: prove
 	cd crates/workbench && rt run -- decisions data/groups_share_nv12.json read,search,together,add,settle,prove,check,write,serialise 3
 	bench/run
-	bench/library
+	$(ALONE) bench/library
 	bench/trees
 	bench/certificates
 
 # ---- What is installed beside the program and the library: bindings for Rust, Python and C++, manual
 # pages, completions; and what is packed. With UNPROVED=1 of what `make build` makes.
 
-.PHONY: tests/bindings tests/installed dist wheel packages packages-test
-built-test: tests/bindings tests/installed
-
-# They find the library built, so that none builds it beside another.
-lib-test $(OF_LIBRARY:%=tests/%) tests/bindings tests/installed: | lib
-tests/bindings tests/installed:
-	$@
+.PHONY: dist wheel packages packages-test
 
 # A tarball of what is committed, and its SHA-256, in out/.
 dist:
@@ -147,22 +156,14 @@ packages: lib
 
 # Lintian of the packages, and what they install, run in a system made by debootstrap: as root.
 packages-test: packages
-	tests/packages
+	$(ALONE) tests/packages
 
 # What devices take, and real drivers: they need a C compiler, pkg-config and libdrm, and the second
 # one QEMU and a kernel, which it gets from Debian's packages and keeps in out/.
-.PHONY: install-devices real-drivers tests/devices tests/real_drivers
-built-test: tests/devices tests/real_drivers
+.PHONY: install-devices real-drivers
 
 install-devices:
 	@$(MAKE) --no-print-directory -f c/devices/devices.mk install
 
 real-drivers: lib
-	tests/real_drivers --valgrind
-
-tests/devices:
-	$@
-
-# After the library's tests, which build its archive.
-tests/real_drivers: lib-test
-	$@
+	$(ALONE) tests/real_drivers --valgrind

@@ -9,7 +9,6 @@ OUT := out$(if $(UNPROVED),/unproved)
 EXPORTS := $(if $(UNPROVED),out/unproved/exports.a,crates/mezulobu/out/libmezulobu.a)
 PROGRAM := $(if $(UNPROVED),out/unproved,crates/sysmem_replay/out)/sysmem_replay
 FACE := $(patsubst c/%.c,$(OUT)/face/%.o,$(wildcard c/*.c))
-NAMES := $(shell sed -n '/global:/,/local:/p' c/exports.map | grep -o 'mezulobu_[a-z_]*')
 TO := $(DESTDIR)$(PREFIX)
 LIB := $(DESTDIR)$(LIBDIR)
 # In the pkg-config file: below its prefix, where it is.
@@ -18,16 +17,23 @@ NAMED_LIB := $(patsubst $(PREFIX)/%,$${prefix}/%,$(LIBDIR))
 VERSION := $(shell awk '/define MEZULOBU_VERSION/ { v = substr($$3, 3, 8); print substr(v, 1, 4) + 0 "." substr(v, 5, 4) + 0 }' c/mezulobu.h)
 
 .PHONY: library install
+.DELETE_ON_ERROR:
 
 library: $(OUT)/libmezulobu.a $(OUT)/libmezulobu.so.1
+	@:
 
 $(OUT)/face/%.o: c/%.c $(wildcard c/*.h)
 	@mkdir -p $(@D)
 	$(CC) -std=c11 -Wall -Wextra -Wpedantic -Werror -D_POSIX_C_SOURCE=200809L -fPIC $(CFLAGS) -c $< -o $@
 
+# `make lib` sees to it that it is new.
+$(EXPORTS):
+	$(if $(UNPROVED),tools/unproved library,c/archive)
+
 $(OUT)/whole.o: $(FACE) $(EXPORTS) c/exports.map
 	$(LD) -r --whole-archive $(EXPORTS) --no-whole-archive $(FACE) $(KIT)c/liblibc_c.a -o $@
-	objcopy $(addprefix --keep-global-symbol=,$(NAMES)) $@
+	sed -n '/global:/,/local:/p' c/exports.map | grep -o 'mezulobu_[a-z_]*' >$(OUT)/names
+	objcopy --keep-global-symbols=$(OUT)/names $@
 
 $(OUT)/libmezulobu.a: $(OUT)/whole.o
 	@rm -f $@

@@ -139,6 +139,8 @@ struct Settings : mezulobu_settings {
 /// Why there are no settings, with the status that says it.
 struct Refusal : mezulobu_refusal {
     int status = MEZULOBU_DONE;
+    /// What `who` numbers: a participant, of a live collection a node, and nothing where there is one alone.
+    std::string_view numbered = "participant";
 
     Refusal() : mezulobu_refusal{} { struct_size = sizeof(mezulobu_refusal); }
 
@@ -159,8 +161,8 @@ struct Refusal : mezulobu_refusal {
         std::string line(status_name());
         if (kind == MEZULOBU_KIND_PLATFORM)
             line += ": the platform";
-        else if (participant())
-            line += ": participant " + std::to_string(who);
+        else if (participant() && !numbered.empty())
+            line.append(": ").append(numbered).append(" " + std::to_string(who));
         if (field != MEZULOBU_FIELD_NONE)
             line.append(": ").append(field_name());
         return alone ? line + ", even alone" : line;
@@ -509,6 +511,7 @@ class Collection : public detail::Handle<mezulobu_collection, mezulobu_collectio
         Refusal why;
         const int status = mezulobu_collection_refusal(at_, &why);
         why.status = MEZULOBU_NO;
+        why.numbered = "node";
         if (status == MEZULOBU_DONE)
             return why;
         return unexpected{Status{status}};
@@ -546,6 +549,7 @@ class Collection : public detail::Handle<mezulobu_collection, mezulobu_collectio
     expected<Done, Refusal> set(const mezulobu_participant *asked) const
     {
         Refusal why;
+        why.numbered = {};
         why.status = mezulobu_collection_set_constraints(at_, asked, &why);
         if (why.status == MEZULOBU_DONE)
             return Done{};

@@ -1,6 +1,6 @@
 """A machine of QEMU, with Debian's kernel, whose drivers are real: V4L2 test devices (vivid) and two displays (virtio-gpu and cirrus).
 
-What it needs are packages of Debian; what isn't there is installed where that may be done. The kernel's package is only unpacked, below out/.
+What it needs are packages of Debian, which tools/needs sees to. The kernel's package is only unpacked, below out/.
 """
 import glob
 import json
@@ -14,8 +14,6 @@ import time
 
 TOP = os.path.dirname(os.path.dirname(os.path.dirname(os.path.abspath(__file__))))
 OUT = os.path.join(TOP, "out", "machine")
-PROGRAMS = {"qemu-system-x86_64": "qemu-system-x86", "busybox": "busybox-static", "cpio": "cpio", "depmod": "kmod", "modprobe": "kmod"}
-HEADER = "/usr/include/libdrm/drm_fourcc.h"
 MODULES = ("virtio_pci", "virtio-gpu", "cirrus", "vivid")
 # A camera, another one, and one with an output beside it (HDMI, of whole images) whose queues have several planes: nodes 0, 1, 2 and 3.
 VIVID = "n_devs=3 multiplanar=1,1,2 node_types=0x1,0x1,0x101 num_outputs=1,1,1 output_types=1,1,1"
@@ -50,13 +48,9 @@ def find(program):
 
 def install():
     """Installs the packages that are missing."""
-    missing = sorted({package for program, package in PROGRAMS.items() if not find(program)})
-    missing += [] if os.path.exists(HEADER) else ["libdrm-dev"]
-    if not missing:
-        return
-    words = ["apt-get", "-qq", "-o", "DPkg::Lock::Timeout=60", "install", "-y", "--no-install-recommends", *missing]
-    if not shutil.which("apt-get") or os.geteuid() or (output("apt-get", "-qq", "update")[1] | output(*words, env={**os.environ, "DEBIAN_FRONTEND": "noninteractive"})[1]):
-        raise Missing(f"of Debian's packages {' '.join(missing)} can't be installed here")
+    said, status = output(os.path.join(TOP, "tools", "needs"), "drivers")
+    if status:
+        raise Missing(said.strip().splitlines()[-1])
 
 
 def kernel():

@@ -96,6 +96,7 @@ void who_is_in_the_way_is_told_by_its_node()
     expect(camera.set_constraints(asked(1)).has_value() && encoder.set_constraints(asked(1, {32, 32})).has_value(), "both are set");
     expect(camera.check().error() == Status{MEZULOBU_INTERSECTION_EMPTY}, "no settings");
     const auto why = encoder.refusal();
+    expect(why.value().text() == "NO: node " + std::to_string(encoder.node()) + ": max_size, even alone", "by its node");
     expect(why && why->who == encoder.node() && why->field_name() == "max_size" && why->alone, "who is in the way");
     is_written(camera, "domain / empty");
 }
@@ -103,7 +104,7 @@ void who_is_in_the_way_is_told_by_its_node()
 void what_cannot_be_meant_is_refused()
 {
     auto [camera, encoder] = both();
-    expect(camera.set_constraints(mezulobu::Participant(0)).error().text() == "REFUSED: participant 0: usage", "no usage");
+    expect(camera.set_constraints(mezulobu::Participant(0)).error().text() == "REFUSED: usage", "no usage");
     expect(camera.set_constraints_record("{").error().number == 0, "no JSON");
     expect(camera.set_constraints_record("{\"usage\":[]}").error().number > 0, "no usage in a record");
     expect(camera.set_constraints_record("{\"usage\":[\"cpu\"]}").has_value(), "a record");

@@ -7,6 +7,7 @@ from typing import Optional, Tuple, Type, TypeVar, Union
 from . import _abi
 from ._library import library
 from .codes import Coherency, Color, Field, Kind, Status
+from .stated import FourCC
 
 Code = TypeVar("Code", Coherency, Field, Kind)
 
@@ -85,7 +86,10 @@ class NegotiationError(Error):
 
     def __str__(self) -> str:
         it = self.refusal
-        whose = "the platform" if it.kind == Kind.PLATFORM else f"participant {it.who}" if it.who is not None else "all"
+        if it.who is not None:
+            whose = f"participant {it.who}"
+        else:
+            whose = "the platform" if it.kind == Kind.PLATFORM else "the participant" if it.kind == Kind.PARTICIPANT else "all"
         return f"{whose}: {it.field_name}{', even alone' if it.alone else ''}"
 
 
@@ -118,7 +122,7 @@ def settings_of(flat: _abi.mezulobu_settings) -> Settings:
     it = flat.image
     image = None
     if it.format:
-        image = Image(it.format, it.modifier, Color(it.color), it.width, it.height, layout_of(it.layout))
+        image = Image(FourCC(it.format), it.modifier, Color(it.color), it.width, it.height, layout_of(it.layout))
     return Settings(flat.count, flat.bytes, flat.heap, Coherency(flat.coherency), image)
 
 
@@ -133,7 +137,7 @@ def refusal_of(flat: _abi.mezulobu_refusal) -> Refusal:
         alone=bool(flat.alone),
         heap=flat.heap if has_place else None,
         coherency=Coherency(flat.coherency) if has_place else None,
-        format=flat.format if has_offer else None,
+        format=FourCC(flat.format) if has_offer else None,
         modifier=flat.modifier if has_offer else None,
         color=Color(flat.color) if has_offer else None,
     )

@@ -8,6 +8,7 @@ from __future__ import annotations
 
 import asyncio
 import ctypes
+import dataclasses
 import os
 import threading
 import time
@@ -20,7 +21,7 @@ from ._library import library
 from .chosen import Error, Refusal, Refused, Settings, raise_for, refusal_of, settings_of
 from .codes import Status
 from .stated import Participant, Platform, flat_participant, flat_platform
-from .texts import filled
+from .texts import filled, given_bytes
 
 # How long one call of the library waits, in milliseconds: who spends a handle waits as long at the most.
 SLICE = 50
@@ -118,7 +119,7 @@ class _Handle:
 
     def __del__(self) -> None:
         if getattr(self, "_at", None) and not self.is_spent:
-            warnings.warn(f"a {type(self).__name__} wasn't closed", ResourceWarning, source=self)
+            warnings.warn(f"unclosed {type(self).__name__}", ResourceWarning, source=self)
             self.close()
 
     def __repr__(self) -> str:
@@ -196,13 +197,14 @@ class Collection(_Node):
         flat = None if asked is None else flat_participant(asked)
         status = self._call(library.mezulobu_collection_set_constraints, flat, refusal)
         if status == Status.REFUSED:
-            raise Refused(refusal_of(refusal))
+            # It is the only one here.
+            raise Refused(dataclasses.replace(refusal_of(refusal), who=None))
         _done(status)
 
-    def set_constraints_record(self, record: bytes) -> None:
+    def set_constraints_record(self, record: Union[bytes, str]) -> None:
         """The same by the JSON of constraints, as scripts have it. Raises RecordRefused."""
-        code = ctypes.c_uint32()
-        _record(self._call(library.mezulobu_collection_set_constraints_record, record, len(record), code), code)
+        code, given = ctypes.c_uint32(), given_bytes(record)
+        _record(self._call(library.mezulobu_collection_set_constraints_record, given, len(given), code), code)
 
     def attach_token(self) -> Token:
         """A token for a participant who comes later."""
@@ -335,12 +337,12 @@ class Collection(_Node):
 class Allocator(_Handle):
     """Makes collections, which are decided for one platform, and live on without it. A platform may be the JSON that scripts have."""
 
-    def __init__(self, platform: Union[Platform, bytes]) -> None:
+    def __init__(self, platform: Union[Platform, bytes, str]) -> None:
         super().__init__(None)
-        if isinstance(platform, bytes):
-            code = ctypes.c_uint32()
+        if isinstance(platform, (bytes, str)):
+            code, given = ctypes.c_uint32(), given_bytes(platform)
             call = library.mezulobu_allocator_new_record
-            _record(call(platform, len(platform), ctypes.byref(self._at), code), code)
+            _record(call(given, len(given), ctypes.byref(self._at), code), code)
         else:
             refusal = _abi.mezulobu_refusal(ctypes.sizeof(_abi.mezulobu_refusal))
             status = library.mezulobu_allocator_new(flat_platform(platform), ctypes.byref(self._at), refusal)

@@ -8,7 +8,7 @@ from . import _abi
 from ._library import library
 from .chosen import Layout, Settings, layout_of, raise_for, settings_of
 from .codes import Status
-from .stated import Format, Participant, Platform, flat_participant, flat_platform, fourcc
+from .stated import Format, Participant, Platform, flat_participant, flat_platform, fourcc, listed, number
 
 
 def negotiate(platform: Platform, participants: Sequence[Participant]) -> Settings:
@@ -16,7 +16,8 @@ def negotiate(platform: Platform, participants: Sequence[Participant]) -> Settin
 
     Raises NoSettings, Refused, MemoryError, and OverflowError where a number doesn't fit its width.
     """
-    flat = (_abi.mezulobu_participant * len(participants))(*map(flat_participant, participants))
+    each = listed(Participant, "participants", participants)
+    flat = (_abi.mezulobu_participant * len(each))(*map(flat_participant, each))
     settings = _abi.mezulobu_settings(ctypes.sizeof(_abi.mezulobu_settings))
     refusal = _abi.mezulobu_refusal(ctypes.sizeof(_abi.mezulobu_refusal))
     status = library.mezulobu_negotiate(flat_platform(platform), flat, len(flat), settings, refusal)
@@ -27,11 +28,9 @@ def negotiate(platform: Platform, participants: Sequence[Participant]) -> Settin
 def planes(format: Format, modifier: int, pitch: int, height: int) -> Optional[Layout]:
     """The layout of an image whose first plane has rows of pitch bytes, its height in pixels: None where there is no such format
     or modifier here, where tiles don't go with the format, or where the bytes don't fit 64 bits."""
-    for name, value, bits in (("modifier", modifier, 64), ("pitch", pitch, 32), ("height", height, 32)):
-        if not 0 <= value < 1 << bits:
-            raise OverflowError(f"{name}: {value} doesn't fit {bits} bits")
     layout = _abi.mezulobu_layout()
-    status = library.mezulobu_planes(fourcc(format), modifier, pitch, height, layout)
+    words = (number("format", fourcc(format), 32), number("modifier", modifier, 64), number("pitch", pitch, 32), number("height", height, 32))
+    status = library.mezulobu_planes(*words, layout)
     return layout_of(layout) if status == Status.DONE else None
 
 

@@ -1,15 +1,28 @@
 """What the caller states: the platform, and what each participant asks for. A number that is 0 says nothing, as in mezulobu.h."""
 from __future__ import annotations
 
+import collections.abc
 import ctypes
+import operator
 from dataclasses import dataclass, fields
-from typing import Any, NamedTuple, Optional, Sequence, Union
+from typing import Any, Iterable, NamedTuple, Optional, Sequence, Type, TypeVar, Union
 
 from . import _abi
 from .codes import Color, Usage
 
+Kind = TypeVar("Kind")
 Format = Union[int, str]
 """A DRM format: its number, or its four letters, as "NV12"."""
+
+
+class FourCC(int):
+    """The number of a DRM format, which prints as its four letters."""
+
+    def __repr__(self) -> str:
+        letters = self.to_bytes(4, "little")
+        return letters.decode() if all(32 <= it < 127 for it in letters) else hex(self)
+
+    __str__ = __repr__
 
 
 class Size(NamedTuple):
@@ -93,29 +106,60 @@ def fourcc(format: Format) -> int:
     """The number of a format."""
     if isinstance(format, int):
         return format
-    letters = format.encode("ascii")
-    if len(letters) != 4:
+    if not isinstance(format, str):
+        raise TypeError(f"format: {_told(format)} is neither a number nor four letters")
+    if len(format) != 4 or not format.isascii():
         raise ValueError(f"a DRM format has four letters: {format!r}")
-    return int.from_bytes(letters, "little")
+    return int.from_bytes(format.encode(), "little")
 
 
-def _number(name: str, value: int, bits: int) -> int:
+def _told(value: Any) -> str:
+    """A wrong value, or of a long one what it is."""
+    return repr(value) if len(repr(value)) <= 40 else f"a {type(value).__name__}"
+
+
+def number(name: str, value: Any, bits: int) -> int:
     """A number that fits, since ctypes would cut it silently."""
-    if not 0 <= value < 1 << bits:
+    try:
+        made = operator.index(value)
+    except TypeError:
+        raise TypeError(f"{name}: {_told(value)} is no integer") from None
+    if not 0 <= made < 1 << bits:
         raise OverflowError(f"{name}: {value} doesn't fit {bits} bits")
+    return made
+
+
+def a(kind: Type[Kind], name: str, value: Any) -> Kind:
+    """What has to be of a kind."""
+    if not isinstance(value, kind):
+        raise TypeError(f"{name}: {_told(value)} is no {kind.__name__}")
     return value
+
+
+def listed(kind: Type[Kind], name: str, values: Any) -> Sequence[Kind]:
+    """A list of what has to be of a kind."""
+    if not isinstance(values, collections.abc.Sequence):
+        raise TypeError(f"{name}: {_told(values)} is no list of {kind.__name__}")
+    return [a(kind, name, it) for it in values]
+
+
+def _array(kind: Any, items: Iterable[Any]) -> Any:
+    """An array of C."""
+    made = list(items)
+    return (kind * len(made))(*made)
 
 
 def put(flat: ctypes.Structure, name: str, value: Any) -> None:
     """Puts a value into a member of a struct, as wide as the member is."""
     kind = dict(flat._fields_)[name]
     if kind is _abi.mezulobu_size:
-        size = kind()
-        put(size, "width", value[0])
-        put(size, "height", value[1])
-        value = size
-    elif kind is not ctypes.c_bool:
-        value = _number(name, int(value), 8 * ctypes.sizeof(kind))
+        if not isinstance(value, (tuple, list)) or len(value) != 2:
+            raise TypeError(f"{name}: {_told(value)} is no Size")
+        value = kind(*(number(name, it, 32) for it in value))
+    elif kind is ctypes.c_bool:
+        a(bool, name, value)
+    else:
+        value = number(name, value, 8 * ctypes.sizeof(kind))
     setattr(flat, name, value)
 
 
@@ -142,25 +186,27 @@ def flat_pair(pair: Pair) -> _abi.mezulobu_pair:
 def flat_entry(entry: Entry) -> _abi.mezulobu_entry:
     flat = _abi.mezulobu_entry(ctypes.sizeof(_abi.mezulobu_entry))
     put_all(flat, entry, "format", "modifier")
-    put(flat, "format", fourcc(entry.format or 0))
-    put(flat, "modifier", entry.modifier or 0)
+    put(flat, "format", 0 if entry.format is None else fourcc(entry.format))
+    put(flat, "modifier", 0 if entry.modifier is None else entry.modifier)
     flat.any_format, flat.any_modifier = entry.format is None, entry.modifier is None
     return flat
 
 
 def flat_participant(stated: Participant) -> _abi.mezulobu_participant:
+    a(Participant, "a participant", stated)
     flat = _abi.mezulobu_participant(ctypes.sizeof(_abi.mezulobu_participant))
     put_all(flat, stated, "entries")
-    entries = (_abi.mezulobu_entry * len(stated.entries))(*map(flat_entry, stated.entries))
+    entries = _array(_abi.mezulobu_entry, map(flat_entry, listed(Entry, "entries", stated.entries)))
     # What is assigned is kept alive by the struct.
     flat.entries, flat.n_entries = entries, len(entries)
     return flat
 
 
 def flat_platform(stated: Platform) -> _abi.mezulobu_platform:
-    heaps = (_abi.mezulobu_heap * len(stated.heaps))(*map(flat_heap, stated.heaps))
-    pairs = (_abi.mezulobu_pair * len(stated.pairs))(*map(flat_pair, stated.pairs))
-    colors = (ctypes.c_uint32 * len(stated.colors))(*(_number("colors", it, 32) for it in stated.colors))
+    a(Platform, "the platform", stated)
+    heaps = _array(_abi.mezulobu_heap, map(flat_heap, listed(Heap, "heaps", stated.heaps)))
+    pairs = _array(_abi.mezulobu_pair, map(flat_pair, listed(Pair, "pairs", stated.pairs)))
+    colors = _array(ctypes.c_uint32, (number("colors", it, 32) for it in listed(int, "colors", stated.colors)))
     flat = _abi.mezulobu_platform(ctypes.sizeof(_abi.mezulobu_platform))
     flat.heaps, flat.n_heaps = heaps, len(heaps)
     flat.pairs, flat.n_pairs = pairs, len(pairs)

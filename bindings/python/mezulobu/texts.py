@@ -53,7 +53,7 @@ def filled(number: int, call: Callable[..., Any]) -> Tuple[int, List[bytes]]:
             return status, [text.raw[: size.value] if text else b"" for text, size in zip(texts, sizes)]
 
 
-def _bytes(script: Union[bytes, str]) -> bytes:
+def given_bytes(script: Union[bytes, str]) -> bytes:
     return script.encode() if isinstance(script, str) else bytes(script)
 
 
@@ -65,7 +65,7 @@ def _raise(status: int, call: str, words: bytes) -> None:
 
 def run(script: Union[bytes, str]) -> str:
     """The report of a script, which is one JSON value. Raises ScriptRefused or MemoryError."""
-    given = _bytes(script)
+    given = given_bytes(script)
     status, (text,) = filled(1, lambda text, size: library.mezulobu_run(given, len(given), text, size, None, None))
     _raise(status, "mezulobu_run", text)
     return text.decode()
@@ -73,7 +73,7 @@ def run(script: Union[bytes, str]) -> str:
 
 def run_with_certificate(script: Union[bytes, str]) -> Tuple[str, bytes]:
     """The report of a script, and the certificate of its decisions."""
-    given = _bytes(script)
+    given = given_bytes(script)
     status, (text, proof) = filled(2, lambda *rooms: library.mezulobu_run(given, len(given), *rooms))
     _raise(status, "mezulobu_run", text)
     return text.decode(), proof
@@ -81,7 +81,7 @@ def run_with_certificate(script: Union[bytes, str]) -> Tuple[str, bytes]:
 
 def check(script: Union[bytes, str], certificate: bytes) -> Answer:
     """Tests a certificate against a script."""
-    given = _bytes(script)
+    given = given_bytes(script)
     words = (given, len(given), certificate, len(certificate))
     status, (text,) = filled(1, lambda *room: library.mezulobu_check(*words, *room))
     if status != Status.NO:
@@ -92,7 +92,7 @@ def check(script: Union[bytes, str], certificate: bytes) -> Answer:
 def explain(script: Union[bytes, str], file: str = "script", is_json: bool = False) -> Explanation:
     """Explains a script: where it has a fault, why calls were refused, who is awaited, what decided each value of a choice, and
     who is in the way; with is_json as objects of JSON, one a line. file stands before lines and columns, up to its first 0."""
-    given, name = _bytes(script), file.encode(errors="replace")
+    given, name = given_bytes(script), file.encode(errors="replace")
     call = library.mezulobu_explain_json if is_json else library.mezulobu_explain
     status, (text,) = filled(1, lambda *room: call(given, len(given), name, True, *room))
     outcomes = {Status.DONE: Outcome.ALL_WELL, Status.NO: Outcome.NOT_ALL_WELL, Status.REFUSED: Outcome.FAULTY}

@@ -104,7 +104,7 @@ class Live(unittest.TestCase):
             warnings.simplefilter("always")
             del encoder
             gc.collect()
-            self.assertEqual([str(it.message) for it in said], ["a Collection wasn't closed"])
+            self.assertEqual([str(it.message) for it in said], ["unclosed Collection"])
             self.refused(Status.DOMAIN_FAILED, camera.check)
 
     def test_who_is_in_the_way_is_told_by_its_node(self) -> None:
@@ -123,7 +123,7 @@ class Live(unittest.TestCase):
         with camera, encoder:
             with self.assertRaises(mezulobu.Refused) as caught:
                 camera.set_constraints(Participant(Usage(0)))
-            self.assertEqual(caught.exception.refusal.field, Field.USAGE)
+            self.assertEqual((caught.exception.refusal.field, str(caught.exception)), (Field.USAGE, "the participant: usage"))
             for record, number in ((b"{", 0), (b'{"usage":[]}', 5)):
                 with self.assertRaises(live.RecordRefused) as fault:
                     camera.set_constraints_record(record)

@@ -9,6 +9,7 @@ import dataclasses
 import enum
 import os
 import subprocess
+import sys
 import unittest
 from typing import Any
 
@@ -64,6 +65,14 @@ class Layouts(unittest.TestCase):
             self.assertEqual({it.name for it in dataclasses.fields(getattr(mezulobu, name))}, members, name)
 
 
+class Library(unittest.TestCase):
+    def test_a_folder_without_it_is_told(self) -> None:
+        env = {**os.environ, "MEZULOBU_LIB_DIR": os.path.dirname(os.path.abspath(__file__))}
+        done = subprocess.run([sys.executable, "-c", "import mezulobu"], env=env, stderr=subprocess.PIPE, text=True)
+        self.assertEqual(done.returncode, 1)
+        self.assertRegex(done.stderr.splitlines()[-1], r"ImportError: .*tests/libmezulobu\.so\.1.*: set MEZULOBU_LIB_DIR to the folder")
+
+
 class Widths(unittest.TestCase):
     """ctypes would cut what doesn't fit."""
 
@@ -86,6 +95,40 @@ class Widths(unittest.TestCase):
                 self.refused(entries=[dataclasses.replace(CAPTURED, **{name: Size(1, -1)})])
             elif bits and name not in OWN:
                 self.refused(entries=[dataclasses.replace(CAPTURED, **{name: 1 << bits})])
+
+    def test_what_is_of_another_kind(self) -> None:
+        """ctypes would take some of it for a number, and else say nothing of whose it is."""
+        wrong: Any
+        for name, wrong, said in (
+            ("camping", 2.7, "camping: 2.7 is no integer"),
+            ("camping", "7", "camping: '7' is no integer"),
+            ("camping", None, "camping: None is no integer"),
+            ("usage", "video", "usage: 'video' is no integer"),
+            ("ram", "no", "ram: 'no' is no bool"),
+            ("entries", CAPTURED, "entries: a Entry is no list of Entry"),
+            ("entries", ["NV12"], "entries: 'NV12' is no Entry"),
+            ("entries", [dataclasses.replace(CAPTURED, min_size=1920)], "min_size: 1920 is no Size"),
+            ("entries", [dataclasses.replace(CAPTURED, min_size=(1.5, 2))], "min_size: 1.5 is no integer"),
+            ("entries", [dataclasses.replace(CAPTURED, format=1.5)], "format: 1.5 is neither a number nor four letters"),
+        ):
+            with self.assertRaises(TypeError) as caught:
+                mezulobu.negotiate(PLATFORM, [dataclasses.replace(CAMERA, **{name: wrong})])
+            self.assertEqual(str(caught.exception), said)
+        for platform, participants, said in (
+            (PLATFORM, CAMERA, "participants: a Participant is no list of Participant"),
+            (PLATFORM, [{}], "participants: {} is no Participant"),
+            ({}, [CAMERA], "the platform: {} is no Platform"),
+            (Platform([{}], (), ()), [CAMERA], "heaps: {} is no Heap"),  # type: ignore[list-item]
+        ):
+            with self.assertRaises(TypeError) as caught:
+                mezulobu.negotiate(platform, participants)  # type: ignore[arg-type]
+            self.assertEqual(str(caught.exception), said)
+
+    def test_a_format_prints_as_its_letters(self) -> None:
+        image = mezulobu.negotiate(PLATFORM, [CAMERA]).image
+        assert image is not None
+        self.assertEqual((image.format, f"{image.format}", repr(image.format)), (0x3231564E, "NV12", "NV12"))
+        self.assertEqual((str(stated.FourCC(0)), f"{stated.FourCC(1):x}"), ("0x0", "1"))
 
     def test_a_number_that_just_fits(self) -> None:
         flat = stated.flat_participant(dataclasses.replace(CAMERA, max_bytes=2**64 - 1, max_count=2**32 - 1))

@@ -2,16 +2,37 @@
 //! nothing, as in `mezulobu.h`.
 use crate::{Color, Usage};
 use mezulobu_sys as sys;
+use std::fmt::{self, Write};
 use std::mem::size_of;
 
 /// A DRM format.
-#[derive(Clone, Copy, Debug, PartialEq, Eq, Hash)]
+#[derive(Clone, Copy, PartialEq, Eq, Hash)]
 pub struct Format(pub u32);
 
 impl Format {
     /// The format of four letters, as `*b"NV12"`.
     pub const fn new(letters: [u8; 4]) -> Self {
         Self(u32::from_le_bytes(letters))
+    }
+}
+
+/// Its four letters; of others than letters, digits and the like the number.
+impl fmt::Display for Format {
+    fn fmt(&self, f: &mut fmt::Formatter<'_>) -> fmt::Result {
+        let letters = self.0.to_le_bytes();
+        if letters.iter().all(|it| (b' '..=b'~').contains(it)) {
+            letters
+                .iter()
+                .try_for_each(|it| f.write_char(char::from(*it)))
+        } else {
+            write!(f, "{:#x}", self.0)
+        }
+    }
+}
+
+impl fmt::Debug for Format {
+    fn fmt(&self, f: &mut fmt::Formatter<'_>) -> fmt::Result {
+        write!(f, "Format({self})")
     }
 }
 

@@ -109,8 +109,11 @@ pub struct Amiss {
 pub struct Conflict {
     /// [`Kind::COUNT`], [`Kind::PLACES`] or [`Kind::OFFERS`].
     pub kind: Kind,
-    /// `None` where all can share settings but for a name of the image that nobody gives.
+    /// The participant's index, and of a live collection the number of its node; `None` where all can
+    /// share settings but for a name of the image that nobody gives.
     pub who: Option<usize>,
+    /// Whether `who` is the number of a node.
+    pub is_node: bool,
     pub field: Field,
     /// Whether `who` gets nothing even by itself.
     pub alone: bool,
@@ -137,7 +140,7 @@ impl Error {
     /// What a status that isn't `DONE` says, with its refusal.
     pub(crate) fn of(status: i32, why: &sys::mezulobu_refusal) -> Self {
         match status {
-            sys::MEZULOBU_NO => Self::NoSettings(Conflict::of(why)),
+            sys::MEZULOBU_NO => Self::NoSettings(Conflict::of(why, false)),
             sys::MEZULOBU_REFUSED => Self::Refused(Amiss::of(why)),
             sys::MEZULOBU_NO_MEMORY => Self::NoMemory,
             _ => Self::OtherVersion,
@@ -161,16 +164,29 @@ impl Amiss {
 }
 
 impl Conflict {
-    pub(crate) fn of(why: &sys::mezulobu_refusal) -> Self {
+    pub(crate) fn of(why: &sys::mezulobu_refusal, is_node: bool) -> Self {
         let place = (why.heap, Coherency(why.coherency));
         let offer = (Format(why.format), why.modifier, Color(why.color));
         Self {
             kind: Kind(why.kind),
             who: (why.who != sys::MEZULOBU_NOBODY).then_some(why.who),
+            is_node,
             field: Field(why.field),
             alone: why.alone != 0,
             place: (why.coherency != 0).then_some(place),
             offer: (why.format != 0).then_some(offer),
+        }
+    }
+}
+
+impl Amiss {
+    /// The field, and of one in a list which item it is of. The fields that a participant has itself
+    /// come first.
+    pub(crate) fn write_field(&self, f: &mut fmt::Formatter<'_>) -> fmt::Result {
+        if self.field < Field::PERMITTED_HEAPS {
+            write!(f, "{}", self.field)
+        } else {
+            write!(f, "{} (item {})", self.field, self.index)
         }
     }
 }
@@ -180,7 +196,8 @@ impl fmt::Display for Amiss {
         match self.whose {
             Whose::Platform => write!(f, "the platform's {} {}", self.field, self.index),
             Whose::Participant(who) => {
-                write!(f, "participant {who}: {} (item {})", self.field, self.index)
+                write!(f, "participant {who}: ")?;
+                self.write_field(f)
             }
             Whose::List => f.write_str("more than 1,024 participants"),
         }
@@ -190,7 +207,10 @@ impl fmt::Display for Amiss {
 impl fmt::Display for Conflict {
     fn fmt(&self, f: &mut fmt::Formatter<'_>) -> fmt::Result {
         match self.who {
-            Some(who) => write!(f, "participant {who} is in the way by {}", self.field)?,
+            Some(who) => {
+                let kind = if self.is_node { "node" } else { "participant" };
+                write!(f, "{kind} {who} is in the way by {}", self.field)?;
+            }
             None => write!(f, "nobody gives {}", self.field)?,
         }
         f.write_str(if self.alone { ", even alone" } else { "" })

@@ -31,6 +31,7 @@ mod codes;
 pub mod live;
 mod negotiation;
 mod texts;
+mod waiting;
 
 pub use asked::{Entry, Format, Heap, Pair, Participant, Platform, Size};
 pub use chosen::{Amiss, Conflict, Error, Image, Layout, Plane, Settings, Whose};

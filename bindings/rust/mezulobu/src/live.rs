@@ -1,8 +1,34 @@
 //! Collections that live: handles on the nodes of one collection, each on whatever thread.
+//!
+//! ```
+//! use mezulobu::live::Allocator;
+//! use mezulobu::{Color, Entry, Format, Heap, Pair, Participant, Platform, Size, Usage};
+//!
+//! let nv12 = Format::new(*b"NV12");
+//! let heaps = vec![Heap { cpu: true, ram: true, ..Heap::default() }];
+//! let platform = Platform { heaps, pairs: vec![Pair::linear(nv12)], colors: vec![Color::REC709] };
+//! let entry = Entry { min_size: Size::new(1920, 1080), ..Entry::new(nv12, Color::REC709) };
+//! let asked = Participant { camping: 3, entries: vec![entry], ..Participant::new(Usage::VIDEO) };
+//! let root = Allocator::new(&platform)?.allocate_shared()?;
+//! let seats = [root.duplicate()?, root.duplicate()?];
+//! root.release()?;
+//! std::thread::scope(|threads| {
+//!     for seat in seats {
+//!         threads.spawn(|| {
+//!             let mine = seat.bind().unwrap().set_constraints(Some(&asked)).unwrap();
+//!             let settings = mine.wait(None).unwrap().unwrap();
+//!             assert_eq!((settings.count, settings.bytes), (6, 1920 * 1080 * 3 / 2));
+//!             mine.release().unwrap();
+//!         });
+//!     }
+//! });
+//! # Ok::<(), Box<dyn std::error::Error>>(())
+//! ```
 use crate::asked::{FlatParticipants, FlatPlatform};
 use crate::chosen::{Amiss, Conflict};
 use crate::negotiation::{no_refusal, no_settings};
 use crate::texts::{filled, text_of};
+use crate::waiting::waited;
 use crate::{Error, Participant, Platform, Settings, Status};
 use mezulobu_sys as sys;
 use std::ffi::CString;
@@ -36,7 +62,10 @@ impl fmt::Display for Why {
     fn fmt(&self, f: &mut fmt::Formatter<'_>) -> fmt::Result {
         match self {
             Self::Status(status) => status.fmt(f),
-            Self::Stated(amiss) => write!(f, "refused: {amiss}"),
+            Self::Stated(amiss) => {
+                f.write_str("refused: ")?;
+                amiss.write_field(f)
+            }
             Self::Record(0) => f.write_str("refused: no JSON"),
             Self::Record(number) => write!(f, "refused: S{number}"),
         }
@@ -363,18 +392,17 @@ impl<S> Collection<S> {
         decided(status, sys::MEZULOBU_PENDING, &settings)
     }
 
-    /// The same as soon as it is decided: `None` where it isn't within a time. Without one it waits as
-    /// long as it takes.
+    /// The same as soon as it is decided: `None` where it isn't within a time, however long. Without one
+    /// it waits as long as it takes.
     ///
     /// # Errors
     /// As of `check`.
     pub fn wait(&self, time: Option<Duration>) -> Result<Option<Settings>, Status> {
         let mut settings = no_settings();
-        let milliseconds = time.map_or(-1, |it| {
-            c_int::try_from(it.as_nanos().saturating_add(999_999) / 1_000_000).unwrap_or(c_int::MAX)
-        });
         // Safety: as of `check`.
-        let status = unsafe { sys::mezulobu_collection_wait(self.0, milliseconds, &mut settings) };
+        let status = waited(time, |milliseconds| unsafe {
+            sys::mezulobu_collection_wait(self.0, milliseconds, &mut settings)
+        });
         decided(status, sys::MEZULOBU_NO, &settings)
     }
 
@@ -421,7 +449,7 @@ impl<S> Collection<S> {
         let mut why = no_refusal();
         // Safety: the handle lives, and so does the refusal.
         match unsafe { sys::mezulobu_collection_refusal(self.0, &mut why) } {
-            sys::MEZULOBU_DONE => Ok(Some(Conflict::of(&why))),
+            sys::MEZULOBU_DONE => Ok(Some(Conflict::of(&why, true))),
             sys::MEZULOBU_NO => Ok(None),
             other => Err(Status(other)),
         }

@@ -118,6 +118,11 @@ fn who_is_in_the_way_is_told_by_its_node() {
         Kind::OFFERS,
         true,
     );
+    let told = format!(
+        "node {} is in the way by max_size, even alone",
+        encoder.node()
+    );
+    assert_eq!(conflict.to_string(), told);
     let Conflict {
         who,
         field,
@@ -141,6 +146,7 @@ fn what_cannot_be_meant_leaves_the_handle_as_it_was() {
         index: 0,
     };
     assert_eq!(refused.why, Why::Stated(wanted));
+    assert_eq!(refused.to_string(), "refused: usage");
     let refused = refused
         .handle
         .set_constraints_record(b"{\"usage\":[]}")

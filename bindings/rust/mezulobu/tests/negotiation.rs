@@ -124,6 +124,7 @@ fn an_encoder_of_small_images_is_in_the_way() {
     let wanted = Conflict {
         kind: Kind::OFFERS,
         who: Some(1),
+        is_node: false,
         field: Field::MAX_SIZE,
         alone: false,
         place: Some((1, Coherency::CPU)),
@@ -191,4 +192,13 @@ fn names_are_those_of_the_library() {
     assert_eq!(format!("{:?}", Kind::COUNT), "COUNT");
     assert_eq!(version().0, 1);
     assert_eq!(planes(Format(0), 0, 64, 64), None);
+}
+
+#[test]
+fn a_format_prints_as_its_letters() {
+    let told = |it: Format| (it.to_string(), format!("{it:?}"));
+    let wanted = |it: &str| (it.to_owned(), format!("Format({it})"));
+    assert_eq!(told(Format::new(*b"NV12")), wanted("NV12"));
+    assert_eq!(told(Format::new(*b"R8  ")), wanted("R8  "));
+    assert_eq!(told(Format(1)), wanted("0x1"));
 }
