@@ -1,4 +1,4 @@
-# What `make install` puts beside the library and the program: the header for C++, CMake's files, manual pages, completions and examples.
+# What `make install` puts beside the library and the program: the header for C++, CMake's files, manual pages, completions, a glossary, a schema and examples.
 PREFIX ?= /usr/local
 override PREFIX := $(abspath $(PREFIX))
 LIBDIR ?= $(PREFIX)/lib
@@ -25,6 +25,7 @@ manual:
 examples:
 	install -d $(SHARE)/doc/mezulobu/examples
 	install -m 644 $(wildcard examples/*.c examples/*.py examples/*.json) $(SHARE)/doc/mezulobu/examples
+	install -m 644 docs/GLOSSARY.md docs/sysmem.schema.json $(SHARE)/doc/mezulobu
 	packaging/pages $(SHARE)/doc/mezulobu
 
 completions:
