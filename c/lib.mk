@@ -2,7 +2,10 @@
 # The object goes into an archive, and into a shared object that needs the system's C library alone.
 # With UNPROVED=1 from what tools/unproved built, in a folder of its own: nothing of one is taken for the other.
 PREFIX ?= /usr/local
+# A place that isn't told from the top is one below this folder.
+override PREFIX := $(abspath $(PREFIX))
 LIBDIR ?= $(PREFIX)/lib
+override LIBDIR := $(abspath $(LIBDIR))
 KIT ?= $(dir $(shell rt doc))
 CFLAGS ?= -O2
 OUT := out$(if $(UNPROVED),/unproved)
@@ -54,3 +57,4 @@ install: library
 	sed 's|@PREFIX@|$(PREFIX)|; s|@LIBDIR@|$(NAMED_LIB)|; s|@VERSION@|$(VERSION)|; s|@UNPROVED@|$(if $(UNPROVED), (built without proofs))|' \
 		c/mezulobu.pc.in > $(LIB)/pkgconfig/mezulobu.pc
 	@$(MAKE) --no-print-directory -f packaging/install.mk beside
+	@$(if $(UNPROVED),echo 'install: this program and this library are built without proofs' >&2)

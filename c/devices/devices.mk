@@ -1,6 +1,7 @@
 # The library that asks devices, and the command: a C compiler, binutils and libdrm are all that they
 # need. In the archive the header's names alone are seen.
 PREFIX ?= /usr/local
+override PREFIX := $(abspath $(PREFIX))
 CFLAGS ?= -O2
 OUT := out
 TO := $(DESTDIR)$(PREFIX)

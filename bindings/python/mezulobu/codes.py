@@ -8,7 +8,8 @@ class Status(enum.IntEnum):
     DONE = 0
     """Done; of a check: yes."""
     MISUSED = 2
-    """A null pointer where none may be, or a struct_size that this library doesn't know."""
+    """A null pointer where none may be, or a struct_size that this library
+doesn't know."""
     REFUSED = 3
     """The script or the certificate is refused, or a struct."""
     NO_MEMORY = 4
@@ -16,20 +17,24 @@ class Status(enum.IntEnum):
     TOO_SMALL = 5
     """A buffer is too small; each size says what is needed."""
     NO = 6
-    """A check: no; a strict explanation: not all went well; a negotiation: no settings meet everybody;
-a wait: nothing was decided in that time."""
+    """A check: no; a strict explanation: not all went well; a negotiation:
+no settings meet everybody; a wait: nothing was decided in that
+time."""
     WRONG_STATE = 18
     """E2: the handle isn't in a state that allows the call."""
     TOO_MANY_NODES = 19
-    """E3: more than 128 in one collection, those that are gone included."""
+    """E3: more than 128 in one collection, those that are gone
+included."""
     NO_CHILDREN = 20
     """E4: of all_children_present, of a group without a child."""
     NOT_SELECTED = 21
     """E5: another alternative was chosen."""
     DOMAIN_FAILED = 22
-    """E6: somebody closed too early, or what it was attached to has no settings."""
+    """E6: somebody closed too early, or what it was attached to
+has no settings."""
     INTERSECTION_EMPTY = 23
-    """E7: no settings meet everybody: mezulobu_collection_explain says who is in the way."""
+    """E7: no settings meet everybody:
+mezulobu_collection_explain says who is in the way."""
     TOO_MANY_SELECTIONS = 24
     """E8: more than 4,096 selections of alternatives."""
     PENDING = 25

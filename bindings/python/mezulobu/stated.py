@@ -62,7 +62,14 @@ class Platform:
 
 @dataclass(frozen=True)
 class Entry:
-    """One image format that a participant takes, and its bounds on such images. A format or a modifier that is None is any."""
+    """One image format that a participant takes, and its bounds on such images. A format or a modifier that is None is any.
+
+    max_size bounds the image with all that alignments add, those of others too: who has one mode alone states it as min_size.
+
+    Scripts, refusals and explanations have other names for some: rows_end_at_pixels is require_bytes_per_row_at_pixel_boundary; min_pitch, max_pitch,
+    pitch_divisor and offset_divisor are min_bytes_per_row, max_bytes_per_row, bytes_per_row_divisor and start_offset_divisor; max_pixels is
+    max_width_times_height.
+    """
 
     format: Optional[Format]
     colors: Color
@@ -83,7 +90,15 @@ class Entry:
 
 @dataclass(frozen=True)
 class Participant:
-    """What a participant asks for. Without entries it takes every offer. Bit i of heaps permits heap i; 0 permits each."""
+    """What a participant asks for. Without entries it takes every offer. Bit i of heaps permits heap i; 0 permits each.
+
+    Of the coherency domains cpu, ram and inaccessible it takes those that are true, and no other; where none is, cpu. A script's record takes cpu too, unless
+    it says no.
+
+    Scripts, refusals and explanations have longer names: contiguous and secure are physically_contiguous_required and secure_required, a domain as cpu
+    cpu_domain_supported; camping is min_buffer_count_for_camping, and so are the slacks; min_count and max_count are min_buffer_count and max_buffer_count,
+    min_bytes and max_bytes min_size_bytes and max_size_bytes, heaps permitted_heaps, and entries image_format_constraints.
+    """
 
     usage: Usage
     contiguous: bool = False

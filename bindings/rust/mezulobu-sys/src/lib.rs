@@ -8,7 +8,8 @@ pub const MEZULOBU_VERSION: u32 = 0x00010003;
 
 /// done; of a check: yes
 pub const MEZULOBU_DONE: c_int = 0;
-/// a null pointer where none may be, or a struct_size that this library doesn't know
+/// a null pointer where none may be, or a struct_size that this library
+/// doesn't know
 pub const MEZULOBU_MISUSED: c_int = 2;
 /// the script or the certificate is refused, or a struct
 pub const MEZULOBU_REFUSED: c_int = 3;
@@ -16,20 +17,24 @@ pub const MEZULOBU_REFUSED: c_int = 3;
 pub const MEZULOBU_NO_MEMORY: c_int = 4;
 /// a buffer is too small; each size says what is needed
 pub const MEZULOBU_TOO_SMALL: c_int = 5;
-/// a check: no; a strict explanation: not all went well; a negotiation: no settings meet everybody;
-/// a wait: nothing was decided in that time
+/// a check: no; a strict explanation: not all went well; a negotiation:
+/// no settings meet everybody; a wait: nothing was decided in that
+/// time
 pub const MEZULOBU_NO: c_int = 6;
 /// E2: the handle isn't in a state that allows the call
 pub const MEZULOBU_WRONG_STATE: c_int = 18;
-/// E3: more than 128 in one collection, those that are gone included
+/// E3: more than 128 in one collection, those that are gone
+/// included
 pub const MEZULOBU_TOO_MANY_NODES: c_int = 19;
 /// E4: of all_children_present, of a group without a child
 pub const MEZULOBU_NO_CHILDREN: c_int = 20;
 /// E5: another alternative was chosen
 pub const MEZULOBU_NOT_SELECTED: c_int = 21;
-/// E6: somebody closed too early, or what it was attached to has no settings
+/// E6: somebody closed too early, or what it was attached to
+/// has no settings
 pub const MEZULOBU_DOMAIN_FAILED: c_int = 22;
-/// E7: no settings meet everybody: mezulobu_collection_explain says who is in the way
+/// E7: no settings meet everybody:
+/// mezulobu_collection_explain says who is in the way
 pub const MEZULOBU_INTERSECTION_EMPTY: c_int = 23;
 /// E8: more than 4,096 selections of alternatives
 pub const MEZULOBU_TOO_MANY_SELECTIONS: c_int = 24;
@@ -67,7 +72,8 @@ pub struct mezulobu_size {
     pub height: u32,
 }
 
-/// A heap, which is named by its index in the platform's list. At least one of the three coherency domains is true.
+/// A heap, which is named by its index in the platform's list. At least one of the three coherency
+/// domains is true.
 #[repr(C)]
 #[derive(Clone, Copy, Debug)]
 pub struct mezulobu_heap {
@@ -86,8 +92,8 @@ pub struct mezulobu_pair {
     pub reserved: u32,
 }
 
-/// What the allocator offers, which the caller knows: its heaps, and the images that it is ready to use. Each list is in the order
-/// of preference, isn't empty, and has no item twice.
+/// What the allocator offers, which the caller knows: its heaps, and the images that it is ready to
+/// use. Each list is in the order of preference, isn't empty, and has no item twice.
 #[repr(C)]
 #[derive(Clone, Copy, Debug)]
 pub struct mezulobu_platform {
@@ -102,13 +108,16 @@ pub struct mezulobu_platform {
     pub n_colors: usize,
 }
 
-/// One image format that a participant takes, and its bounds on such images. Somebody states the size that is wanted, as a mode,
-/// as its min_size: where nobody does, an image of 1 by 1 is enough. Alignments round up, so the image may be larger.
+/// One image format that a participant takes, and its bounds on such images. Somebody states the
+/// size that is wanted, as a mode, as its min_size: where nobody does, an image of 1 by 1 is enough.
+/// Alignments round up, so the image may be larger, and max_size bounds it with all that they add,
+/// those of others too: who has one mode alone states it as min_size, and no max_size.
 #[repr(C)]
 #[derive(Clone, Copy, Debug)]
 pub struct mezulobu_entry {
     pub struct_size: usize,
-    /// not read where any_modifier is true; DRM_FORMAT_MOD_INVALID isn't "any", and is refused
+    /// not read where any_modifier is true; DRM_FORMAT_MOD_INVALID isn't
+    /// "any", and is refused
     pub modifier: u64,
     /// not read where any_format is true
     pub format: u32,
@@ -124,18 +133,20 @@ pub struct mezulobu_entry {
     pub max_size: mezulobu_size,
     /// in pixels
     pub size_alignment: mezulobu_size,
-    /// in bytes \[min_bytes_per_row .. start_offset_divisor\]
+    /// of a row, in bytes \[min_bytes_per_row, max_bytes_per_row\]
     pub min_pitch: u32,
-    /// in bytes \[min_bytes_per_row .. start_offset_divisor\]
+    /// of a row, in bytes \[min_bytes_per_row, max_bytes_per_row\]
     pub max_pitch: u32,
-    /// in bytes \[min_bytes_per_row .. start_offset_divisor\]
+    /// \[bytes_per_row_divisor, start_offset_divisor\]
     pub pitch_divisor: u32,
-    /// in bytes \[min_bytes_per_row .. start_offset_divisor\]
+    /// \[bytes_per_row_divisor, start_offset_divisor\]
     pub offset_divisor: u32,
     pub display_rect_alignment: mezulobu_size,
-    /// of what it will put into them: all have to take such images
+    /// of what it will put into them: all
+    /// have to take such images
     pub required_min_size: mezulobu_size,
-    /// of what it will put into them: all have to take such images
+    /// of what it will put into them: all
+    /// have to take such images
     pub required_max_size: mezulobu_size,
     /// \[max_width_times_height\]
     pub max_pixels: u64,
@@ -147,31 +158,47 @@ pub struct mezulobu_entry {
 pub struct mezulobu_participant {
     pub struct_size: usize,
     pub usage: u8,
-    /// what the heap must be
+    /// what the heap must be \[physically_contiguous_required,
+    /// secure_required\]
     pub contiguous: bool,
-    /// what the heap must be
+    /// what the heap must be \[physically_contiguous_required,
+    /// secure_required\]
     pub secure: bool,
-    /// the coherency domains that it takes; where none is true, cpu
+    /// the coherency domains that it takes, and no other; where none is
+    /// true, cpu. A record takes cpu too, unless it says no
+    /// \[cpu_domain_supported, ram_domain_supported,
+    /// inaccessible_domain_supported\]
     pub cpu: bool,
-    /// the coherency domains that it takes; where none is true, cpu
+    /// the coherency domains that it takes, and no other; where none is
+    /// true, cpu. A record takes cpu too, unless it says no
+    /// \[cpu_domain_supported, ram_domain_supported,
+    /// inaccessible_domain_supported\]
     pub ram: bool,
-    /// the coherency domains that it takes; where none is true, cpu
+    /// the coherency domains that it takes, and no other; where none is
+    /// true, cpu. A record takes cpu too, unless it says no
+    /// \[cpu_domain_supported, ram_domain_supported,
+    /// inaccessible_domain_supported\]
     pub inaccessible: bool,
-    /// how many buffers it holds at one time; all are added \[min_buffer_count_for_camping\]
+    /// how many buffers it holds at one time; all are added
+    /// \[min_buffer_count_for_camping\]
     pub camping: u32,
-    /// more for itself alone; added too \[min_buffer_count_for_dedicated_slack\]
+    /// more for itself alone; added too
+    /// \[min_buffer_count_for_dedicated_slack\]
     pub dedicated_slack: u32,
-    /// spare ones for all; the greatest is added \[min_buffer_count_for_shared_slack\]
+    /// spare ones for all; the greatest is added
+    /// \[min_buffer_count_for_shared_slack\]
     pub shared_slack: u32,
-    /// how many there are in all \[min_buffer_count, max_buffer_count\]
+    /// how many there are in all \[min_buffer_count,
+    /// max_buffer_count\]
     pub min_count: u32,
-    /// how many there are in all \[min_buffer_count, max_buffer_count\]
+    /// how many there are in all \[min_buffer_count,
+    /// max_buffer_count\]
     pub max_count: u32,
     /// of a buffer \[min_size_bytes, max_size_bytes\]
     pub min_bytes: u64,
     /// of a buffer \[min_size_bytes, max_size_bytes\]
     pub max_bytes: u64,
-    /// bit i: heap i is permitted; 0 permits each
+    /// bit i: heap i is permitted; 0 permits each \[permitted_heaps\]
     pub heaps: u64,
     pub entries: *const mezulobu_entry,
     pub n_entries: usize,
@@ -289,23 +316,27 @@ pub const MEZULOBU_FIELD_CONTIGUOUS: u32 = 41;
 pub const MEZULOBU_FIELD_SECURE: u32 = 42;
 pub const MEZULOBU_FIELD_DOMAINS: u32 = 43;
 
-/// Why there are no settings. At REFUSED (the first three kinds) field is what is amiss in a struct, and index the item of its
-/// list. At MISUSED (kind PLATFORM or PARTICIPANT, or 0 of settings) it is whose struct is misused, and of an entry index is its own;
-/// of the participant's struct itself index is NOBODY; field is 0.
+/// Why there are no settings. At REFUSED (the first three kinds) field is what is amiss in a struct,
+/// and index the item of its list. At MISUSED (kind PLATFORM or PARTICIPANT, or 0 of settings) it is
+/// whose struct is misused, and of an entry index is its own; of the participant's struct itself
+/// index is NOBODY; field is 0.
 ///
-/// At NO the participants before who can share settings, and those up to who can't: who is the first with whom there are none. So
-/// the order of the participants is a ranking: those that can be done without stand last.
+/// At NO the participants before who can share settings, and those up to who can't: who is the first
+/// with whom there are none. So the order of the participants is a ranking: those that can be done
+/// without stand last.
 ///
-/// **alone is 1 where who gets nothing even by itself**: the platform doesn't offer what it takes, or it contradicts itself, as by a
-/// min_size above its own max_size. Kind and field are of it alone then. Where alone is 0 the others are in the way: what who
-/// takes is offered, and those before it don't take it, or the other way round.
+/// **alone is 1 where who gets nothing even by itself**: the platform doesn't offer what it takes,
+/// or it contradicts itself, as by a min_size above its own max_size. Kind and field are of it alone
+/// then. Where alone is 0 the others are in the way: what who takes is offered, and those before it
+/// don't take it, or the other way round.
 ///
-/// heap and coherency, and format, modifier and color are what those before would share first (0 without an image). At PLACES field
-/// is what who refuses that place for. At OFFERS field is of the offer of format, modifier and color, which is the image of the
-/// platform that who comes nearest to, where it is alone: the first line of the conflict table that is true of it, for those up to
-/// who or for it alone. PIXEL_FORMAT: somebody has no entry for that format, or, without an image, takes images only;
-/// PIXEL_FORMAT_MODIFIER: all take the format, and somebody not in that modifier. who is NOBODY where all can share settings but
-/// for a name of the image that nobody gives.
+/// heap and coherency, and format, modifier and color are what those before would share first (0
+/// without an image). At PLACES field is what who refuses that place for. At OFFERS field is of the
+/// offer of format, modifier and color, which is the image of the platform that who comes nearest
+/// to, where it is alone: the first line of the conflict table that is true of it, for those up to
+/// who or for it alone. PIXEL_FORMAT: somebody has no entry for that format, or, without an image,
+/// takes images only; PIXEL_FORMAT_MODIFIER: all take the format, and somebody not in that modifier.
+/// who is NOBODY where all can share settings but for a name of the image that nobody gives.
 #[repr(C)]
 #[derive(Clone, Copy, Debug)]
 pub struct mezulobu_refusal {
@@ -345,9 +376,10 @@ pub struct mezulobu_collection {
 }
 
 extern "C" {
-    /// Replays a script. At DONE text is its report and, where certificate_size isn't null, certificate proves its decisions.
-    /// At REFUSED text is the words of the script's first fault, as `script refused: Q4 at call 7`, and the certificate is of
-    /// length 0. Without a certificate, certificate and certificate_size are null.
+    /// Replays a script. At DONE text is its report and, where certificate_size isn't null, certificate
+    /// proves its decisions. At REFUSED text is the words of the script's first fault, as
+    /// `script refused: Q4 at call 7`, and the certificate is of length 0. Without a certificate,
+    /// certificate and certificate_size are null.
     pub fn mezulobu_run(
         script: *const c_void,
         script_size: usize,
@@ -356,9 +388,10 @@ extern "C" {
         certificate: *mut c_void,
         certificate_size: *mut usize,
     ) -> c_int;
-    /// Tests a certificate against a script. At DONE and at NO text is the answer, "yes N\n" or "no Nk domain PATH\n". At
-    /// REFUSED it is the words of what is refused: as of a script, or `proof refused`. For the status alone, which is never
-    /// TOO_SMALL then, text and text_size are null.
+    /// Tests a certificate against a script. At DONE and at NO text is the answer, "yes N\n" or
+    /// "no Nk domain PATH\n". At REFUSED it is the words of what is refused: as of a script, or
+    /// `proof refused`. For the status alone, which is never TOO_SMALL then, text and text_size are
+    /// null.
     pub fn mezulobu_check(
         script: *const c_void,
         script_size: usize,
@@ -367,10 +400,12 @@ extern "C" {
         text: *mut c_char,
         text_size: *mut usize,
     ) -> c_int;
-    /// Explains a script: where it has a fault, why calls were refused, who is awaited, what decided each value of a choice, and who
-    /// is in the way. At DONE text says what it means, and at REFUSED what its first fault is and where. Where is_strict is true the
-    /// status is NO, with the same text, where a call was refused or a domain isn't chosen. file is a name that ends with a 0, which
-    /// stands before lines and columns; where it is null that is "script", and what of it is no UTF-8 is replaced.
+    /// Explains a script: where it has a fault, why calls were refused, who is awaited, what decided
+    /// each value of a choice, and who is in the way. At DONE text says what it means, and at REFUSED
+    /// what its first fault is and where. Where is_strict is true the status is NO, with the same text,
+    /// where a call was refused or a domain isn't chosen. file is a name that ends with a 0, which
+    /// stands before lines and columns; where it is null that is "script", and what of it is no UTF-8 is
+    /// replaced.
     pub fn mezulobu_explain(
         script: *const c_void,
         script_size: usize,
@@ -379,7 +414,8 @@ extern "C" {
         text: *mut c_char,
         text_size: *mut usize,
     ) -> c_int;
-    /// The same as objects of JSON, one a line: one for each item of the explanation, and one that ends them. EXPLAIN says what each has.
+    /// The same as objects of JSON, one a line: one for each item of the explanation, and one that ends
+    /// them. EXPLAIN says what each has.
     pub fn mezulobu_explain_json(
         script: *const c_void,
         script_size: usize,
@@ -388,10 +424,11 @@ extern "C" {
         text: *mut c_char,
         text_size: *mut usize,
     ) -> c_int;
-    /// The best settings for n participants on a platform. DONE: settings. NO: none meet them all, and refusal says who is in the
-    /// way. REFUSED: a struct states nothing that could be meant, and refusal says whose and which field. NO_MEMORY: refusal has kind
-    /// 0. MISUSED: refusal says whose struct it is, unless it is the refusal's. settings is written at DONE alone, refusal at each other
-    /// status. refusal may be null, settings may not. A list of nobody is DONE, with one buffer of one byte.
+    /// The best settings for n participants on a platform. DONE: settings. NO: none meet them all, and
+    /// refusal says who is in the way. REFUSED: a struct states nothing that could be meant, and refusal
+    /// says whose and which field. NO_MEMORY: refusal has kind 0. MISUSED: refusal says whose struct it
+    /// is, unless it is the refusal's. settings is written at DONE alone, refusal at each other status.
+    /// refusal may be null, settings may not. A list of nobody is DONE, with one buffer of one byte.
     pub fn mezulobu_negotiate(
         platform: *const mezulobu_platform,
         participants: *const mezulobu_participant,
@@ -403,14 +440,15 @@ extern "C" {
     pub fn mezulobu_field_name(
         field: u32,
     ) -> *const c_char;
-    /// The layout of an image with rows of pitch bytes in the first plane, its height in pixels. DONE; REFUSED where there is no
-    /// such format or modifier here, where tiles don't go with the format, or where the bytes don't fit 64 bits: layout is as it
-    /// was then. MISUSED.
+    /// The layout of an image with rows of pitch bytes in the first plane, its height in pixels. DONE;
+    /// REFUSED where there is no such format or modifier here, where tiles don't go with the format, or
+    /// where the bytes don't fit 64 bits: layout is as it was then. MISUSED.
     ///
-    /// It demands a pitch and a height as settings have them, and tests neither: a pitch of at least a row's pixels,
-    /// which is a multiple of 512 of X tiles and of 128 of Y tiles, and of NV12, P010, I420 and YV12 is even, as is their
-    /// height. With others the call is DONE all the same: halves are rounded down then, and no plane ends after bytes,
-    /// but DRM wouldn't take it. The height of tiles may be any: rows has what the last tile adds.
+    /// It demands a pitch and a height as settings have them, and tests neither: a pitch of at least a
+    /// row's pixels, which is a multiple of 512 of X tiles and of 128 of Y tiles, and of NV12, P010,
+    /// I420 and YV12 is even, as is their height. With others the call is DONE all the same: halves are
+    /// rounded down then, and no plane ends after bytes, but DRM wouldn't take it. The height of tiles
+    /// may be any: rows has what the last tile adds.
     pub fn mezulobu_planes(
         format: u32,
         modifier: u64,
@@ -425,9 +463,10 @@ extern "C" {
     /// The version of the library, as MEZULOBU_VERSION is that of the header.
     pub fn mezulobu_version(
     ) -> u32;
-    /// What makes collections, which are decided for one platform. DONE, MISUSED, NO_MEMORY; REFUSED: the platform states nothing that
-    /// could be meant, and why, which may be null, has kind PLATFORM and says which field. Or from the JSON of a platform as scripts
-    /// have it: at REFUSED code, which may be null, is the number of its fault, 1 of S1 and so on, and 0 where it is no JSON.
+    /// What makes collections, which are decided for one platform. DONE, MISUSED, NO_MEMORY; REFUSED:
+    /// the platform states nothing that could be meant, and why, which may be null, has kind PLATFORM
+    /// and says which field. Or from the JSON of a platform as scripts have it: at REFUSED code, which
+    /// may be null, is the number of its fault, 1 of S1 and so on, and 0 where it is no JSON.
     pub fn mezulobu_allocator_new(
         platform: *const mezulobu_platform,
         allocator: *mut *mut mezulobu_allocator,
@@ -448,8 +487,9 @@ extern "C" {
         allocator: *mut mezulobu_allocator,
         token: *mut *mut mezulobu_token,
     ) -> c_int;
-    /// Of a token: the right to take part. A call that acts, here and below, takes no memory but where it is said, and is DONE or changes
-    /// nothing: then its status is the first reason of its refusal, from WRONG_STATE on, as a report has it of the same call.
+    /// Of a token: the right to take part. A call that acts, here and below, takes no memory but where
+    /// it is said, and is DONE or changes nothing: then its status is the first reason of its refusal,
+    /// from WRONG_STATE on, as a report has it of the same call.
     pub fn mezulobu_token_duplicate(
         token: *mut mezulobu_token,
         made: *mut *mut mezulobu_token,
@@ -482,9 +522,10 @@ extern "C" {
     pub fn mezulobu_group_close(
         group: *mut *mut mezulobu_group,
     ) -> c_int;
-    /// Of a collection: a participant. What it asks for it says once; where asked is null, for nothing. At REFUSED the participant
-    /// states nothing that could be meant, why has kind PARTICIPANT, who 0, and says which field, and nothing was set. A record is the
-    /// JSON of constraints as scripts have it, and code as above. NO_MEMORY: nothing was set; it can be tried again.
+    /// Of a collection: a participant. What it asks for it says once; where asked is null, for nothing.
+    /// At REFUSED the participant states nothing that could be meant, why has kind PARTICIPANT, who 0,
+    /// and says which field, and nothing was set. A record is the JSON of constraints as scripts have
+    /// it, and code as above. NO_MEMORY: nothing was set; it can be tried again.
     pub fn mezulobu_collection_set_constraints(
         collection: *mut mezulobu_collection,
         asked: *const mezulobu_participant,
@@ -506,29 +547,31 @@ extern "C" {
     pub fn mezulobu_collection_close(
         collection: *mut *mut mezulobu_collection,
     ) -> c_int;
-    /// What was decided for a collection. DONE: settings, which may be null. Else why there are none, or PENDING; NO_MEMORY: the
-    /// decision had no memory. The answer stays once it isn't PENDING. Of settings with a format that has no code, which is L8 alone, the
-    /// image is all 0.
+    /// What was decided for a collection. DONE: settings, which may be null. Else why there are none, or
+    /// PENDING; NO_MEMORY: the decision had no memory. The answer stays once it isn't PENDING. Of
+    /// settings with a format that has no code, which is L8 alone, the image is all 0.
     pub fn mezulobu_collection_check(
         collection: *mut mezulobu_collection,
         settings: *mut mezulobu_settings,
     ) -> c_int;
-    /// The same, once it isn't PENDING; NO where it still is after so many milliseconds. Below 0 it waits as long as it takes; 0 doesn't
-    /// wait. It may be cancelled, and a thread that is holds no lock then. MISUSED: the handle was spent meanwhile.
+    /// The same, once it isn't PENDING; NO where it still is after so many milliseconds. Below 0 it
+    /// waits as long as it takes; 0 doesn't wait. It may be cancelled, and a thread that is holds no
+    /// lock then. MISUSED: the handle was spent meanwhile.
     pub fn mezulobu_collection_wait(
         collection: *mut mezulobu_collection,
         milliseconds: c_int,
         settings: *mut mezulobu_settings,
     ) -> c_int;
-    /// A file descriptor that polls as readable as soon as check isn't PENDING, and stays so; -1 where the system gives none, or the
-    /// handle is misused. Don't read, write or close it: it is the collection's, which closes it when it is spent. So take it out of a
-    /// set of epoll before that.
+    /// A file descriptor that polls as readable as soon as check isn't PENDING, and stays so; -1 where
+    /// the system gives none, or the handle is misused. Don't read, write or close it: it is the
+    /// collection's, which closes it when it is spent. So take it out of a set of epoll before that.
     pub fn mezulobu_collection_fd(
         collection: *mut mezulobu_collection,
     ) -> c_int;
-    /// Names a node, in scripts and explanations, which else call it `n` and its number: 1 to 32 letters, digits, '_' or '-', and a 0.
-    /// The first node of all is always `root`. MISUSED: of that one, another name than these, `root`, `n` with digits, or a name that
-    /// another node of the collection has. NO_MEMORY. A further name takes the place of the one before.
+    /// Names a node, in scripts and explanations, which else call it `n` and its number: 1 to 32
+    /// letters, digits, '_' or '-', and a 0. The first node of all is always `root`. MISUSED: of that
+    /// one, another name than these, `root`, `n` with digits, or a name that another node of the
+    /// collection has. NO_MEMORY. A further name takes the place of the one before.
     pub fn mezulobu_token_set_name(
         token: *mut mezulobu_token,
         name: *const c_char,
@@ -541,7 +584,8 @@ extern "C" {
         collection: *mut mezulobu_collection,
         name: *const c_char,
     ) -> c_int;
-    /// The number of the collection's node: 0 is the first token of all, and each call that makes one takes the next.
+    /// The number of the collection's node: 0 is the first token of all, and each call that makes one
+    /// takes the next.
     pub fn mezulobu_collection_node(
         collection: *mut mezulobu_collection,
         node: *mut u32,
@@ -553,27 +597,31 @@ extern "C" {
         name: *mut c_char,
         name_size: *mut usize,
     ) -> c_int;
-    /// Which alternatives were chosen: of each group that is selected itself, in the order of the tree, each node before its children,
-    /// the number of its child, counted from 0. n goes in as the room of choices and comes out as their number: 0 without groups.
-    /// DONE; TOO_SMALL; else as check of a collection that is selected.
+    /// Which alternatives were chosen: of each group that is selected itself, in the order of the tree,
+    /// each node before its children, the number of its child, counted from 0. n goes in as the room of
+    /// choices and comes out as their number: 0 without groups. DONE; TOO_SMALL; else as check of a
+    /// collection that is selected.
     pub fn mezulobu_collection_selection(
         collection: *mut mezulobu_collection,
         choices: *mut u8,
         n: *mut usize,
     ) -> c_int;
-    /// Who is in the way, where check says INTERSECTION_EMPTY of a domain without groups that isn't attached. DONE: why, as a
-    /// negotiation of its participants has it, in the order in which their nodes were made, but that **who is the number of a node**. NO:
-    /// it isn't so, and mezulobu_collection_explain tells more. NO_MEMORY.
+    /// Who is in the way, where check says INTERSECTION_EMPTY of a domain without groups that isn't
+    /// attached. DONE: why, as a negotiation of its participants has it, in the order in which their
+    /// nodes were made, but that **who is the number of a node**. NO: it isn't so, and
+    /// mezulobu_collection_explain tells more. NO_MEMORY.
     pub fn mezulobu_collection_refusal(
         collection: *mut mezulobu_collection,
         why: *mut mezulobu_refusal,
     ) -> c_int;
-    /// All calls of the whole collection that were done so far, as a script, and what proves its decisions; texts as above, and
-    /// certificate and certificate_size may be null. Both are of one moment. mezulobu_run accepts each of its calls and decides the
-    /// same, which is tried before it is handed out, so this takes what the decisions took; mezulobu_check says yes to the certificate.
-    /// REFUSED: there is no such script, since a decision had no memory, or it would be longer than a script may be; each size is 0. What
-    /// isn't in it: calls that were refused, check and wait. Of two scripts the later one begins with the calls of the earlier one, under
-    /// the names of its own moment.
+    /// All calls of the whole collection that were done so far, as a script, and what proves its
+    /// decisions; texts as above, and certificate and certificate_size may be null. Both are of one
+    /// moment. mezulobu_run accepts each of its calls and decides the same, which is tried before it is
+    /// handed out, so this takes what the decisions took; mezulobu_check says yes to the certificate.
+    /// REFUSED: there is no such script, since a decision had no memory, or it would be longer than a
+    /// script may be; each size is 0. What isn't in it: calls that were refused, check and wait. Of two
+    /// scripts the later one begins with the calls of the earlier one, under the names of its own
+    /// moment.
     pub fn mezulobu_collection_script(
         collection: *mut mezulobu_collection,
         text: *mut c_char,
@@ -581,8 +629,9 @@ extern "C" {
         certificate: *mut c_void,
         certificate_size: *mut usize,
     ) -> c_int;
-    /// mezulobu_explain of the script, and mezulobu_explain_json, with "collection" for its file: who is awaited, what decided each
-    /// value, who is in the way and which changes help. REFUSED: there is no such script, and the size is 0.
+    /// mezulobu_explain of the script, and mezulobu_explain_json, with "collection" for its file: who is
+    /// awaited, what decided each value, who is in the way and which changes help. REFUSED: there is no
+    /// such script, and the size is 0.
     pub fn mezulobu_collection_explain(
         collection: *mut mezulobu_collection,
         text: *mut c_char,

@@ -106,7 +106,8 @@ pub struct Platform {
     pub colors: Vec<Color>,
 }
 
-/// One image format that a participant takes, and its bounds on such images.
+/// One image format that a participant takes, and its bounds on such images. Behind a field stands the
+/// name that scripts, refusals and explanations have for it, where it is another.
 #[derive(Clone, Debug, PartialEq, Eq)]
 pub struct Entry {
     /// `None` is any.
@@ -115,19 +116,25 @@ pub struct Entry {
     pub modifier: Option<u64>,
     /// A set, not empty.
     pub colors: Color,
+    /// `require_bytes_per_row_at_pixel_boundary`.
     pub rows_end_at_pixels: bool,
     pub min_size: Size,
+    /// With all that alignments add, those of others too: who has one mode alone states it as `min_size`.
     pub max_size: Size,
     pub size_alignment: Size,
-    /// In bytes.
+    /// Of a row, in bytes: `min_bytes_per_row`.
     pub min_pitch: u32,
+    /// `max_bytes_per_row`.
     pub max_pitch: u32,
+    /// `bytes_per_row_divisor`.
     pub pitch_divisor: u32,
+    /// `start_offset_divisor`.
     pub offset_divisor: u32,
     pub display_rect_alignment: Size,
     /// Of what the participant will put into the images: all have to take such images.
     pub required_min_size: Size,
     pub required_max_size: Size,
+    /// `max_width_times_height`.
     pub max_pixels: u64,
 }
 
@@ -177,30 +184,37 @@ impl Entry {
     }
 }
 
-/// What a participant asks for. Without entries it takes every offer.
+/// What a participant asks for. Without entries it takes every offer. Behind a field stands the name
+/// that scripts, refusals and explanations have for it.
 #[derive(Clone, Debug, Default, PartialEq, Eq)]
 pub struct Participant {
     pub usage: Usage,
-    /// What the heap must be.
+    /// What the heap must be: `physically_contiguous_required`.
     pub contiguous: bool,
+    /// `secure_required`.
     pub secure: bool,
-    /// The coherency domains that it takes; where none is true, cpu.
+    /// The coherency domains that it takes, and no other; where none is true, cpu. A script's record
+    /// takes cpu too, unless it says no. `cpu_domain_supported`.
     pub cpu: bool,
+    /// `ram_domain_supported`.
     pub ram: bool,
+    /// `inaccessible_domain_supported`.
     pub inaccessible: bool,
-    /// How many buffers it holds at one time; all are added.
+    /// How many buffers it holds at one time; all are added: `min_buffer_count_for_camping`.
     pub camping: u32,
-    /// More for itself alone; added too.
+    /// More for itself alone; added too: `min_buffer_count_for_dedicated_slack`.
     pub dedicated_slack: u32,
-    /// Spare ones for all; the greatest is added.
+    /// Spare ones for all; the greatest is added: `min_buffer_count_for_shared_slack`.
     pub shared_slack: u32,
-    /// How many there are in all.
+    /// How many there are in all: `min_buffer_count`.
     pub min_count: u32,
+    /// `max_buffer_count`.
     pub max_count: u32,
-    /// Of a buffer.
+    /// Of a buffer: `min_size_bytes`.
     pub min_bytes: u64,
+    /// `max_size_bytes`.
     pub max_bytes: u64,
-    /// Bit i: heap i is permitted; 0 permits each.
+    /// Bit i: heap i is permitted; 0 permits each. `permitted_heaps`.
     pub heaps: u64,
     pub entries: Vec<Entry>,
 }

@@ -7,7 +7,8 @@ codes! {
     Status(i32) {
         /// done; of a check: yes
         DONE = sys::MEZULOBU_DONE,
-        /// a null pointer where none may be, or a struct_size that this library doesn't know
+        /// a null pointer where none may be, or a struct_size that this library
+        /// doesn't know
         MISUSED = sys::MEZULOBU_MISUSED,
         /// the script or the certificate is refused, or a struct
         REFUSED = sys::MEZULOBU_REFUSED,
@@ -15,20 +16,24 @@ codes! {
         NO_MEMORY = sys::MEZULOBU_NO_MEMORY,
         /// a buffer is too small; each size says what is needed
         TOO_SMALL = sys::MEZULOBU_TOO_SMALL,
-        /// a check: no; a strict explanation: not all went well; a negotiation: no settings meet everybody;
-        /// a wait: nothing was decided in that time
+        /// a check: no; a strict explanation: not all went well; a negotiation:
+        /// no settings meet everybody; a wait: nothing was decided in that
+        /// time
         NO = sys::MEZULOBU_NO,
         /// E2: the handle isn't in a state that allows the call
         WRONG_STATE = sys::MEZULOBU_WRONG_STATE,
-        /// E3: more than 128 in one collection, those that are gone included
+        /// E3: more than 128 in one collection, those that are gone
+        /// included
         TOO_MANY_NODES = sys::MEZULOBU_TOO_MANY_NODES,
         /// E4: of all_children_present, of a group without a child
         NO_CHILDREN = sys::MEZULOBU_NO_CHILDREN,
         /// E5: another alternative was chosen
         NOT_SELECTED = sys::MEZULOBU_NOT_SELECTED,
-        /// E6: somebody closed too early, or what it was attached to has no settings
+        /// E6: somebody closed too early, or what it was attached to
+        /// has no settings
         DOMAIN_FAILED = sys::MEZULOBU_DOMAIN_FAILED,
-        /// E7: no settings meet everybody: mezulobu_collection_explain says who is in the way
+        /// E7: no settings meet everybody:
+        /// mezulobu_collection_explain says who is in the way
         INTERSECTION_EMPTY = sys::MEZULOBU_INTERSECTION_EMPTY,
         /// E8: more than 4,096 selections of alternatives
         TOO_MANY_SELECTIONS = sys::MEZULOBU_TOO_MANY_SELECTIONS,
