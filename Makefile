@@ -7,7 +7,7 @@ UNPROVED ?=
 # time beside fewer. A proof is made by one process, which takes about a third less than several.
 JOBS ?= $(shell awk -v n=$$(nproc) '/^MemAvailable/ { m = int($$2 / 4000000); n -= n > 3; print m < 1 ? 1 : m < n ? m : n }' /proc/meminfo)
 
-.PHONY: help needs build prove quick-test test built-test program-test lib lib-test install wrong-bodies \
+.PHONY: help needs build prove quick-test test built-test program-test lib lib-test install uninstall wrong-bodies \
 	shown-by-test threads-often live-often bench
 
 help:
@@ -103,6 +103,9 @@ lib:
 # Installs it with its header and its pkg-config file under PREFIX, in LIBDIR, and the program.
 install: lib
 	@$(MAKE) --no-print-directory -f c/lib.mk install
+
+uninstall: lib
+	@$(MAKE) --no-print-directory -f c/lib.mk uninstall
 
 # Tests of the library as installed (they need compilers of C and C++, Python and pkg-config).
 lib-test: | lib
