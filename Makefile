@@ -70,8 +70,8 @@ TESTS := $(OF_LIBRARY:%=tests/%) $(OF_PROGRAM:%=tests/%) $(OF_WORKBENCH:%=tests/
 ALONE := env -u MAKEFLAGS -u MFLAGS -u MAKELEVEL -u DESTDIR -u PREFIX -u LIBDIR
 
 .PHONY: $(OF_TEXT) $(TESTS)
-# The longest first.
-built-test: lib-test $(OF_TEXT) $(TESTS)
+# The longest first. Without proofs nobody builds the program that plays scripts through handles.
+built-test: lib-test $(OF_TEXT) $(if $(UNPROVED),$(filter-out $(OF_WORKBENCH:%=tests/%),$(TESTS)),$(TESTS))
 
 $(OF_TEXT):
 	@echo $@ && $(ALONE) $@ --check
