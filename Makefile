@@ -7,7 +7,7 @@ UNPROVED ?=
 # time beside fewer. A proof is made by one process, which takes about a third less than several.
 JOBS ?= $(shell awk -v n=$$(nproc) '/^MemAvailable/ { m = int($$2 / 4000000); n -= n > 3; print m < 1 ? 1 : m < n ? m : n }' /proc/meminfo)
 
-.PHONY: help needs build prove quick-test test built-test program-test lib lib-test install wrong-bodies \
+.PHONY: help needs build prove quick-test test built-test program-test lib lib-test install uninstall wrong-bodies \
 	shown-by-test threads-often live-often bench
 
 help:
@@ -70,8 +70,8 @@ TESTS := $(OF_LIBRARY:%=tests/%) $(OF_PROGRAM:%=tests/%) $(OF_WORKBENCH:%=tests/
 ALONE := env -u MAKEFLAGS -u MFLAGS -u MAKELEVEL -u DESTDIR -u PREFIX -u LIBDIR
 
 .PHONY: $(OF_TEXT) $(TESTS)
-# The longest first.
-built-test: lib-test $(OF_TEXT) $(TESTS)
+# The longest first. Without proofs nobody builds the program that plays scripts through handles.
+built-test: lib-test $(OF_TEXT) $(if $(UNPROVED),$(filter-out $(OF_WORKBENCH:%=tests/%),$(TESTS)),$(TESTS))
 
 $(OF_TEXT):
 	@echo $@ && $(ALONE) $@ --check
@@ -103,6 +103,9 @@ lib:
 # Installs it with its header and its pkg-config file under PREFIX, in LIBDIR, and the program.
 install: lib
 	@$(MAKE) --no-print-directory -f c/lib.mk install
+
+uninstall: lib
+	@$(MAKE) --no-print-directory -f c/lib.mk uninstall
 
 # Tests of the library as installed (they need compilers of C and C++, Python and pkg-config).
 lib-test: | lib

@@ -19,7 +19,7 @@ NAMED_LIB := $(patsubst $(PREFIX)/%,$${prefix}/%,$(LIBDIR))
 # As in the header: major and minor number.
 VERSION := $(shell awk '/define MEZULOBU_VERSION/ { v = substr($$3, 3, 8); print substr(v, 1, 4) + 0 "." substr(v, 5, 4) + 0 }' c/mezulobu.h)
 
-.PHONY: library install
+.PHONY: library install uninstall
 .DELETE_ON_ERROR:
 
 library: $(OUT)/libmezulobu.a $(OUT)/libmezulobu.so.1
@@ -58,3 +58,10 @@ install: library
 		c/mezulobu.pc.in > $(LIB)/pkgconfig/mezulobu.pc
 	@$(MAKE) --no-print-directory -f packaging/install.mk beside
 	@$(if $(UNPROVED),echo 'install: this program and this library are built without proofs' >&2)
+
+# Takes away what an installation now would put there, and folders of this name that are empty then.
+uninstall:
+	@set -e; room=$$(mktemp -d); trap 'rm -rf "$$room"' EXIT; \
+	$(MAKE) -s -f c/lib.mk install DESTDIR="$$room" 2>/dev/null; cd "$$room"; \
+	find . ! -type d | while read -r file; do rm -f "$(DESTDIR)$${file#.}"; done; \
+	find . -depth -type d -ipath '*mezulobu*' | while read -r folder; do rmdir "$(DESTDIR)$${folder#.}"; done
