@@ -1,5 +1,5 @@
 // zero_copy: cameras fill, by dma-buf, the very buffers that a display scans out. Each driver has a
-// thread of its own, with a token of one collection: it binds that, says what its device takes, and
+// thread of its own, and a token of one collection: it binds that, says what its device takes, and
 // waits for the settings. The display makes the buffers, as dumb ones, so the platform is what it
 // takes; the cameras fill them in turn, and each picture is read back and shown. Where nothing is
 // decided the collection explains why. Where a driver takes something else than was settled, its
@@ -178,18 +178,22 @@ static const char *trouble_of(int status, const struct mezulobu_device *told)
     return told->trouble ? mezulobu_trouble_text(told->trouble) : mezulobu_status_name(status);
 }
 
-// Takes part: says what the device takes. The answer comes later.
-static bool state(struct seat *seat, const struct mezulobu_participant *asked)
+static int bind_token(struct seat *seat)
+{
+    return mezulobu_token_bind(&seat->token, &seat->collection);
+}
+
+// Says what the device takes; the status. Where another has called all off, that one has said why.
+static int state(struct seat *seat, const struct mezulobu_participant *asked)
 {
     struct mezulobu_refusal why = {.struct_size = sizeof why};
-    int status = mezulobu_token_bind(&seat->token, &seat->collection);
-    if (status == MEZULOBU_DONE)
-        status = mezulobu_collection_set_constraints(seat->collection, asked, &why);
+    int status = mezulobu_collection_set_constraints(seat->collection, asked, &why);
     if (status == MEZULOBU_REFUSED)
-        return fail(seat->with, "%s: its record states no %s that could be meant", path_of(seat),
-                    mezulobu_field_name(why.field));
-    return status == MEZULOBU_DONE
-        || fail(seat->with, "%s: %s", path_of(seat), mezulobu_status_name(status));
+        fail(seat->with, "%s: its record states no %s that could be meant", path_of(seat),
+             mezulobu_field_name(why.field));
+    else if (status != MEZULOBU_DONE && status != MEZULOBU_DOMAIN_FAILED)
+        fail(seat->with, "%s: %s", path_of(seat), mezulobu_status_name(status));
+    return status;
 }
 
 // Leaves the collection. Before the decision that calls the whole negotiation off.
@@ -267,9 +271,11 @@ static bool join_camera(struct camera *c)
     int status = mezulobu_v4l2_participant(c->fd, MEZULOBU_QUEUE_CAPTURE, s->asked.size, &told);
     if (status != MEZULOBU_DONE)
         return fail(s, "%s: %s", c->path, trouble_of(status, &told));
-    if (!state(c->seat, &told.participant))
-        return false;
-    status = mezulobu_collection_wait(c->seat->collection, -1, &c->seat->settings);
+    status = bind_token(c->seat);
+    if (status == MEZULOBU_DONE)
+        status = state(c->seat, &told.participant);
+    if (status == MEZULOBU_DONE)
+        status = mezulobu_collection_wait(c->seat->collection, -1, &c->seat->settings);
     return status == MEZULOBU_DONE; // else the display says why
 }
 
@@ -651,9 +657,9 @@ static bool join_display(struct seat *seat)
 {
     const struct mezulobu_settings *told = &seat->settings;
     const struct mezulobu_image *image = &told->image;
-    if (!state(seat, &seat->with->display.asked))
-        return false;
-    int status = awaited(seat);
+    int status = state(seat, &seat->with->display.asked);
+    if (status == MEZULOBU_DONE)
+        status = awaited(seat);
     if (status != MEZULOBU_DONE) {
         fail(seat->with, "nothing is settled: %s", mezulobu_status_name(status));
         explain(seat->collection);
@@ -696,7 +702,8 @@ static bool make_allocator(struct sharing *s, struct mezulobu_allocator **made)
     return status == MEZULOBU_DONE || fail(s, "no allocator: %s", mezulobu_status_name(status));
 }
 
-// A token for each driver, with a name for explanations.
+// A token for each driver, with a name for explanations. The display's is bound before any thread
+// is there, so that it can explain whatever becomes of the collection.
 static bool hand_out(struct sharing *s, struct mezulobu_allocator *allocator)
 {
     struct mezulobu_token *root = NULL;
@@ -711,6 +718,8 @@ static bool hand_out(struct sharing *s, struct mezulobu_allocator *allocator)
         if (status == MEZULOBU_DONE)
             status = mezulobu_token_set_name(seat->token, name);
     }
+    if (status == MEZULOBU_DONE)
+        status = bind_token(&s->seats[s->asked.n_cameras]);
     if (root)
         mezulobu_token_release(&root); // nobody else comes
     return status == MEZULOBU_DONE || fail(s, "no tokens: %s", mezulobu_status_name(status));
