@@ -58,7 +58,7 @@ OF_TEXT := docs/columns docs/definitions docs/schema
 OF_PROGRAM := names schema reports json_reports refusals records values every_selection orders \
 	launcher certificates checks failing_files want_of_memory threads explanations \
 	json_explanations
-OF_WORKBENCH := handles
+OF_WORKBENCH := handles written_records
 
 OF_LIBRARY := live
 TESTS := $(OF_LIBRARY:%=tests/%) $(OF_PROGRAM:%=tests/%) $(OF_WORKBENCH:%=tests/%)
