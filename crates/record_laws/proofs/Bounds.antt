@@ -26,41 +26,41 @@ number_stated at greatest n small = passes _ (λ n. nat_le n greatest) n (up_to 
 is_one : (n : ℕ) → 1 ≤ n → n ≤ most_multiple → is_multiple n ≡ true
 is_one n some small = search (rules, tests)
 
-some_stated : (at : Field) (n : ℕ) → 1 ≤ n → n ≤ most_number → some_number at (natural n) ≡ Ok n
+pub some_stated : (at : Field) (n : ℕ) → 1 ≤ n → n ≤ most_number → some_number at (natural n) ≡ Ok n
 some_stated at n some small = next (number_up_to at most_number (natural n)) n _ (Ok n) (number_stated at most_number n small) (ap Ok (max_one n some))
 
-multiple_stated : (at : Field) (n : ℕ) → 1 ≤ n → n ≤ most_multiple → multiple at (natural n) ≡ Ok n
+pub multiple_stated : (at : Field) (n : ℕ) → 1 ≤ n → n ≤ most_multiple → multiple at (natural n) ≡ Ok n
 multiple_stated at n some small =
     next (number_up_to at (2 ^ 64 - 1) (natural n)) n _ (Ok n) (number_stated at (2 ^ 64 - 1) n (omega arith)) (passes _ is_multiple n (is_one n some small))
 
-large_stated : (at : Field) (n : ℕ) → 1 ≤ n → n ≤ most_large → large_number at (natural n) ≡ Ok n
+pub large_stated : (at : Field) (n : ℕ) → 1 ≤ n → n ≤ most_large → large_number at (natural n) ≡ Ok n
 large_stated at n some small =
     next (number_up_to at (2 ^ 64 - 1) (natural n)) n _ (Ok n) (number_stated at (2 ^ 64 - 1) n small) (passes _ (λ n. nat_le 1 n) n (up_to 1 n some))
 
-size_stated : (at : Field) (greatest : ℕ) (s : Size) → s.width ≤ greatest → s.height ≤ greatest → size_to at greatest (size_record s) ≡ Ok s
+pub size_stated : (at : Field) (greatest : ℕ) (s : Size) → s.width ≤ greatest → s.height ≤ greatest → size_to at greatest (size_record s) ≡ Ok s
 size_stated at greatest s wide high =
     next (number_up_to at greatest (natural s.width)) s.width _ (Ok s) (number_stated at greatest s.width wide)
     (next (number_up_to at greatest (natural s.height)) s.height _ (Ok s) (number_stated at greatest s.height high) refl)
 
-some_size_stated : (at : Field) (s : Size) → 1 ≤ s.width → 1 ≤ s.height → s.width ≤ most_number → s.height ≤ most_number → some_size at (size_record s) ≡ Ok s
+pub some_size_stated : (at : Field) (s : Size) → 1 ≤ s.width → 1 ≤ s.height → s.width ≤ most_number → s.height ≤ most_number → some_size at (size_record s) ≡ Ok s
 some_size_stated at s some_width some_height wide high =
     next (any_size at (size_record s)) s _ (Ok s) (size_stated at most_number s wide high) (ap Ok (sides_same s some_width some_height))
 
 both : (a b : ℕ) → is_multiple a ≡ true → is_multiple b ≡ true → (is_multiple a && is_multiple b) ≡ true
 both a b h k = ap (λ t. t && is_multiple b) h ∙ k
 
-multiple_size_stated : (at : Field) (s : Size) → 1 ≤ s.width → 1 ≤ s.height → s.width ≤ most_multiple → s.height ≤ most_multiple → multiple_size at (size_record s) ≡ Ok s
+pub multiple_size_stated : (at : Field) (s : Size) → 1 ≤ s.width → 1 ≤ s.height → s.width ≤ most_multiple → s.height ≤ most_multiple → multiple_size at (size_record s) ≡ Ok s
 multiple_size_stated at s some_width some_height wide high =
     next (size_to at (2 ^ 64 - 1) (size_record s)) s _ (Ok s) (size_stated at (2 ^ 64 - 1) s (omega arith) (omega arith))
     (passes _ (λ size. is_multiple size.width && is_multiple size.height) s (both s.width s.height (is_one s.width some_width wide) (is_one s.height some_height high)))
 
 -- a list of fields of which each is stated
-each_field : (fs : List Bound) (d : Data) (v : Bound → Size) → ((f : Bound) → stated_in f d ≡ Ok (v f)) → stated_each fs d ≡ Ok (map v fs)
+pub each_field : (fs : List Bound) (d : Data) (v : Bound → Size) → ((f : Bound) → stated_in f d ≡ Ok (v f)) → stated_each fs d ≡ Ok (map v fs)
 each_field [] d v states = refl
 each_field (f ∷ fs) d v states =
     next (stated_in f d) (v f) _ (Ok (map v (f ∷ fs))) (states f) (next (stated_each fs d) (map v fs) _ (Ok (map v (f ∷ fs))) (each_field fs d v states) refl)
 
-as_number : (n : ℕ) (r : Result ℕ Fault) → r ≡ Ok n → (r >>= λ n. Ok (square n)) ≡ Ok (square n)
+pub as_number : (n : ℕ) (r : Result ℕ Fault) → r ≡ Ok n → (r >>= λ n. Ok (square n)) ≡ Ok (square n)
 as_number n r is = next r n (λ n. Ok (square n)) (Ok (square n)) is refl
 
 field_stated : (e : Entry) → IsEntry e → IsInRange e.bounds.asked → (f : Bound) → stated_in f (entry_record e) ≡ Ok (sides_of e.bounds.asked f)

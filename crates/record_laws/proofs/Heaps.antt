@@ -1,7 +1,7 @@
 -- The records of heaps state them.
 use Rattle.std.proofs.Common.{◌≡◌, ℕ, ◌≤◌, ◌==◌, Bool, true, false, ◌||◌, List, [], ◌∷◌, ◌++◌, length, None, Ok, refl}
 use Rattle.std.specs.Prelude.{All, AllPairs, nat_le, nat_lt, not}
-use Rattle.serde_json.specs.Data.{string, array, no_items}
+use Rattle.serde_json.specs.Data.{Data, string, array, no_items}
 use Rattle.sysmem_counts.specs.declared.field.Field.TheVariants as field
 use Rattle.sysmem_memory.specs.declared.domain.CoherencyDomain.TheVariants.{Cpu, Ram, Inaccessible}
 use Rattle.sysmem_memory.specs.Domain.{domain_name}
@@ -16,7 +16,7 @@ use Rattle.record_laws.specs.Ranges.{most_large, IsHeapId}
 use Rattle.record_laws.specs.Records.{list, item_if, heap_name_record, heap_record}
 use Rattle.record_laws.proofs.Each.{passes, next, each_stated, item_has, has_room, none_before, not_empty, up_to, refused_not}
 
-domains_by : (cpu ram inaccessible : Bool) → (cpu || ram || inaccessible) ≡ true
+pub domains_by : (cpu ram inaccessible : Bool) → (cpu || ram || inaccessible) ≡ true
     → domains_of (array (item_if cpu (string (domain_name Cpu)) (item_if ram (string (domain_name Ram)) (item_if inaccessible (string (domain_name Inaccessible)) no_items))))
     ≡ Ok (record { cpu = cpu; ram = ram; inaccessible = inaccessible })
 unfolding domain_named
@@ -29,7 +29,7 @@ domains_by false true false some = refl
 domains_by false false true some = refl
 domains_by false false false some = absurd (cc)
 
-type_stated : (text : List ℕ) → is_heap_type text ≡ true → heap_type_of None (string text) ≡ Ok text
+pub type_stated : (text : List ℕ) → is_heap_type text ≡ true → heap_type_of None (string text) ≡ Ok text
 type_stated text typed = next (passing (wrong code.WrongKind field.HeapType) is_heap_type text) text (kept None field.HeapType) (Ok text) (passes _ is_heap_type text typed) refl
 
 -- the name of a permitted heap
@@ -48,24 +48,34 @@ heap_stated h is small =
     (next (passing (wrong code.WrongKind field.Id) (λ n. nat_le n most_large) h.heap.id) h.heap.id _ (Ok h.heap) (passes _ (λ n. nat_le n most_large) h.heap.id (up_to h.heap.id most_large small)) refl))
     (next (required field.Domains domains_of (heap_record h)) h.domains _ (Ok h) (domains_by h.domains.cpu h.domains.ram h.domains.inaccessible is.1) refl)
 
--- a list of permitted heaps
-pub permitted_list : (hs : List HeapName) → length hs ≤ 64 → AllPairs (λ a b. same_heap a b ≡ false) hs → All IsHeapName hs → All IsHeapId hs
-    → permitted_of None (list heap_name_record hs) ≡ Ok hs
-permitted_list hs few distinct each small =
-    each_stated heap_name_record (with_permitted None) hs (λ front back h is.
-    next (permitted_heap None (heap_name_record h)) h _ (Ok (front ++ h ∷ [])) (permitted_stated h (item_has IsHeapName hs front back h is each) (item_has IsHeapId hs front back h is small))
+-- a list of permitted heaps, each of them stated so
+pub permitted_by : (state : HeapName → Data) (hs : List HeapName) → length hs ≤ 64 → AllPairs (λ a b. same_heap a b ≡ false) hs
+    → ((front back : List HeapName) (h : HeapName) → front ++ h ∷ back ≡ hs → permitted_heap None (state h) ≡ Ok h) → permitted_of None (list state hs) ≡ Ok hs
+permitted_by state hs few distinct reads =
+    each_stated state (with_permitted None) hs (λ front back h is.
+    next (permitted_heap None (state h)) h _ (Ok (front ++ h ∷ [])) (reads front back h is)
     (next (passing (wrong code.TooMany field.PermittedHeaps) (λ _. nat_lt (length front) 64) h) h _ (Ok (front ++ h ∷ [])) (passes _ (λ _. nat_lt (length front) 64) h (has_room hs front back h is few))
     (next (passing (wrong code.RepeatedHeap field.PermittedHeaps) (λ heap. not (has_permitted front heap)) h) h _ (Ok (front ++ h ∷ []))
     (passes _ (λ heap. not (has_permitted front heap)) h (refused_not _ (none_before (λ a b. same_heap a b ≡ false) same_heap (λ a b e. e) hs front back h is distinct))) refl))) [] hs refl
 
--- a list of a platform's heaps
-pub heaps_list : (hs : List HeapFacts) → 1 ≤ length hs → length hs ≤ 64 → AllPairs (λ a b. same_heap a.heap b.heap ≡ false) hs → All IsHeap hs → All (λ h. IsHeapId h.heap) hs
-    → heaps_of None (list heap_record hs) ≡ Ok hs
-heaps_list hs some few distinct each small =
+pub permitted_list : (hs : List HeapName) → length hs ≤ 64 → AllPairs (λ a b. same_heap a b ≡ false) hs → All IsHeapName hs → All IsHeapId hs
+    → permitted_of None (list heap_name_record hs) ≡ Ok hs
+permitted_list hs few distinct each small =
+    permitted_by heap_name_record hs few distinct (λ front back h is. permitted_stated h (item_has IsHeapName hs front back h is each) (item_has IsHeapId hs front back h is small))
+
+-- a list of a platform's heaps, each of them stated so
+pub heaps_by : (state : HeapFacts → Data) (hs : List HeapFacts) → 1 ≤ length hs → length hs ≤ 64 → AllPairs (λ a b. same_heap a.heap b.heap ≡ false) hs
+    → ((front back : List HeapFacts) (h : HeapFacts) → front ++ h ∷ back ≡ hs → heap_of None (state h) ≡ Ok h) → heaps_of None (list state hs) ≡ Ok hs
+heaps_by state hs some few distinct reads =
     next (read_each (with_heap None) [] _) hs _ (Ok hs)
-    (each_stated heap_record (with_heap None) hs (λ front back h is.
-    next (heap_of None (heap_record h)) h _ (Ok (front ++ h ∷ [])) (heap_stated h (item_has IsHeap hs front back h is each) (item_has (λ h. IsHeapId h.heap) hs front back h is small))
+    (each_stated state (with_heap None) hs (λ front back h is.
+    next (heap_of None (state h)) h _ (Ok (front ++ h ∷ [])) (reads front back h is)
     (next (passing (wrong code.TooMany field.Heaps) (λ _. nat_lt (length front) 64) h) h _ (Ok (front ++ h ∷ [])) (passes _ (λ _. nat_lt (length front) 64) h (has_room hs front back h is few))
     (next (passing (wrong code.BadPlatformList field.Heaps) (λ heap. not (has_heap front heap)) h) h _ (Ok (front ++ h ∷ []))
     (passes _ (λ heap. not (has_heap front heap)) h (refused_not _ (none_before (λ a b. same_heap a.heap b.heap ≡ false) (λ a b. same_heap a.heap b.heap) (λ a b e. e) hs front back h is distinct))) refl))) [] hs refl)
     (passes _ (λ hs. not (length hs == 0)) hs (not_empty hs some))
+
+pub heaps_list : (hs : List HeapFacts) → 1 ≤ length hs → length hs ≤ 64 → AllPairs (λ a b. same_heap a.heap b.heap ≡ false) hs → All IsHeap hs → All (λ h. IsHeapId h.heap) hs
+    → heaps_of None (list heap_record hs) ≡ Ok hs
+heaps_list hs some few distinct each small =
+    heaps_by heap_record hs some few distinct (λ front back h is. heap_stated h (item_has IsHeap hs front back h is each) (item_has (λ h. IsHeapId h.heap) hs front back h is small))

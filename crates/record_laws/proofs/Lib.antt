@@ -5,5 +5,10 @@ mod Heaps
 mod Names
 mod Participants
 mod Platforms
+mod Said
 mod Usages
 mod Wants
+mod WrittenEntries
+mod WrittenHeaps
+mod WrittenParticipants
+mod WrittenPlatforms

@@ -1,7 +1,7 @@
 -- The record of a participant states it.
 use Rattle.std.proofs.Common.{◌≡◌, ℕ, ◌+◌, ◌≤◌, ◌-◌, ◌^◌, ◌&&◌, ◌||◌, Bool, true, false, not, List, [], ◌∷◌, ◌++◌, length, Option, Some, None, Ok, refl, ap, rules, tests, Decides}
 use Rattle.std.specs.Prelude.{All, AllPairs, nat_lt}
-use Rattle.serde_json.specs.Data.{array}
+use Rattle.serde_json.specs.Data.{Data, array}
 use Rattle.sysmem_counts.specs.declared.field.Field.TheVariants as field
 use Rattle.sysmem_formats.specs.declared.modifier.Modifier.{Modifier}
 use Rattle.sysmem_formats.specs.declared.offer.Pair.{Pair}
@@ -67,7 +67,7 @@ asked_stated e =
     next (named (choice_named format_named) field.PixelFormat (choice format_name e.format)) e.format _ (Ok (pair_asked e)) (format_choice field.PixelFormat e.format)
     (next (named (choice_named modifier_named) field.PixelFormatModifier (choice modifier_name e.modifier)) e.modifier _ (Ok (pair_asked e)) (modifier_choice field.PixelFormatModifier e.modifier) refl)
 
-pair_stated : (front : List Entry) (e : Entry) → IsEntry e → nat_lt (length front) 64 ≡ true → is_asked_already front (pair_asked e) ≡ false
+pub pair_stated : (front : List Entry) (e : Entry) → IsEntry e → nat_lt (length front) 64 ≡ true → is_asked_already front (pair_asked e) ≡ false
     → with_asked None field.PixelFormat front [] (pair_asked e) ≡ Ok (pair_asked e ∷ [])
 pair_stated front e is room new =
     next (passing (wrong code.TiledMisfit field.PixelFormat) (λ pair. not (asks_misfit pair.format pair.modifier)) (pair_asked e)) (pair_asked e) _ (Ok (pair_asked e ∷ []))
@@ -87,10 +87,13 @@ entry_stated front e is small room new =
     (next (colour_set_of (array (colour_items e.colours))) e.colours _ (Ok (front ++ e ∷ [])) (colour_set_stated e.colours is.some_colours)
     (next (bounds_of (entry_record e)) e.bounds _ (Ok (front ++ e ∷ [])) (bounds_stated e is small) refl))
 
-entries_list : (es : List Entry) → length es ≤ 64 → AllPairs AreApart es → All IsEntry es → All (λ e. IsInRange e.bounds.asked) es → entries_of None (list entry_record es) ≡ Ok es
-entries_list es few distinct each small =
-    each_stated entry_record (with_entry None) es (λ front back e is.
-    entry_stated front e (item_has IsEntry es front back e is each) (item_has (λ e. IsInRange e.bounds.asked) es front back e is small) (has_room es front back e is few)
+-- a list of entries, each of them stated so
+pub entries_by : (state : Entry → Data) (es : List Entry) → length es ≤ 64 → AllPairs AreApart es → All IsEntry es → All (λ e. IsInRange e.bounds.asked) es
+    → ((front : List Entry) (e : Entry) → IsEntry e → IsInRange e.bounds.asked → nat_lt (length front) 64 ≡ true → is_asked_already front (pair_asked e) ≡ false → with_entry None front (state e) ≡ Ok (front ++ e ∷ []))
+    → entries_of None (list state es) ≡ Ok es
+entries_by state es few distinct each small reads =
+    each_stated state (with_entry None) es (λ front back e is.
+    reads front e (item_has IsEntry es front back e is each) (item_has (λ e. IsInRange e.bounds.asked) es front back e is small) (has_room es front back e is few)
     (none_before AreApart (λ a b. same_asked (pair_asked a) (pair_asked b)) not_same es front back e is distinct)) [] es refl
 
 counts_stated : (p : Participant) → AreCounts p.counts → counts_of (participant_record p) ≡ Ok p.counts
@@ -108,4 +111,4 @@ participant_stated p is small =
     next (usage_of (usage_record p.usage)) p.usage _ (Ok p) (usage_stated p.usage is.families)
     (next (counts_of (participant_record p)) p.counts _ (Ok p) (counts_stated p small.counts)
     (next (memory_of None (memory_record p.memory)) p.memory _ (Ok p) (memory_stated p.memory small.memory is.few_heaps is.distinct_heaps is.each_heap)
-    (next (entries_of None (list entry_record p.entries)) p.entries _ (Ok p) (entries_list p.entries is.few_entries is.distinct_entries is.each_entry small.bounds) refl)))
+    (next (entries_of None (list entry_record p.entries)) p.entries _ (Ok p) (entries_by entry_record p.entries is.few_entries is.distinct_entries is.each_entry small.bounds entry_stated) refl)))

@@ -6,7 +6,7 @@ use Rattle.sysmem_formats.specs.declared.colour_space.ColourSpace.{ColourSpace}
 use Rattle.sysmem_formats.specs.declared.offer.Pair.{Pair}
 use Rattle.sysmem_formats.specs.Layout.{IsTiledMisfit}
 use Rattle.sysmem_formats.specs.Names.{format_name, modifier_name, colour_name}
-use Rattle.serde_json.specs.Data.{string}
+use Rattle.serde_json.specs.Data.{Data, string}
 use Rattle.record_reading.specs.declared.fault.Code.TheVariants as code
 use Rattle.record_reading.specs.Faults.{wrong}
 use Rattle.record_reading.specs.Reading.Fields.{is_key_of, named, passing, read_each}
@@ -46,17 +46,19 @@ pair_stated p =
     next (named format_named field.PixelFormat (string (format_name p.format))) p.format _ (Ok p) (named_stated format_named field.PixelFormat (format_name p.format) p.format (own_format_name p.format))
     (next (named modifier_named field.PixelFormatModifier (string (modifier_name p.modifier))) p.modifier _ (Ok p) (named_stated modifier_named field.PixelFormatModifier (modifier_name p.modifier) p.modifier (own_modifier_name p.modifier)) refl)
 
-pairs_list : (ps : List Pair) → 1 ≤ length ps → AllPairs (λ a b. a ≢ b) ps → All (λ p. IsTiledMisfit p → ⊥) ps → pairs_of None (list pair_record ps) ≡ Ok ps
-pairs_list ps some distinct fits =
+-- a list of pairs, each of them stated so
+pub pairs_by : (state : Pair → Data) (ps : List Pair) → 1 ≤ length ps → AllPairs (λ a b. a ≢ b) ps → All (λ p. IsTiledMisfit p → ⊥) ps
+    → ((p : Pair) → pair_of (state p) ≡ Ok p) → pairs_of None (list state ps) ≡ Ok ps
+pairs_by state ps some distinct fits reads =
     next (read_each (with_pair None) [] _) ps _ (Ok ps)
-    (each_stated pair_record (with_pair None) ps (λ front back p is.
-    next (pair_of (pair_record p)) p _ (Ok (front ++ p ∷ [])) (pair_stated p)
+    (each_stated state (with_pair None) ps (λ front back p is.
+    next (pair_of (state p)) p _ (Ok (front ++ p ∷ [])) (reads p)
     (next (passing (wrong code.TiledMisfit field.Pairs) (λ pair. not (is_tiled_misfit pair)) p) p _ (Ok (front ++ p ∷ [])) (passes _ (λ pair. not (is_tiled_misfit pair)) p (refused_not _ (no_misfit p (item_has (λ p. IsTiledMisfit p → ⊥) ps front back p is fits))))
     (next (passing (wrong code.BadPlatformList field.Pairs) (λ pair. not (has_pair front pair)) p) p _ (Ok (front ++ p ∷ []))
     (passes _ (λ pair. not (has_pair front pair)) p (refused_not _ (none_before (λ a b. a ≢ b) same_pair (λ a b differ. apart (same_pair a b) (a ≡ b) (pair_tells a b) differ) ps front back p is distinct))) refl))) [] ps refl)
     (passes _ (λ ps. not (length ps == 0)) ps (not_empty ps some))
 
-colours_list : (cs : List ColourSpace) → 1 ≤ length cs → AllPairs (λ a b. a ≢ b) cs → colours_of None (list colour_record cs) ≡ Ok cs
+pub colours_list : (cs : List ColourSpace) → 1 ≤ length cs → AllPairs (λ a b. a ≢ b) cs → colours_of None (list colour_record cs) ≡ Ok cs
 colours_list cs some distinct =
     next (read_each (with_new_colour None) [] _) cs _ (Ok cs)
     (each_stated colour_record (with_new_colour None) cs (λ front back c is.
@@ -69,5 +71,5 @@ pub platform_stated : EachPlatformIsStated
 unfolding is_key_of
 platform_stated p is small =
     next (heaps_of None (list heap_record p.heaps)) p.heaps _ (Ok p) (heaps_list p.heaps is.some_heaps is.few_heaps is.distinct_heaps is.each_heap small)
-    (next (pairs_of None (list pair_record p.pairs)) p.pairs _ (Ok p) (pairs_list p.pairs is.some_pairs is.distinct_pairs is.fitting_pairs)
+    (next (pairs_of None (list pair_record p.pairs)) p.pairs _ (Ok p) (pairs_by pair_record p.pairs is.some_pairs is.distinct_pairs is.fitting_pairs pair_stated)
     (next (colours_of None (list colour_record p.colours)) p.colours _ (Ok p) (colours_list p.colours is.some_colours is.distinct_colours) refl))

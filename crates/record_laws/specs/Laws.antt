@@ -11,6 +11,7 @@ use Rattle.record_reading.specs.Reading.{participant_of, participant_with}
 use Rattle.record_reading.specs.Reading.{platform_of, platform_with}
 use Rattle.record_laws.specs.Ranges.{IsParticipantInRange, IsPlatformInRange}
 use Rattle.record_laws.specs.Records.{participant_record, platform_record}
+use Rattle.record_laws.specs.Sparse.{participant_written, platform_written}
 
 -- all that a participant may ask can be stated: its record is taken, and states it
 abbrev pub EachParticipantIsStated : Type 0
@@ -21,6 +22,16 @@ EachParticipantIsStated = (p : Participant) → IsParticipant p.usage p.memory p
 abbrev pub EachPlatformIsStated : Type 0
 EachPlatformIsStated = (p : PlatformFacts) → IsPlatform p.heaps p.pairs p.colours
     → IsPlatformInRange p → platform_of (platform_record p) ≡ Ok p
+
+-- what is written of a participant is read as the participant
+abbrev pub WrittenParticipantIsRead : Type 0
+WrittenParticipantIsRead = (p : Participant) → IsParticipant p.usage p.memory p.entries
+    → IsParticipantInRange p → participant_of (participant_written p) ≡ Ok p
+
+-- what is written of a platform is read as the platform
+abbrev pub WrittenPlatformIsRead : Type 0
+WrittenPlatformIsRead = (p : PlatformFacts) → IsPlatform p.heaps p.pairs p.colours
+    → IsPlatformInRange p → platform_of (platform_written p) ≡ Ok p
 
 -- the answer is the same as with enough memory, or that memory was refused for the field
 abbrev pub IsOrWants : {A : Type 0} → Field → Result A Fault → Result A Fault → Type 0

@@ -33,7 +33,7 @@ impl Failure {
     fn words(self) -> &'static str {
         match self {
             Failure::Usage => {
-                "usage: workbench decisions FILE JOB[,..] [TIMES] | workbench handles FILE [JOB [TIMES]] | workbench rows"
+                "usage: workbench decisions FILE JOB[,..] [TIMES] | workbench handles FILE [JOB [TIMES]] | workbench records | workbench rows"
             }
             Failure::NoMemory => "memory is refused",
             Failure::Transfer => "a file, the input or the output fails",

@@ -5,6 +5,7 @@
 //!   once where no number is given (`decisions.rt`).
 //! - `handles FILE` plays a script through handles, and prints what they answer (`handles.rt`).
 //! - `handles FILE JOB TIMES` does a job of handles, so many times, or once.
+//! - `records` writes the records of standard input again (`records.rt`).
 //! - `rows` plays the lines of standard input on trees (`rows.rt`).
 //!
 //! One program has all, since each is read with all that it stands on for minutes before its own
@@ -14,11 +15,13 @@
 mod decisions;
 mod failure;
 mod handles;
+mod records;
 mod rows;
 
 use decisions::{read_again, repeat_jobs};
 use failure::Failure;
 use handles::{play_script, repeat_job};
+use records::write_records;
 use rows::play_rows;
 use script_reading::{parse_script, read_script};
 use std::sync::Wait;
@@ -41,6 +44,9 @@ fn obey<T: Threads + Wait + Clock + Sync>(
     words: &[String],
 ) -> Result<(), Failure> {
     let (part, file, job) = (word(words, 1), word(words, 2), word(words, 3));
+    if part == "records" {
+        return write_records(rt);
+    }
     if part == "rows" {
         return play_rows(rt);
     }

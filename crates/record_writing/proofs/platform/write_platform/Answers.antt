@@ -1,0 +1,7 @@
+-- What is written is read as what it was made of.
+use Rattle.std.proofs.Common.{ap, ◌∙◌}
+use Rattle.record_reading.specs.Reading.Platform.{platform_of}
+use Rattle.record_writing.proofs.platform.write_platform.Goals as goal
+
+pub returns-clause-read_back : goal.returns-clause-read_back
+returns-clause-read_back c = ap platform_of c.in_ok-value.ensures.written ∙ c.written_is_read.ensures.platforms c.args.platform.now c.in_ok-value.ensures.is c.in_ok-value.ensures.in_range
