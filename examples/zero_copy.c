@@ -37,9 +37,8 @@ struct asked {
     size_t n_cameras;
     struct mezulobu_size size;
     uint32_t format, pitch_divisor; // 0: any
-    // How many pictures of each camera are shown, on how many screens, and how many seconds the
-    // last one stays.
-    unsigned frames, screens, hold;
+    unsigned frames, screens; // how many pictures of each camera are shown, and on how many screens
+    unsigned hold;            // how many seconds the last one stays
 };
 
 struct buffer {
@@ -178,11 +177,6 @@ static const char *trouble_of(int status, const struct mezulobu_device *told)
     return told->trouble ? mezulobu_trouble_text(told->trouble) : mezulobu_status_name(status);
 }
 
-static int bind_token(struct seat *seat)
-{
-    return mezulobu_token_bind(&seat->token, &seat->collection);
-}
-
 // Says what the device takes; the status. Where another has called all off, that one has said why.
 static int state(struct seat *seat, const struct mezulobu_participant *asked)
 {
@@ -250,9 +244,13 @@ static int ask(int fd, unsigned long request, void *argument)
     return status;
 }
 
-static bool is_mplane(const struct camera *c)
+// In a queue of several planes a buffer has a list of them, here of one.
+static void put_plane(const struct camera *c, struct v4l2_buffer *b, struct v4l2_plane *plane)
 {
-    return c->type == V4L2_BUF_TYPE_VIDEO_CAPTURE_MPLANE;
+    if (c->type != V4L2_BUF_TYPE_VIDEO_CAPTURE_MPLANE)
+        return;
+    b->m.planes = plane;
+    b->length = 1;
 }
 
 // Asks the camera what it takes, states that, and waits for the settings.
@@ -271,7 +269,7 @@ static bool join_camera(struct camera *c)
     int status = mezulobu_v4l2_participant(c->fd, MEZULOBU_QUEUE_CAPTURE, s->asked.size, &told);
     if (status != MEZULOBU_DONE)
         return fail(s, "%s: %s", c->path, trouble_of(status, &told));
-    status = bind_token(c->seat);
+    status = mezulobu_token_bind(&c->seat->token, &c->seat->collection);
     if (status == MEZULOBU_DONE)
         status = state(c->seat, &told.participant);
     if (status == MEZULOBU_DONE)
@@ -309,10 +307,7 @@ static bool queue(struct camera *c, uint32_t buffer)
     struct v4l2_plane plane = {.m.fd = given->file, .length = (uint32_t)given->size};
     struct v4l2_buffer b = {.index = buffer, .type = c->type, .memory = V4L2_MEMORY_DMABUF,
                             .m.fd = given->file, .length = (uint32_t)given->size};
-    if (is_mplane(c)) {
-        b.m.planes = &plane;
-        b.length = 1;
-    }
+    put_plane(c, &b, &plane);
     if (ask(c->fd, VIDIOC_QBUF, &b))
         return fail_by_errno(c->seat->with, c->path, "VIDIOC_QBUF");
     c->n_queued++;
@@ -340,10 +335,7 @@ static bool dequeue(struct camera *c, uint32_t *buffer, bool *is_faulty)
 {
     struct v4l2_plane plane = {0};
     struct v4l2_buffer b = {.type = c->type, .memory = V4L2_MEMORY_DMABUF};
-    if (is_mplane(c)) {
-        b.m.planes = &plane;
-        b.length = 1;
-    }
+    put_plane(c, &b, &plane);
     if (!is_filled(c))
         return false;
     if (ask(c->fd, VIDIOC_DQBUF, &b))
@@ -381,20 +373,18 @@ static bool refill(struct camera *c)
     return c->n_queued;
 }
 
-static void capture(struct camera *c)
+static bool capture(struct camera *c)
 {
     uint32_t buffer = 0;
     bool is_faulty = false;
     if (!refill(c))
-        return;
-    if (ask(c->fd, VIDIOC_STREAMON, &c->type)) {
-        fail_by_errno(c->seat->with, c->path, "VIDIOC_STREAMON");
-        return;
-    }
+        return false;
+    if (ask(c->fd, VIDIOC_STREAMON, &c->type))
+        return fail_by_errno(c->seat->with, c->path, "VIDIOC_STREAMON");
     while (refill(c) && dequeue(c, &buffer, &is_faulty) && pass_on(c, buffer, is_faulty))
         ;
-    if (ask(c->fd, VIDIOC_STREAMOFF, &c->type))
-        fail_by_errno(c->seat->with, c->path, "VIDIOC_STREAMOFF");
+    return !ask(c->fd, VIDIOC_STREAMOFF, &c->type)
+        || fail_by_errno(c->seat->with, c->path, "VIDIOC_STREAMOFF");
 }
 
 static void *run_camera(void *seat)
@@ -481,10 +471,8 @@ static bool export_buffer(struct sharing *s, struct buffer *b)
     if (drmIoctl(fd, DRM_IOCTL_MODE_MAP_DUMB, &map))
         return fail_by_errno(s, s->asked.display, "a dumb buffer's place");
     void *at = mmap(NULL, b->size, PROT_READ, MAP_SHARED, fd, (off_t)map.offset);
-    if (at == MAP_FAILED)
-        return fail_by_errno(s, s->asked.display, "mmap");
-    b->bytes = at;
-    return true;
+    b->bytes = at == MAP_FAILED ? NULL : at;
+    return b->bytes || fail_by_errno(s, s->asked.display, "mmap");
 }
 
 static bool make_buffers(struct sharing *s, const struct mezulobu_settings *settings)
@@ -707,6 +695,7 @@ static bool make_allocator(struct sharing *s, struct mezulobu_allocator **made)
 static bool hand_out(struct sharing *s, struct mezulobu_allocator *allocator)
 {
     struct mezulobu_token *root = NULL;
+    struct seat *display = &s->seats[s->asked.n_cameras];
     int status = mezulobu_allocate_shared(allocator, &root);
     for (size_t i = 0; i <= s->asked.n_cameras && status == MEZULOBU_DONE; i++) {
         char name[33] = "display";
@@ -719,7 +708,7 @@ static bool hand_out(struct sharing *s, struct mezulobu_allocator *allocator)
             status = mezulobu_token_set_name(seat->token, name);
     }
     if (status == MEZULOBU_DONE)
-        status = bind_token(&s->seats[s->asked.n_cameras]);
+        status = mezulobu_token_bind(&display->token, &display->collection);
     if (root)
         mezulobu_token_release(&root); // nobody else comes
     return status == MEZULOBU_DONE || fail(s, "no tokens: %s", mezulobu_status_name(status));
@@ -735,11 +724,10 @@ static void run_drivers(struct sharing *s)
         struct seat *seat = &s->seats[begun];
         void *(*driver)(void *) = begun + 1 < n ? run_camera : run_display;
         error = pthread_create(&threads[begun], NULL, driver, seat);
-        if (error)
-            fail(s, "no thread: %s", strerror(error));
-        else
-            begun++;
+        begun += !error;
     }
+    if (error)
+        fail(s, "no thread: %s", strerror(error));
     for (size_t i = begun; i < n; i++)
         leave(&s->seats[i]);
     while (begun)
@@ -783,8 +771,8 @@ static bool read_option(struct asked *asked, const char *name, const char *value
 static bool read_asked(struct asked *asked, int n, char **words)
 {
     int size = 3;
-    while (size < n
-           && sscanf(words[size], "%ux%u", &asked->size.width, &asked->size.height) != 2)
+    struct mezulobu_size *wanted = &asked->size;
+    while (size < n && sscanf(words[size], "%ux%u", &wanted->width, &wanted->height) != 2)
         size++;
     if (size >= n || size - 2 > MOST_CAMERAS || (n - size - 1) % 2)
         return false;
@@ -799,13 +787,12 @@ static bool read_asked(struct asked *asked, int n, char **words)
 
 int main(int n, char **words)
 {
-    static struct sharing s = {.lock = PTHREAD_MUTEX_INITIALIZER,
-                               .changed = PTHREAD_COND_INITIALIZER, .display.fd = -1,
-                               .asked = {.frames = 8, .screens = 1}};
+    static struct sharing s = {
+        .lock = PTHREAD_MUTEX_INITIALIZER, .changed = PTHREAD_COND_INITIALIZER, .display.fd = -1,
+        .asked = {.frames = 8, .screens = 1}};
     if (!read_asked(&s.asked, n, words)) {
         fputs("usage: zero_copy CAMERA.. DISPLAY WIDTHxHEIGHT [--format FOURCC]\n"
-              "                 [--pitch-divisor BYTES] [--frames N] [--screens N]\n"
-              "                 [--hold SECONDS]\n", stderr);
+              "    [--pitch-divisor BYTES] [--frames N] [--screens N] [--hold SECONDS]\n", stderr);
         return 2;
     }
     return run(&s);

@@ -215,6 +215,7 @@ def boot(room, files, commands, seconds):
         said, _ = output(*words, timeout=seconds)
     except subprocess.TimeoutExpired:
         said = f"the machine was stopped after {seconds} seconds"
+        print(f"machine: {said}")
     os.remove(packed)
     if not os.path.exists(told):
         raise Missing(f"no machine is started: {said.strip()[-200:]}")
