@@ -1,0 +1,4 @@
+pub mod Named
+pub mod OneDecision
+pub mod ReadingBack
+pub mod Recurring
