@@ -42,11 +42,11 @@ fn value_of(alloc: Global, bytes: &[u8]) -> Result<Value, Unread>
 }
 
 /// The platform that a record states.
-fn platform_in(alloc: Global, record: &[u8]) -> Result<Platform, Unread>
-    ensures read { IfOk result (IsRead platform_of record.now) }
-    ensures unread { IfErr result (IsUnread platform_of record.now) }
+fn platform_in(alloc: Global, bytes: &[u8]) -> Result<Platform, Unread>
+    ensures read { IfOk result (IsRead platform_of bytes.now) }
+    ensures unread { IfErr result (IsUnread platform_of bytes.now) }
 {
-    let value = match value_of(alloc, record) {
+    let value = match value_of(alloc, bytes) {
         Ok(value) => value,
         Err(unread) => return Err(unread),
     };
@@ -60,11 +60,11 @@ fn platform_in(alloc: Global, record: &[u8]) -> Result<Platform, Unread>
 }
 
 /// The constraints that a record states.
-fn constraints_in(alloc: Global, record: &[u8]) -> Result<Constraints, Unread>
-    ensures read { IfOk result (IsRead participant_of record.now) }
-    ensures unread { IfErr result (IsUnread participant_of record.now) }
+fn constraints_in(alloc: Global, bytes: &[u8]) -> Result<Constraints, Unread>
+    ensures read { IfOk result (IsRead participant_of bytes.now) }
+    ensures unread { IfErr result (IsUnread participant_of bytes.now) }
 {
-    let value = match value_of(alloc, record) {
+    let value = match value_of(alloc, bytes) {
         Ok(value) => value,
         Err(unread) => return Err(unread),
     };
@@ -95,20 +95,20 @@ fn tell_unread(unread: Unread, code: &mut u32) -> u32
 }
 
 /// Puts the platform that a record states as JSON into a handle.
-pub fn read_platform_into(alloc: Global, record: &[u8], held: &mut Held, code: &mut u32) -> u32
-    ensures { ReadsPlatform record.now held.old.value held.new.value code.old code.new result }
+pub fn read_platform_into(alloc: Global, bytes: &[u8], held: &mut Held, code: &mut u32) -> u32
+    ensures { ReadsPlatform bytes.now held.old.value held.new.value code.old code.new result }
 {
-    match platform_in(alloc, record) {
+    match platform_in(alloc, bytes) {
         Ok(platform) => put_new(alloc, Object::Platform(platform), held),
         Err(unread) => tell_unread(unread, code),
     }
 }
 
 /// Puts the constraints that a record states as JSON into a handle.
-pub fn read_constraints_into(alloc: Global, record: &[u8], held: &mut Held, code: &mut u32) -> u32
-    ensures { ReadsConstraints record.now held.old.value held.new.value code.old code.new result }
+pub fn read_constraints_into(alloc: Global, bytes: &[u8], held: &mut Held, code: &mut u32) -> u32
+    ensures { ReadsConstraints bytes.now held.old.value held.new.value code.old code.new result }
 {
-    match constraints_in(alloc, record) {
+    match constraints_in(alloc, bytes) {
         Ok(constraints) => put_shared(alloc, constraints, held),
         Err(unread) => tell_unread(unread, code),
     }

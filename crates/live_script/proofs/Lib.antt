@@ -2,3 +2,5 @@ pub mod Named
 pub mod OneDecision
 pub mod ReadingBack
 pub mod Recurring
+pub mod Replying
+pub mod Texts

@@ -56,7 +56,7 @@ each_more names made each next k less = elim (cases_lt k (length names)) as (λ 
 ]
 
 -- the name of a node that is made
-named_by : Option NodeState → ℕ → List (Option ℕ)
+abbrev named_by : Option NodeState → ℕ → List (Option ℕ)
 named_by None made = []
 named_by (Some s) made = Some made ∷ []
 
@@ -78,8 +78,8 @@ set_long (x ∷ xs) zero n = refl
 set_long (x ∷ xs) (suc k) n = ap suc (set_long xs k n)
 
 -- what is known of names and of the number of nodes behind them
-record AreNamed (names : List (Option ℕ)) (many : ℕ) : Type 0 where
-  many : length names ≡ many
+record AreNamed (names : List (Option ℕ)) (nodes : ℕ) : Type 0 where
+  many : length names ≡ nodes
   each : (k : ℕ) → k < length names → slice_get names k ≡ Some (Some k)
 
 named_grown : (o : Option NodeState) (names given : List (Option ℕ)) (nodes after : List NodeFacts) (i made : ℕ) (n : NodeFacts) (kind : ActionKind) → length names ≡ length nodes

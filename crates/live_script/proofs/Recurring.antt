@@ -7,8 +7,8 @@ use Rattle.live_script.specs.Recurring.{AllAccepted, AreClaimed, ComesTo, Recurs
 use Rattle.live_script.specs.Script.{AreCallsOf}
 use Rattle.live_script.proofs.Named.{IsNamed, acted_named, decided_named, first_named, is_made, named_node}
 use Rattle.live_script.proofs.OneDecision.{has_verdict, one_decision}
+use Rattle.live_script.proofs.Replying.{answer_for, is_answer, or_right, unstarved_before}
 use Rattle.node_names.specs.Names.{NamedNode}
-use Rattle.script_check.proofs.Unique.{answer_for, is_answer, or_right, unstarved_before}
 use Rattle.script_reading.specs.Script.{CallFacts}
 use Rattle.script_replay.specs.Answer.{Replies, accepts}
 use Rattle.script_replay.specs.Report.{Certified, Goes, calls, decides, stays, with_decision}

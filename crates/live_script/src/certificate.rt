@@ -70,7 +70,8 @@ pub fn certificate_of(alloc: Global, snapshot: &Snapshot) -> Result<Vec<u8>, Unw
     ensures { IfOk result (λ text. IsCertificateOf snapshot.now text.items) }
 {
     let mut writer = CertificateWriter::new(alloc)?;
-    for entry in snapshot.history() {
+    let history = snapshot.history();
+    for entry in history {
         put_entry(&mut writer, snapshot, entry)?;
     }
     Ok(writer.finish()?)

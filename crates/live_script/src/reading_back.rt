@@ -9,7 +9,7 @@ ghost use Rattle.script_reading.specs.Script.{CallFacts, script_of};
 ghost use Rattle.script_reading.specs.Seen.{act_seen, call_seen};
 ghost use Rattle.script_replay.specs.Answer.{AsksFor};
 ghost use Rattle.serde_json.specs.View.{view};
-ghost use Rattle.sysmem_alloc.specs.Entry.{BookEntry, deed_with, entry_in};
+ghost use Rattle.sysmem_alloc.specs.Entry.{BookEntry, Acted, deed_with, entry_in};
 ghost use Rattle.sysmem_tree.specs.ActionKind.{sets};
 ghost use Rattle.sysmem_tree.specs.Nodes.{HasNode};
 ghost use Rattle.verdict_claims.specs.Asked.{asks_at};
@@ -62,8 +62,9 @@ fn are_calls_of(alloc: Global, snapshot: &Snapshot, calls: &[Call<'_>]) -> Resul
     ensures { IfOk result (λ are. IsTrue are
         → AreCallsOf snapshot.now.names snapshot.now.history (map call_seen calls.now)) }
 {
+    let history = snapshot.history();
     let mut made = 0;
-    for entry in snapshot.history() {
+    for entry in history {
         let Some(next) = after(alloc, snapshot, entry, calls, made)? else {
             return Ok(false);
         };
@@ -89,13 +90,33 @@ fn after(
         (es ++ entry_in snapshot.now.tree.nodes entry.now ∷ [])
         (map call_seen (take next calls.now)))) }
 {
-    let Entry::Acted(node, kind) = entry else {
-        return Ok(Some(made));
-    };
+    match entry {
+        Entry::Acted(node, kind) => after_action(alloc, snapshot, *node, *kind, calls, made),
+        Entry::Decided(_, _) => Ok(Some(made)),
+    }
+}
+
+/// The same of an action.
+fn after_action(
+    alloc: Global,
+    snapshot: &Snapshot,
+    node: NodeId,
+    kind: ActionKind,
+    calls: &[Call<'_>],
+    made: usize,
+) -> Result<Option<usize>, AllocError>
+    requires { made ≤ length calls.now }
+    ensures within { IfOk result (λ after. IfSome after (λ next. next ≤ length calls.now)) }
+    ensures follows { IfOk result (λ after. IfSome after (λ next. (es : List BookEntry)
+        → AreCallsOf snapshot.now.names es (map call_seen (take made calls.now))
+        → AreCallsOf snapshot.now.names
+        (es ++ Acted node (deed_with (asks_at snapshot.now.tree.nodes node) kind) ∷ [])
+        (map call_seen (take next calls.now)))) }
+{
     let Some(call) = calls.get(made) else {
         return Ok(None);
     };
-    if is_call_of(alloc, snapshot, *node, *kind, call)? {
+    if is_call_of(alloc, snapshot, node, kind, call)? {
         Ok(Some(made + 1))
     } else {
         Ok(None)
@@ -174,8 +195,8 @@ fn states_those(
     set: Option<&Constraints>,
 ) -> Result<bool, AllocError>
     ensures { IfOk result (λ is. IsTrue is
-        → AsksFor (states (option_map (λ value. view value.now) stated))
-        (sets (option_map (λ asked. asked.now) set))) }
+        → AsksFor (states (option_map (λ value. view value.now) stated.entry))
+        (sets (option_map (λ asked. asked.now) set.entry))) }
 {
     match stated {
         Some(value) => match set {

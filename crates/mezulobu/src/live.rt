@@ -45,13 +45,13 @@ pub extern "C" fn mezulobu_rt_live_platform(
 #[unsafe(no_mangle)]
 pub extern "C" fn mezulobu_rt_live_platform_record(
     alloc: Global,
-    record: &[u8],
+    bytes: &[u8],
     held: &mut Held,
     code: &mut u32,
 ) -> u32
-    ensures { ReadsPlatform record.now held.old.value held.new.value code.old code.new result }
+    ensures { ReadsPlatform bytes.now held.old.value held.new.value code.old code.new result }
 {
-    read_platform_into(alloc, record, held, code)
+    read_platform_into(alloc, bytes, held, code)
 }
 
 /// Puts a new collection for an allocator's platform into a handle.
@@ -81,13 +81,13 @@ pub extern "C" fn mezulobu_rt_live_asked(
 #[unsafe(no_mangle)]
 pub extern "C" fn mezulobu_rt_live_asked_record(
     alloc: Global,
-    record: &[u8],
+    bytes: &[u8],
     held: &mut Held,
     code: &mut u32,
 ) -> u32
-    ensures { ReadsConstraints record.now held.old.value held.new.value code.old code.new result }
+    ensures { ReadsConstraints bytes.now held.old.value held.new.value code.old code.new result }
 {
-    read_constraints_into(alloc, record, held, code)
+    read_constraints_into(alloc, bytes, held, code)
 }
 
 /// Makes the action of a number on the node of a number of a collection.

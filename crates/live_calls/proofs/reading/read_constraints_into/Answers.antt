@@ -6,7 +6,7 @@ use Rattle.record_reading.specs.Reading.{participant_of}
 use Rattle.live_calls.proofs.reading.read_constraints_into.Goals as goal
 
 pub returns-in-Ok : goal.returns-in-Ok
-returns-in-Ok c = read_by participant_of (λ p. constraints_in c.put_shared.new.held.value ≡ Some p) c.args.record.now c.args.held.now.value c.put_shared.new.held.value c.args.code.now c.in-Ok.constraints c.put_shared.result c.in-Ok.ensures.read c.put_shared.ensures
+returns-in-Ok c = read_by participant_of (λ p. constraints_in c.put_shared.new.held.value ≡ Some p) c.args.bytes.now c.args.held.now.value c.put_shared.new.held.value c.args.code.now c.in-Ok.constraints c.put_shared.result c.in-Ok.ensures.read c.put_shared.ensures
 
 pub returns-in-Err : goal.returns-in-Err
-returns-in-Err c = unread_by participant_of (λ p. constraints_in c.args.held.now.value ≡ Some p) c.args.record.now c.args.held.now.value c.args.code.now c.tell_unread.new.code c.in-Err.unread c.tell_unread.result c.in-Err.ensures.unread c.tell_unread.ensures
+returns-in-Err c = unread_by participant_of (λ p. constraints_in c.args.held.now.value ≡ Some p) c.args.bytes.now c.args.held.now.value c.args.code.now c.tell_unread.new.code c.in-Err.unread c.tell_unread.result c.in-Err.ensures.unread c.tell_unread.ensures
