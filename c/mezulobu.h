@@ -396,10 +396,11 @@ uint32_t mezulobu_version(void);
  * passed to another thread.
  *
  * **Decisions.** A decision is made by the thread whose call leaves nobody awaited, within that
- * call, and without a lock: mezulobu_collection_check, _wait, _fd, _node, _name_of, _selection and
- * the calls that set a name are answered meanwhile, and so are calls of other collections. A call
- * that acts on the same collection waits until the decision is entered, and so does one that writes
- * a text or a refusal: some microseconds mostly, and at most what 4,096 selections take.
+ * call, and without a lock: all calls that don't act are answered meanwhile, and so are calls of
+ * other collections. A script, an explanation and a refusal are then of the moment before that
+ * call; where it brings several decisions, they wait from the first to the last. A call that acts
+ * on the same collection waits until all are entered: some microseconds mostly, and at most what
+ * 4,096 selections take.
  *
  * **A call that spends its handle**, which takes a pointer to it (bind, release, close), spends it
  * where it is DONE, and writes NULL there. At any other status the caller still has it. Each handle
@@ -507,18 +508,18 @@ int mezulobu_collection_refusal(struct mezulobu_collection *collection,
 
 /* All calls of the whole collection that were done so far, as a script, and what proves its
  * decisions; texts as above, and certificate and certificate_size may be null. Both are of one
- * moment. mezulobu_run accepts each of its calls and decides the same, which is tried before it is
- * handed out, so this takes what the decisions took; mezulobu_check says yes to the certificate.
- * REFUSED: there is no such script, since a decision had no memory, or it would be longer than a
- * script may be; each size is 0. What isn't in it: calls that were refused, check and wait. Of two
- * scripts the later one begins with the calls of the earlier one, under the names of its own
- * moment. */
+ * moment. mezulobu_run accepts each of its calls and decides the same, and mezulobu_check says yes
+ * to the certificate; but a decision that had no memory is made by mezulobu_run, calls behind it may
+ * be refused, and mezulobu_check says no. The actor of a call is the node on which it is made, where
+ * that has a name and there are 15 names at most. REFUSED: the script would be longer than a script
+ * may be; each size is 0. What isn't in it: calls that were refused, check and wait. Of two scripts
+ * the later one begins with the calls of the earlier one, under the names of its own moment. */
 int mezulobu_collection_script(struct mezulobu_collection *collection, char *text,
                                size_t *text_size, void *certificate, size_t *certificate_size);
 
 /* mezulobu_explain of the script, and mezulobu_explain_json, with "collection" for its file: who is
- * awaited, what decided each value, who is in the way and which changes help. REFUSED: there is no
- * such script, and the size is 0. */
+ * awaited, what decided each value, who is in the way and which changes help. Of a decision that had
+ * no memory it says what it would be. REFUSED: there is no such script, and the size is 0. */
 int mezulobu_collection_explain(struct mezulobu_collection *collection, char *text,
                                 size_t *text_size);
 int mezulobu_collection_explain_json(struct mezulobu_collection *collection, char *text,

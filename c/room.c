@@ -79,16 +79,25 @@ bool room_enter(struct visit *v, void *handle, enum kind kind)
     return false;
 }
 
-bool room_enter_to_act(struct visit *v, void *handle, enum kind kind)
+/* Waits until a flag of the room is down, and leaves where the handle was spent meanwhile. */
+static bool await(struct visit *v, const bool *flag, enum kind kind)
 {
-    if (!room_enter(v, handle, kind))
-        return false;
-    while (v->room->is_deciding)
+    while (*flag)
         pthread_cond_wait(&v->room->changed, &v->room->lock);
     if (v->handle->kind == kind)
         return true;
     room_leave(v);
     return false;
+}
+
+bool room_enter_to_act(struct visit *v, void *handle, enum kind kind)
+{
+    return room_enter(v, handle, kind) && await(v, &v->room->is_deciding, kind);
+}
+
+bool room_enter_to_copy(struct visit *v, void *handle, enum kind kind)
+{
+    return room_enter(v, handle, kind) && await(v, &v->room->is_half_decided, kind);
 }
 
 static bool is_told(struct room *r, uint32_t node)
@@ -117,31 +126,34 @@ static void tell(struct room *r)
     pthread_cond_broadcast(&r->changed);
 }
 
-/* Decides the domain that is next, without the lock meanwhile; false where none waits. Where memory is refused, that is the verdict. */
+/* Decides the domain that is next, without the lock meanwhile; false where none waits. Where memory is refused, that is the verdict. So
+ * each call that is true entered one decision, of which a collection has no more than nodes. */
 static bool decide_next(struct room *r)
 {
     struct held job = {0};
     uint32_t status = mezulobu_rt_live_freeze(&r->book, &job);
-    if (status != MEZULOBU_DONE && status != MEZULOBU_NO_MEMORY)
-        return false;
     if (status == MEZULOBU_DONE) {
         pthread_mutex_unlock(&r->lock);
         status = mezulobu_rt_live_decide(&job);
         pthread_mutex_lock(&r->lock);
     }
     /* What was frozen still fits, since nobody acted. */
-    if (status != MEZULOBU_DONE || mezulobu_rt_live_enter(&r->book, &job) != MEZULOBU_DONE)
-        mezulobu_rt_live_give_up(&r->book);
+    bool is_entered = status == MEZULOBU_DONE && mezulobu_rt_live_enter(&r->book, &job) == MEZULOBU_DONE;
+    if (!is_entered)
+        is_entered = mezulobu_rt_live_give_up(&r->book) == MEZULOBU_DONE;
     mezulobu_rt_live_free(&job);
-    return true;
+    return is_entered;
 }
 
 static void decide(struct room *r)
 {
     r->is_deciding = true;
-    while (decide_next(r))
+    while (decide_next(r)) {
+        r->is_half_decided = true;
         tell(r);
+    }
     r->is_deciding = false;
+    r->is_half_decided = false;
     tell(r);
 }
 

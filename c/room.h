@@ -40,6 +40,7 @@ struct room {
     struct held book;
     size_t users;           /* handles that aren't spent, and calls */
     bool is_deciding;       /* what was frozen is being decided, without the lock */
+    bool is_half_decided;   /* and of the decisions that a call brings some are entered */
     struct handle handles[MOST_NODES]; /* by the numbers of nodes, of which no collection has more */
 };
 
@@ -57,8 +58,12 @@ void room_free(struct room *r);
 /* Enters the room of a handle of this kind; false where it is none. */
 bool room_enter(struct visit *v, void *handle, enum kind kind);
 
-/* The same for a call that acts, or that wants a copy: it waits until nobody decides. */
+/* The same for a call that acts: it waits until nobody decides. */
 bool room_enter_to_act(struct visit *v, void *handle, enum kind kind);
+
+/* The same for a call that wants a copy, which is of the moment before a call whose decision is being made. It waits only between the
+ * decisions that one call brings: the first may be known already, and no script ends before the last. */
+bool room_enter_to_copy(struct visit *v, void *handle, enum kind kind);
 
 void room_leave(struct visit *v);
 

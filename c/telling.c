@@ -124,11 +124,11 @@ int mezulobu_collection_selection(struct mezulobu_collection *collection, uint8_
 
 /* ---- What is written from a copy, without the lock ---- */
 
-/* A copy of a moment at which nobody decides: in a script a decision stands right behind the call that brings it. */
+/* A copy as of a moment at which no domain waits: in a script a decision stands right behind the call that brings it. */
 static int copy_of(void *collection, struct held *copy, uint32_t *node)
 {
     struct visit v;
-    if (!room_enter_to_act(&v, collection, COLLECTION))
+    if (!room_enter_to_copy(&v, collection, COLLECTION))
         return MEZULOBU_MISUSED;
     int status = (int)mezulobu_rt_live_copy(&v.room->book, copy);
     *node = node_of(&v);
@@ -149,7 +149,7 @@ int mezulobu_collection_refusal(struct mezulobu_collection *collection, struct m
     return status;
 }
 
-/* Both texts of one copy: no buffer is written to unless both have room. The script is written once, since that takes a replay. */
+/* Both texts of one copy: no buffer is written to unless both have room. The script is written once: it takes longer, being read again. */
 static int write_both(struct held *copy, uint8_t *text, size_t *text_size, uint8_t *certificate, size_t *certificate_size)
 {
     uint8_t none = 0;

@@ -518,7 +518,7 @@ class Collection : public detail::Handle<mezulobu_collection, mezulobu_collectio
     }
 
     /// All calls of the whole collection that were done so far, as a script, and what proves its decisions. REFUSED, as of what follows, where there is
-    /// none: a decision had no memory, or it would be longer than a script may be.
+    /// none: it would be longer than a script may be.
     expected<Report, Status> script() const
     {
         std::string proof(detail::room, '\0');

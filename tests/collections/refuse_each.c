@@ -1,6 +1,6 @@
 // refuse_each: plays one collection with a group, a late participant, names and all its texts, while one allocation after the other is refused, alone and with all that
-// follow. Each call is done or says NO_MEMORY, or what it says of others' want of memory; bind, release, close, check and wait never want any; each handle can be given
-// up; and nothing stays allocated. The last line is 'N passed, M failed'.
+// follow. Each call is done or says NO_MEMORY, or what it says of others' want of memory; bind, release, close, check and wait never want any; a script and explanations
+// are there where a decision had no memory too; each handle can be given up; and nothing stays allocated. The last line is 'N passed, M failed'.
 #include "common.h"
 
 extern void *__libc_malloc(size_t size);
@@ -56,11 +56,11 @@ static bool may_want(int status, const char *what)
     return status == MEZULOBU_DONE;
 }
 
-// One that is refused where others' calls were: because a node isn't there, or a decision had no memory, of which no script tells.
+// One that is refused where others' calls were: because a node isn't there, or a decision had no memory.
 static bool may_fail(int status, const char *what)
 {
     switch (status) {
-    case MEZULOBU_REFUSED: case MEZULOBU_WRONG_STATE: case MEZULOBU_NO_CHILDREN: case MEZULOBU_NOT_SELECTED: case MEZULOBU_DOMAIN_FAILED: case MEZULOBU_INTERSECTION_EMPTY: case MEZULOBU_PENDING: case MEZULOBU_NO:
+    case MEZULOBU_WRONG_STATE: case MEZULOBU_NO_CHILDREN: case MEZULOBU_NOT_SELECTED: case MEZULOBU_DOMAIN_FAILED: case MEZULOBU_INTERSECTION_EMPTY: case MEZULOBU_PENDING: case MEZULOBU_NO:
         if (!refused)
             stop(what, status);
         others++;
@@ -159,12 +159,12 @@ static void write_all(struct mezulobu_collection *c)
     static char text[1 << 16], proof[1 << 16], other[1 << 16];
     size_t n = sizeof text, m = sizeof proof, k = sizeof other;
     uint8_t choices[2];
-    if (!MAY_FAIL(mezulobu_collection_script(c, text, &n, proof, &m)) && (n || m))
+    if (!MAY_WANT(mezulobu_collection_script(c, text, &n, proof, &m)) && (n || m))
         stop("a size where there is no text", MEZULOBU_NO_MEMORY);
-    if (!MAY_FAIL(mezulobu_collection_explain(c, other, &k)) && k)
+    if (!MAY_WANT(mezulobu_collection_explain(c, other, &k)) && k)
         stop("a size where there is no explanation", MEZULOBU_NO_MEMORY);
     k = sizeof other;
-    MAY_FAIL(mezulobu_collection_explain_json(c, other, &k));
+    MAY_WANT(mezulobu_collection_explain_json(c, other, &k));
     k = sizeof choices;
     MAY_FAIL(mezulobu_collection_selection(c, choices, &k));
     k = sizeof other;

@@ -140,12 +140,13 @@ static void try_refusal(void)
     NEED(explained(app, mezulobu_collection_explain, &told));
     expect(&t, holds(&told, "in the way: camera and display"), "the explanation has the names");
     expect(&t, holds(&told, "camera min_size") && holds(&told, "display (call "), "and says what to change");
+    expect(&t, holds(&told, "(actor camera, ") && holds(&told, "(actor display, ") && !holds(&told, "actor main"), "and who is whose actor");
     free(told.at);
     NEED(explained(app, mezulobu_collection_explain_json, &told));
     expect(&t, holds(&told, "\"camera\"") && holds(&told, "max_size"), "so does the explanation as objects");
     free(told.at);
     NEED(script_of(app, &script, NULL));
-    expect(&t, holds(&script, "\"on\":\"display\""), "and the script");
+    expect(&t, holds(&script, "\"on\":\"display\",\"actor\":\"display\""), "and the script");
     free(script.at);
     NEED(mezulobu_collection_release(&app));
     NEED(mezulobu_collection_release(&camera));
@@ -245,6 +246,7 @@ static void try_long(void)
     NEED(explained(c[0], mezulobu_collection_explain, &told));
     // 100 camp on 2 each, which are more than 128
     expect(&t, script.size > 20000 && holds(&told, "domain / (root): empty"), "a long script is explained");
+    expect(&t, !holds(&script, "actor"), "with more names than a script may have actors, it has none");
     free(script.at);
     free(told.at);
     for (int i = 0; i < MANY; i++)

@@ -318,8 +318,8 @@ class Collection(_Node):
         return texts
 
     def script(self) -> str:
-        """All calls of the whole collection that were done so far, as a script. Raises CallRefused, as what follows does, where there is none: a decision
-        had no memory, or it would be longer than a script may be."""
+        """All calls of the whole collection that were done so far, as a script. Raises CallRefused, as what follows does, where there is none: it would be
+        longer than a script may be."""
         return self._texts(1, lambda at, *room: library.mezulobu_collection_script(at, *room, None, None))[0].decode()
 
     def script_with_certificate(self) -> Tuple[str, bytes]:

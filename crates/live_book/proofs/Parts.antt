@@ -1,14 +1,24 @@
--- Copies with the same parts are the same.
-use Rattle.std.proofs.Common.{◌≡◌, ◌∙◌, List, ap}
+-- A copy of the parts of a collection is one of the collection.
+use Rattle.std.proofs.Common.{◌≡◌, ◌∙◌, List, ap, map, subst, sym}
+use Rattle.book_events.specs.declared.entry.Entry.{Entry}
 use Rattle.node_names.specs.Names.{NamedNode}
-use Rattle.sysmem_alloc.specs.Entry.{BookEntry}
+use Rattle.sysmem_alloc.specs.Book.{BookFacts}
+use Rattle.sysmem_alloc.specs.Entry.{entry_in}
 use Rattle.sysmem_sanitise.specs.Platform.{PlatformFacts}
 use Rattle.sysmem_tree.specs.Domain.{TreeFacts}
-use Rattle.live_book.specs.Snapshot.{SnapshotFacts}
+use Rattle.live_book.specs.Collection.{CollectionFacts}
+use Rattle.live_book.specs.Snapshot.{IsCopyOf, IsSettled, IsSettledPart}
 
-abbrev copy_of : PlatformFacts → TreeFacts → List BookEntry → List NamedNode → SnapshotFacts
-copy_of p t h n = record { platform = p; tree = t; history = h; names = n }
+pub settled_copy : (b : BookFacts) (p : PlatformFacts) (t : TreeFacts) (raw : List Entry) → p ≡ b.platform → t ≡ b.state.tree → IsSettledPart b (map (entry_in b.state.tree.nodes) raw) → IsSettled p (map (entry_in t.nodes) raw)
+settled_copy b p t raw platform tree part =
+    subst (λ (q : PlatformFacts). IsSettled q (map (entry_in t.nodes) raw)) (sym platform)
+    (subst (λ (x : TreeFacts). IsSettled b.platform (map (entry_in x.nodes) raw)) (sym tree) part.settled)
 
-pub same_parts : (p q : PlatformFacts) (t u : TreeFacts) (h k : List BookEntry) (n m : List NamedNode) → p ≡ q → t ≡ u → h ≡ k → n ≡ m → copy_of p t h n ≡ copy_of q u k m
-same_parts p q t u h k n m pq tu hk nm =
-    ap (λ x. copy_of x t h n) pq ∙ (ap (λ x. copy_of q x h n) tu ∙ (ap (λ x. copy_of q u x n) hk ∙ ap (λ x. copy_of q u k x) nm))
+pub is_copy : (c : CollectionFacts) (b : BookFacts) (p : PlatformFacts) (t : TreeFacts) (raw : List Entry) (n : List NamedNode) → b ≡ c.book → p ≡ b.platform → t ≡ b.state.tree → n ≡ c.names
+    → IsSettledPart b (map (entry_in b.state.tree.nodes) raw) → IsCopyOf c (record { platform = p; tree = t; history = map (entry_in t.nodes) raw; names = n })
+is_copy c b p t raw n is platform tree names part = record {
+  platform = platform ∙ ap (λ (x : BookFacts). x.platform) is;
+  tree = tree ∙ ap (λ (x : BookFacts). x.state.tree) is;
+  names = names;
+  part = subst (λ (x : BookFacts). IsSettledPart x (map (entry_in t.nodes) raw)) is (subst (λ (x : TreeFacts). IsSettledPart b (map (entry_in x.nodes) raw)) (sym tree) part);
+}

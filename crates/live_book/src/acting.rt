@@ -54,7 +54,7 @@ fn act_in(book: &mut Book, number: u32, action: Action) -> Result<Accepted, Refu
 }
 
 /// Whether a domain waits for a decision.
-fn is_waited_for(book: &Book) -> bool
+pub(crate) fn is_waited_for(book: &Book) -> bool
     ensures { result ≡ is_some (next_ready book.now.state) }
 {
     book.next_ready().is_some()

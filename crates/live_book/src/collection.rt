@@ -2,6 +2,7 @@
 
 ghost use Rattle.std.specs.Prelude.{◌≡◌, IfOk};
 ghost use Rattle.live_book.specs.Collection.{new_collection};
+ghost use Rattle.live_book.specs.Eager.{IsEager};
 
 use node_names::Names;
 use std::alloc::{AllocError, Global};
@@ -46,7 +47,8 @@ impl Collection {
 
     /// The book.
     pub fn book(&self) -> &Book
-        ensures { result.now ≡ self.now.book }
+        ensures book { result.now ≡ self.now.book }
+        ensures eager { IsEager self.now.book.history }
     {
         &self.book
     }

@@ -2,7 +2,7 @@
 //! none, and what they found is entered in another, if the book still has what it was made from.
 
 ghost use Rattle.std.specs.Arc.{arc_value};
-ghost use Rattle.std.specs.Prelude.{◌≡◌, ◌↔◌, ◌⊎◌, IsTrue, IfOk, IfSome, OnOk, Some, None, false, option_map, is_some, true};
+ghost use Rattle.std.specs.Prelude.{◌≡◌, ◌↔◌, ◌⊎◌, IsTrue, IfOk, IfSome, OnErr, OnOk, Some, None, false, option_map, is_some, true};
 ghost use Rattle.sysmem_alloc.specs.Book.{entered};
 ghost use Rattle.sysmem_alloc.specs.Entry.{Decided};
 ghost use Rattle.sysmem_alloc.specs.Frozen.{IsStill, frozen_of};
@@ -21,19 +21,24 @@ use sysmem_search::{NoGate, prove, search};
 use verdict_claims::Claim;
 
 /// What the domain that is next is decided on; `None` exactly where no domain waits. `AllocError`
-/// where memory is refused.
+/// where one waits and memory is refused.
 pub fn freeze(collection: &Collection) -> Result<Option<Decision>, AllocError>
-    ensures { IfOk result (λ made. made
+    ensures made { IfOk result (λ made. made
         ≡ option_map (λ f. record { frozen = f; claim = None })
         (frozen_of collection.now.book)) }
+    ensures waits { OnErr result (is_some (next_ready collection.now.book.state) ≡ true) }
 {
     freeze_in(collection.book())
 }
 
 fn freeze_in(book: &Book) -> Result<Option<Decision>, AllocError>
-    ensures { IfOk result (λ made. made
+    ensures made { IfOk result (λ made. made
         ≡ option_map (λ f. record { frozen = f; claim = None }) (frozen_of book.now)) }
+    ensures waits { OnErr result (is_some (next_ready book.now.state) ≡ true) }
 {
+    let Some(_domain) = book.next_ready() else {
+        return Ok(None);
+    };
     match book.frozen()? {
         Some(frozen) => Ok(Some(Decision::new(frozen))),
         None => Ok(None),
@@ -122,16 +127,19 @@ fn enter_in(book: &mut Book, decision: Decision) -> bool
     enter_claim(book, &frozen, claim)
 }
 
-/// Enters that memory was refused to the decision of the domain that is next, if one waits. It
-/// takes no memory.
-fn give_up_in(book: &mut Book)
+/// Enters that memory was refused to the decision of the domain that is next; `false` where none
+/// waits, and then nothing has changed. It takes no memory.
+fn give_up_in(book: &mut Book) -> bool
+    ensures waits { result ≡ is_some (next_ready book.old.state) }
     ensures none { next_ready book.old.state ≡ None → book.new ≡ book.old }
     ensures entered { IfSome (next_ready book.old.state) (λ domain.
         book.new ≡ entered book.old (Decided (record { domain = domain; claim = None }))) }
 {
-    if let Some(domain) = book.next_ready() {
-        book.decide(domain, None);
-    }
+    let Some(domain) = book.next_ready() else {
+        return false;
+    };
+    book.decide(domain, None);
+    true
 }
 
 /// Enters a decision that was made, if the collection still has what it was made from; `false`
@@ -150,13 +158,14 @@ pub fn enter(collection: &mut Collection, decision: Decision) -> bool
     enter_in(&mut collection.book, decision)
 }
 
-/// Enters that memory was refused to the decision of the domain that is next, if one waits. It
-/// takes no memory.
-pub fn give_up(collection: &mut Collection)
+/// Enters that memory was refused to the decision of the domain that is next; `false` where none
+/// waits, and then nothing has changed. It takes no memory.
+pub fn give_up(collection: &mut Collection) -> bool
+    ensures waits { result ≡ is_some (next_ready collection.old.book.state) }
     ensures none { next_ready collection.old.book.state ≡ None → collection.new ≡ collection.old }
     ensures entered { IfSome (next_ready collection.old.book.state) (λ domain.
         collection.new ≡ with_book collection.old
         (entered collection.old.book (Decided (record { domain = domain; claim = None })))) }
 {
-    give_up_in(&mut collection.book);
+    give_up_in(&mut collection.book)
 }

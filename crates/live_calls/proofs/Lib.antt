@@ -4,3 +4,4 @@ pub mod GivenUp
 pub mod OtherNumbers
 pub mod Stated
 pub mod Writable
+pub mod Unread

@@ -10,16 +10,16 @@ use Rattle.sysmem_alloc.specs.Entry.{Decided}
 use Rattle.sysmem_alloc.specs.Frozen.{FrozenFacts, IsStill, frozen_of}
 use Rattle.sysmem_alloc.specs.State.{next_ready}
 
--- what the domain that is next is decided on comes behind a handle; or none waits, or memory is
--- refused, and then that handle is as it was
+-- what the domain that is next is decided on comes behind a handle; or none waits, or one does and
+-- memory is refused, and then that handle is as it was
 pub data Freezes (behind old new : Option Object) : ℕ → Type 0 where
   freezes : (c : CollectionFacts) (f : FrozenFacts) → behind ≡ Some (Collection c)
       → frozen_of c.book ≡ Some f
       → new ≡ Some (Decision (record { frozen = f; claim = None })) → Freezes behind old new 0
   waits_none : (c : CollectionFacts) → behind ≡ Some (Collection c)
       → next_ready c.book.state ≡ None → new ≡ old → Freezes behind old new 6
-  freeze_starves : (c : CollectionFacts) → behind ≡ Some (Collection c) → new ≡ old
-      → Freezes behind old new 4
+  freeze_starves : (c : CollectionFacts) → behind ≡ Some (Collection c)
+      → is_some (next_ready c.book.state) ≡ true → new ≡ old → Freezes behind old new 4
   freeze_misused : IsNoCollection behind → new ≡ old → Freezes behind old new 2
 
 -- a decision is made of what was frozen; where memory is refused nothing is left of it
@@ -46,7 +46,8 @@ pub data Enters (before after decision : Option Object) : ℕ → Type 0 where
   enter_misused : IsNoCollection before ⊎ IsNoDecision decision → after ≡ before
       → Enters before after decision 2
 
--- that memory was refused to the decision of the domain that is next, where one waits
+-- that memory was refused to the decision of the domain that is next is entered; or none waits, and
+-- then nothing has changed
 pub data GivesUp (before after : Option Object) : ℕ → Type 0 where
   gives_up : (c : CollectionFacts) (r : ℕ) → before ≡ Some (Collection c)
       → next_ready c.book.state ≡ Some r
@@ -54,5 +55,5 @@ pub data GivesUp (before after : Option Object) : ℕ → Type 0 where
       (entered c.book (Decided (record { domain = r; claim = None })))))
       → GivesUp before after 0
   gives_up_none : (c : CollectionFacts) → before ≡ Some (Collection c)
-      → next_ready c.book.state ≡ None → after ≡ before → GivesUp before after 0
+      → next_ready c.book.state ≡ None → after ≡ before → GivesUp before after 6
   give_up_misused : IsNoCollection before → after ≡ before → GivesUp before after 2

@@ -3,6 +3,9 @@ pub mod Behind
 pub mod Checking
 pub mod Deciding
 pub mod Making
+pub mod Naming
 pub mod Numbers
 pub mod Opening
+pub mod Reading
 pub mod Settings
+pub mod Unread

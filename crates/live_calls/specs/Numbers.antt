@@ -1,9 +1,11 @@
--- Actions, refusals and denials by their numbers.
+-- Actions, refusals, denials and faults by their numbers.
 use Rattle.std.specs.Prelude.{ℕ, zero, suc, List, [], ◌∷◌, Option, None, slice_get}
 use Rattle.sysmem_tree.specs.ActionKind.{Deed}
 use Rattle.sysmem_tree.specs.ActionKind as deeds
 use Rattle.sysmem_tree.specs.declared.refusal.Refusal.{Refusal}
 use Rattle.sysmem_tree.specs.declared.refusal.Refusal.TheVariants as refusals
+use Rattle.record_reading.specs.declared.fault.Code.{Code}
+use Rattle.record_reading.specs.declared.fault.Code.TheVariants as codes
 use Rattle.live_book.specs.declared.acting.Denial.{Denial}
 use Rattle.live_book.specs.declared.acting.Denial.TheVariants.{Busy, Refused}
 
@@ -35,3 +37,19 @@ status_of refusals.Strange = 26
 abbrev pub denial_status : Denial → ℕ
 denial_status Busy = 27
 denial_status (Refused refusal) = status_of refusal
+
+-- the number of a fault's code: 1 of S1 and so on
+abbrev pub code_number : Code → ℕ
+code_number codes.NotAnObject = 1
+code_number codes.UnknownField = 2
+code_number codes.WrongKind = 3
+code_number codes.UnknownName = 4
+code_number codes.BadUsage = 5
+code_number codes.NoColourSpaces = 6
+code_number codes.BadMultiple = 7
+code_number codes.RepeatedPair = 8
+code_number codes.TooMany = 9
+code_number codes.RepeatedHeap = 10
+code_number codes.BadPlatformList = 11
+code_number codes.TiledMisfit = 12
+code_number codes.WantOfMemory = 13

@@ -3,7 +3,7 @@ use Rattle.std.specs.Prelude.{◌≡◌, Option, Some, ℕ}
 use Rattle.live_book.specs.declared.object.Object.{Object}
 use Rattle.live_book.specs.declared.object.Object.TheVariants.{Collection, Platform, Snapshot}
 use Rattle.live_book.specs.Collection.{CollectionFacts, new_collection}
-use Rattle.live_book.specs.Snapshot.{snapshot_of}
+use Rattle.live_book.specs.Snapshot.{IsCopyOf, SnapshotFacts}
 use Rattle.live_calls.specs.Behind.{IsNoCollection, IsNoPlatform}
 use Rattle.sysmem_sanitise.specs.Platform.{PlatformFacts}
 
@@ -17,8 +17,8 @@ pub data Opens (allocator old new : Option Object) : ℕ → Type 0 where
 
 -- a copy of a collection comes behind a handle
 pub data Copies (behind old new : Option Object) : ℕ → Type 0 where
-  copies : (c : CollectionFacts) → behind ≡ Some (Collection c)
-      → new ≡ Some (Snapshot (snapshot_of c)) → Copies behind old new 0
+  copies : (c : CollectionFacts) (s : SnapshotFacts) → behind ≡ Some (Collection c)
+      → new ≡ Some (Snapshot s) → IsCopyOf c s → Copies behind old new 0
   copy_starves : (c : CollectionFacts) → behind ≡ Some (Collection c) → new ≡ old
       → Copies behind old new 4
   copy_misused : IsNoCollection behind → new ≡ old → Copies behind old new 2

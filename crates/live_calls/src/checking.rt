@@ -1,10 +1,11 @@
 //! What a node learns.
 
 ghost use Rattle.std.specs.Prelude.{◌≡◌, Some};
-ghost use Rattle.live_calls.specs.Checking.{Checks};
+ghost use Rattle.live_calls.specs.Checking.{Checks, TellsSelection};
 
 use crate::settings::flat_settings;
-use crate::statuses::{DONE, MISUSED, TOO_SMALL, status_of};
+use crate::statuses::{DONE, MISUSED, status_of};
+use crate::writing::fit;
 use flat_negotiation::FlatSettings;
 use live_book::{Object, check, selection};
 use live_held::Held;
@@ -40,19 +41,16 @@ pub fn check_on(alloc: Global, held: &mut Held, node: u32, settings: &mut FlatSe
     status
 }
 
-fn selection_in(object: &Object, node: u32, choices: &mut [u8], size: &mut usize) -> u32 {
+/// Writes the choices of the selection of the domain of the node of a number of an object.
+fn selection_in(object: &Object, node: u32, choices: &mut [u8], size: &mut usize) -> u32
+    ensures { TellsSelection node (Some object.now) choices.old choices.new
+        size.old size.new result }
+{
     let Object::Collection(collection) = object else {
         return MISUSED;
     };
     match selection(collection, node) {
-        Ok(chosen) => {
-            *size = chosen.len();
-            if chosen.len() > choices.len() {
-                return TOO_SMALL;
-            }
-            choices[..chosen.len()].copy_from_slice(chosen);
-            DONE
-        }
+        Ok(chosen) => fit(chosen, choices, size),
         Err(refusal) => status_of(refusal),
     }
 }
@@ -66,7 +64,9 @@ pub fn selection_on(
     choices: &mut [u8],
     size: &mut usize,
 ) -> u32
-    ensures { held.new.value ≡ held.old.value }
+    ensures tells { TellsSelection node held.old.value choices.old choices.new
+        size.old size.new result }
+    ensures unchanged { held.new.value ≡ held.old.value }
 {
     let Some(object) = held.take(alloc) else {
         return MISUSED;

@@ -1,7 +1,7 @@
 //! Copies of collections.
 
 ghost use Rattle.std.specs.Prelude.{◌≡◌, Some, IfOk};
-ghost use Rattle.live_book.specs.Snapshot.{snapshot_of};
+ghost use Rattle.live_book.specs.Snapshot.{IsCopyOf, SnapshotFacts};
 ghost use Rattle.live_book.specs.declared.object.Object.TheVariants.{Snapshot as Copied};
 ghost use Rattle.live_calls.specs.Opening.{Copies};
 
@@ -12,7 +12,8 @@ use std::alloc::{AllocError, Global};
 
 /// A copy of a collection, in a box.
 fn boxed_copy(alloc: Global, collection: &Collection) -> Result<Box<Object>, AllocError>
-    ensures { IfOk result (λ boxed. boxed.value ≡ Copied (snapshot_of collection.now)) }
+    ensures { IfOk result (λ boxed. (s : SnapshotFacts)
+        × ((boxed.value ≡ Copied s) × IsCopyOf collection.now s)) }
 {
     let copy = Snapshot::of(alloc, collection)?;
     Ok(Box::new(alloc, Object::Snapshot(copy))?)

@@ -1,10 +1,11 @@
 //! Decisions.
 
-ghost use Rattle.std.specs.Prelude.{◌≡◌, ◌⊎◌, None, Some, IfOk, IfSome, option_map};
+ghost use Rattle.std.specs.Prelude.{◌≡◌, ◌⊎◌, None, Some, IfOk, IfSome, OnErr, is_some, option_map, true};
 ghost use Rattle.live_calls.specs.Behind.{IsNoDecision};
 ghost use Rattle.live_calls.specs.Deciding.{Decides, Enters, Freezes, GivesUp};
 ghost use Rattle.live_book.specs.declared.object.Object.TheVariants.{Decision as Deciding};
 ghost use Rattle.sysmem_alloc.specs.Frozen.{frozen_of};
+ghost use Rattle.sysmem_alloc.specs.State.{next_ready};
 
 use crate::statuses::{DONE, MISUSED, NO, NO_MEMORY};
 use live_book::{Collection, Decision, Object, decide, enter, freeze, give_up};
@@ -13,9 +14,10 @@ use std::alloc::{AllocError, Global};
 
 /// What the domain of a collection that is next is decided on, in a box.
 fn boxed(alloc: Global, collection: &Collection) -> Result<Option<Box<Object>>, AllocError>
-    ensures { IfOk result (λ boxed. option_map (λ b. b.value) boxed
+    ensures boxed { IfOk result (λ boxed. option_map (λ b. b.value) boxed
         ≡ option_map (λ f. Deciding (record { frozen = f; claim = None }))
         (frozen_of collection.now.book)) }
+    ensures waits { OnErr result (is_some (next_ready collection.now.book.state) ≡ true) }
 {
     match freeze(collection)? {
         Some(decision) => Ok(Some(Box::new(alloc, Object::Decision(decision))?)),
@@ -131,18 +133,19 @@ pub fn enter_on(alloc: Global, held: &mut Held, decision: &mut Held) -> u32
     }
 }
 
-/// Enters that memory was refused to the decision of the domain of an object that is next.
+/// Enters that memory was refused to the decision of the domain of an object that is next, if one
+/// waits.
 fn give_up_in(object: &mut Object) -> u32
     ensures { GivesUp (Some object.old) (Some object.new) result }
 {
     let Object::Collection(collection) = object else {
         return MISUSED;
     };
-    give_up(collection);
-    DONE
+    if give_up(collection) { DONE } else { NO }
 }
 
-/// Enters that memory was refused to the decision of the domain of a collection that is next.
+/// Enters that memory was refused to the decision of the domain of a collection that is next, if
+/// one waits.
 pub fn give_up_on(alloc: Global, held: &mut Held) -> u32
     ensures { GivesUp held.old.value held.new.value result }
 {

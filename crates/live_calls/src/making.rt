@@ -13,10 +13,9 @@ use flat_negotiation::{
 };
 use live_book::Object;
 use live_held::Held;
-use serde_json::Value;
 use std::alloc::Global;
 use std::sync::Arc;
-use sysmem_sanitise::{Code, Constraints, Fault, read_constraints, read_platform};
+use sysmem_sanitise::Constraints;
 
 /// Puts the platform that structs state into a handle.
 pub fn put_platform(
@@ -77,54 +76,12 @@ fn tell_participant(unsaid: Unsaid, why: &mut FlatRefusal) -> u32
 }
 
 /// Puts constraints into a handle.
-fn put_shared(alloc: Global, constraints: Constraints, held: &mut Held) -> u32
+pub(crate) fn put_shared(alloc: Global, constraints: Constraints, held: &mut Held) -> u32
     ensures { ((result ≡ 0) × (constraints_in held.new.value ≡ Some constraints))
         ⊎ ((result ≡ 4) × (held.new.value ≡ held.old.value)) }
 {
     match Arc::new(alloc, constraints) {
         Ok(shared) => put_new(alloc, Object::Constraints(shared), held),
         Err(_) => NO_MEMORY,
-    }
-}
-
-/// The status of a record that is no JSON, or for which memory was refused.
-fn unspelled(is_memory: bool, code: &mut u32) -> u32 {
-    if is_memory {
-        return NO_MEMORY;
-    }
-    *code = 0;
-    REFUSED
-}
-
-/// The status of a record with a fault, whose number is 1 for S1 and so on.
-fn faulty(fault: Fault, code: &mut u32) -> u32 {
-    if matches!(fault.code, Code::WantOfMemory) {
-        return NO_MEMORY;
-    }
-    *code = fault.code as u32 + 1;
-    REFUSED
-}
-
-/// Puts the platform that a record states as JSON into a handle.
-pub fn read_platform_into(alloc: Global, record: &[u8], held: &mut Held, code: &mut u32) -> u32 {
-    let value = match Value::from_slice(alloc, record) {
-        Ok(value) => value,
-        Err(error) => return unspelled(error.is_memory(), code),
-    };
-    match read_platform(alloc, &value) {
-        Ok(platform) => put_new(alloc, Object::Platform(platform), held),
-        Err(fault) => faulty(fault, code),
-    }
-}
-
-/// Puts the constraints that a record states as JSON into a handle.
-pub fn read_constraints_into(alloc: Global, record: &[u8], held: &mut Held, code: &mut u32) -> u32 {
-    let value = match Value::from_slice(alloc, record) {
-        Ok(value) => value,
-        Err(error) => return unspelled(error.is_memory(), code),
-    };
-    match read_constraints(alloc, &value) {
-        Ok(constraints) => put_shared(alloc, constraints, held),
-        Err(fault) => faulty(fault, code),
     }
 }

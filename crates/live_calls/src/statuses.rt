@@ -1,24 +1,29 @@
 //! What numbers mean.
 
 ghost use Rattle.std.specs.Prelude.{◌≡◌, option_map};
-ghost use Rattle.live_calls.specs.Numbers.{action_at, status_of, denial_status};
+ghost use Rattle.live_calls.specs.Numbers.{action_at, code_number, status_of, denial_status};
 ghost use Rattle.sysmem_tree.specs.ActionKind.{deed_of};
 
 use live_book::Denial;
+use sysmem_sanitise::Code;
 use sysmem_tree::{Action, Refusal};
 
-pub(crate) const DONE: u32 = 0;
+/// The call did what it is for.
+pub const DONE: u32 = 0;
 
 /// What isn't fit for a call lies behind the handle.
 pub const MISUSED: u32 = 2;
 
-pub(crate) const REFUSED: u32 = 3;
+/// There is no such text, or a struct or a record states nothing.
+pub const REFUSED: u32 = 3;
 
-pub(crate) const NO_MEMORY: u32 = 4;
+/// Memory was refused.
+pub const NO_MEMORY: u32 = 4;
 
 pub(crate) const TOO_SMALL: u32 = 5;
 
-pub(crate) const NO: u32 = 6;
+/// Nothing waits, or nobody is in the way.
+pub const NO: u32 = 6;
 
 /// That a domain waits for a decision, which has to be entered first.
 pub(crate) const BUSY: u32 = 27;
@@ -67,5 +72,26 @@ pub fn action_of(number: u32) -> Option<Action>
         8 => Some(Action::Release),
         9 => Some(Action::Close),
         _ => None,
+    }
+}
+
+/// The number of a fault's code: 1 for S1 and so on.
+pub(crate) fn code_number(code: Code) -> u32
+    ensures { result ≡ code_number code }
+{
+    match code {
+        Code::NotAnObject => 1,
+        Code::UnknownField => 2,
+        Code::WrongKind => 3,
+        Code::UnknownName => 4,
+        Code::BadUsage => 5,
+        Code::NoColourSpaces => 6,
+        Code::BadMultiple => 7,
+        Code::RepeatedPair => 8,
+        Code::TooMany => 9,
+        Code::RepeatedHeap => 10,
+        Code::BadPlatformList => 11,
+        Code::TiledMisfit => 12,
+        Code::WantOfMemory => 13,
     }
 }

@@ -1,72 +1,78 @@
 //! The script and the certificate of a collection for C.
 
-ghost use Rattle.std.specs.Prelude.{◌≡◌};
+ghost use Rattle.std.specs.Prelude.{◌≡◌, Some};
+ghost use Rattle.live_script.specs.Script.{IsScriptOf};
+ghost use Rattle.live_script.specs.Texts.{IsCertificateOf, Writes};
+ghost use Rattle.live_script.specs.declared.script.Unwritten.TheVariants.{Differs, NoMemory};
 
 use crate::certificate::certificate_of;
 use crate::script::{Unwritten, script_of};
-use live_book::{Object, Snapshot};
-use live_calls::{MISUSED, Written, hand_out};
+use live_book::Object;
+use live_calls::{MISUSED, NO_MEMORY, REFUSED, fit};
 use live_held::Held;
 use std::alloc::Global;
 
-fn script_by(alloc: Global, copy: &Snapshot) -> Written {
+/// Says that there is no text.
+fn unwritten(why: Unwritten, size: &mut usize) -> u32
+    ensures none { why ≡ Differs → result ≡ 3 }
+    ensures starves { why ≡ NoMemory → result ≡ 4 }
+    ensures size { size.new ≡ 0 }
+{
+    *size = 0;
+    match why {
+        Unwritten::Differs => REFUSED,
+        Unwritten::NoMemory => NO_MEMORY,
+    }
+}
+
+fn script_in(alloc: Global, object: &Object, text: &mut [u8], size: &mut usize) -> u32
+    ensures { Writes IsScriptOf (Some object.now) text.old text.new size.old size.new result }
+{
+    let Object::Snapshot(copy) = object else {
+        return MISUSED;
+    };
     match script_of(alloc, copy) {
-        Ok(text) => Written::Done(text),
-        Err(Unwritten::Differs) => Written::Refused,
-        Err(Unwritten::NoMemory) => Written::NoMemory,
+        Ok(script) => fit(&script, text, size),
+        Err(why) => unwritten(why, size),
     }
 }
 
-fn script_in(alloc: Global, object: &Object) -> Written {
-    match object {
-        Object::Snapshot(copy) => script_by(alloc, copy),
-        Object::Collection(collection) => match Snapshot::of(alloc, collection) {
-            Ok(copy) => script_by(alloc, &copy),
-            Err(_) => Written::NoMemory,
-        },
-        _ => Written::Misused,
-    }
-}
-
-/// Writes the history of a collection, or of a copy of one, as a script; `REFUSED` where its replay
-/// would come to something else.
+/// Writes the script of a copy of a collection; `REFUSED` where it is longer than a script may be.
 pub fn script_on(alloc: Global, held: &mut Held, text: &mut [u8], size: &mut usize) -> u32
-    ensures { held.new.value ≡ held.old.value }
+    ensures writes { Writes IsScriptOf held.old.value text.old text.new size.old size.new result }
+    ensures unchanged { held.new.value ≡ held.old.value }
 {
     let Some(object) = held.take(alloc) else {
         return MISUSED;
     };
-    let made = script_in(alloc, &object);
+    let status = script_in(alloc, &object, text, size);
     held.put(object);
-    hand_out(made, text, size)
+    status
 }
 
-fn certificate_by(alloc: Global, copy: &Snapshot) -> Written {
+fn certificate_in(alloc: Global, object: &Object, text: &mut [u8], size: &mut usize) -> u32
+    ensures { Writes IsCertificateOf (Some object.now) text.old text.new
+        size.old size.new result }
+{
+    let Object::Snapshot(copy) = object else {
+        return MISUSED;
+    };
     match certificate_of(alloc, copy) {
-        Ok(text) => Written::Done(text),
-        Err(_) => Written::NoMemory,
+        Ok(certificate) => fit(&certificate, text, size),
+        Err(why) => unwritten(why, size),
     }
 }
 
-fn certificate_in(alloc: Global, object: &Object) -> Written {
-    match object {
-        Object::Snapshot(copy) => certificate_by(alloc, copy),
-        Object::Collection(collection) => match Snapshot::of(alloc, collection) {
-            Ok(copy) => certificate_by(alloc, &copy),
-            Err(_) => Written::NoMemory,
-        },
-        _ => Written::Misused,
-    }
-}
-
-/// Writes the certificate of the decisions of a collection, or of a copy of one.
+/// Writes the certificate of the decisions of a copy of a collection.
 pub fn certificate_on(alloc: Global, held: &mut Held, text: &mut [u8], size: &mut usize) -> u32
-    ensures { held.new.value ≡ held.old.value }
+    ensures writes { Writes IsCertificateOf held.old.value text.old text.new
+        size.old size.new result }
+    ensures unchanged { held.new.value ≡ held.old.value }
 {
     let Some(object) = held.take(alloc) else {
         return MISUSED;
     };
-    let made = certificate_in(alloc, &object);
+    let status = certificate_in(alloc, &object, text, size);
     held.put(object);
-    hand_out(made, text, size)
+    status
 }

@@ -1,47 +1,78 @@
 //! The certificate of a collection's decisions.
 
+ghost use Rattle.std.specs.Prelude.{◌≡◌, ◌++◌, IfOk, IfSome, List, OnOk, option_map};
+ghost use Rattle.std.specs.Arc.{arc_value};
+ghost use Rattle.certificate_text.specs.Certificate.{HasTaken};
+ghost use Rattle.live_script.specs.Texts.{IsCertificateOf, certified_of};
+ghost use Rattle.serde_json.specs.Data.{Data};
+ghost use Rattle.sysmem_alloc.specs.Entry.{entry_in};
+ghost use Rattle.sysmem_tree.specs.Domain.{HasDomain};
+
+use crate::script::Unwritten;
 use certificate_text::CertificateWriter;
 use live_book::Snapshot;
-use std::alloc::{AllocError, Global};
+use std::alloc::Global;
 use std::sync::Arc;
 use sysmem_alloc::Entry;
-use sysmem_tree::DomainId;
+use sysmem_tree::{DomainId, Tree};
 use verdict_claims::Claim;
 
-fn put_decision(
-    writer: &mut CertificateWriter,
-    snapshot: &Snapshot,
-    domain: DomainId,
-    claim: Option<&Claim>,
-) -> Result<(), AllocError> {
-    let tree = snapshot.tree();
+/// A domain, where it is one of the tree's.
+fn domain_in(tree: &Tree, domain: DomainId) -> Option<DomainId>
+    ensures same { IfSome result (λ there. there ≡ domain) }
+    ensures there { IfSome result (HasDomain tree.now.nodes) }
+{
     for index in 0..tree.domain_count() {
         let Some(there) = tree.domain_at(index) else {
-            continue;
+            return None;
         };
-        if there != domain {
-            continue;
+        if there == domain {
+            return Some(there);
         }
-        let path = tree.path_of(tree.root_of(there))?;
-        writer.put(snapshot.platform(), &path, claim)?;
     }
-    Ok(())
+    None
 }
 
-fn claim_in(claim: &Option<Arc<Claim>>) -> Option<&Claim> {
+fn claim_in(claim: &Option<Arc<Claim>>) -> Option<&Claim>
+    ensures { option_map (λ one. one.now) result
+        ≡ option_map (λ shared. arc_value shared) claim.now }
+{
     match claim {
         Some(shared) => Some(&**shared),
         None => None,
     }
 }
 
-/// The certificate of a collection's decisions. `AllocError` where memory is refused.
-pub fn certificate_of(alloc: Global, snapshot: &Snapshot) -> Result<Vec<u8>, AllocError> {
+/// Writes what a certificate has of an entry.
+fn put_entry(
+    writer: &mut CertificateWriter,
+    snapshot: &Snapshot,
+    entry: &Entry,
+) -> Result<(), Unwritten>
+    ensures { (decisions : List Data) → HasTaken writer.old decisions → OnOk result
+        (HasTaken writer.new (decisions ++ certified_of snapshot.now.platform
+        snapshot.now.tree.nodes (entry_in snapshot.now.tree.nodes entry.now))) }
+{
+    let Entry::Decided(domain, claim) = entry else {
+        return Ok(());
+    };
+    let tree = snapshot.tree();
+    let Some(there) = domain_in(tree, *domain) else {
+        return Err(Unwritten::Differs);
+    };
+    let path = tree.path_of(tree.root_of(there))?;
+    writer.put(snapshot.platform(), &path, claim_in(claim))?;
+    Ok(())
+}
+
+/// The certificate of a collection's decisions.
+pub fn certificate_of(alloc: Global, snapshot: &Snapshot) -> Result<Vec<u8>, Unwritten>
+    ensures { IfOk result (λ text. IsCertificateOf snapshot.now text.items) }
+{
     let mut writer = CertificateWriter::new(alloc)?;
-    for entry in snapshot.history() {
-        if let Entry::Decided(domain, claim) = entry {
-            put_decision(&mut writer, snapshot, *domain, claim_in(claim))?;
-        }
+    let history = snapshot.history();
+    for entry in history {
+        put_entry(&mut writer, snapshot, entry)?;
     }
-    writer.finish()
+    Ok(writer.finish()?)
 }

@@ -3,9 +3,10 @@
 
 mod calls;
 mod certificate;
+pub mod laws;
+mod reading_back;
 mod records;
 mod refusal;
-mod replaying;
 mod script;
 
 pub use calls::{certificate_on, script_on};

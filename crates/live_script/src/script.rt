@@ -1,10 +1,13 @@
 //! A collection's history as a script: the accepted calls, in their order.
 
-ghost use Rattle.std.specs.Prelude.{◌≡◌};
+ghost use Rattle.std.specs.Prelude.{◌≡◌, IfOk};
+ghost use Rattle.live_script.specs.Script.{IsScriptOf};
 
+use crate::laws::settled_calls_recur;
+use crate::reading_back::reads_back;
 use crate::records::{put_participant, put_platform};
-use crate::replaying::is_script_of;
 use live_book::Snapshot;
+use node_names::Names;
 use std::alloc::{AllocError, Global};
 use sysmem_alloc::Entry;
 use sysmem_tree::{ActionKind, NodeId, Tree};
@@ -34,6 +37,23 @@ fn put_constraints(text: &mut String, tree: &Tree, number: u32) -> Result<(), Al
     Ok(())
 }
 
+/// As many actors as a script may have, but for `main`.
+const MOST_NAMED_ACTORS: usize = 15;
+
+/// Puts who makes a call: a node's own name for its actor, where it was given one and there are few
+/// names.
+fn put_actor(text: &mut String, names: &Names, number: u32) -> Result<(), AllocError> {
+    if names.count() > MOST_NAMED_ACTORS {
+        return Ok(());
+    }
+    if let Some(name) = names.given(number) {
+        text.push_str(",\"actor\":\"")?;
+        text.push_str(name)?;
+        text.push_str("\"")?;
+    }
+    Ok(())
+}
+
 /// Puts a call, and tells how many nodes there are behind it.
 fn put_call(
     text: &mut String,
@@ -47,6 +67,7 @@ fn put_call(
     text.push_str("\",\"on\":\"")?;
     snapshot.names().put(text, number)?;
     text.push_str("\"")?;
+    put_actor(text, snapshot.names(), number)?;
     let mut nodes = nodes;
     if kind.makes().is_some() {
         text.push_str(",\"as\":\"")?;
@@ -81,12 +102,11 @@ fn written(alloc: Global, snapshot: &Snapshot) -> Result<Vec<u8>, AllocError> {
     Ok(text.into_bytes())
 }
 
-/// Why a collection's script isn't written.
+/// Why a text of a collection isn't written.
 #[derive(Clone, Copy, Debug, Drop)]
 pub enum Unwritten {
     NoMemory,
-    /// Its replay would come to something else, as where memory was refused to a decision, or it is
-    /// too long for a script.
+    /// It would be read back as something else, as a script that is longer than a script may be.
     Differs,
 }
 
@@ -100,11 +120,15 @@ impl From<AllocError> for Unwritten {
     }
 }
 
-/// The script of a collection: its accepted calls, in their order. It is read and replayed before
-/// it is given.
-pub fn script_of(alloc: Global, snapshot: &Snapshot) -> Result<Vec<u8>, Unwritten> {
+/// The script of a collection: its accepted calls, in their order, by what its nodes are called. It
+/// is read back before it is given.
+pub fn script_of(alloc: Global, snapshot: &Snapshot) -> Result<Vec<u8>, Unwritten>
+    ensures { IfOk result (λ text. IsScriptOf snapshot.now text.items) }
+{
+    settled_calls_recur();
+    snapshot.recall_settled();
     let text = written(alloc, snapshot)?;
-    if is_script_of(alloc, &text, snapshot)? {
+    if reads_back(alloc, &text, snapshot)? {
         Ok(text)
     } else {
         Err(Unwritten::Differs)

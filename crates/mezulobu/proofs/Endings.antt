@@ -8,7 +8,8 @@ use Rattle.flat_negotiation.specs.declared.unsettled.Unsettled.{Unsettled}
 use Rattle.flat_negotiation.specs.Refusals.{flat_refusal}
 use Rattle.flat_negotiation.specs.Unsettled.{AreUnsettled}
 use Rattle.mezulobu.specs.Negotiated.{Negotiates, refuses_them, status_of}
-use Rattle.mezulobu.specs.Ends.{Ends, EndsBoth, IsFilled, handed_out, too_small, both_out, one_too_small}
+use Rattle.caller_buffers.specs.Filled.{IsFilled}
+use Rattle.mezulobu.specs.Ends.{Ends, EndsBoth, handed_out, too_small, both_out, one_too_small}
 
 pub ends_out : (Says : ℕ → List ℕ → Type 0) (before after : List ℕ) (size status : ℕ) (text shown : List ℕ) → Says status text → size ≡ length text → shown ≡ text
     → IsFilled shown before after → Ends Says before after size status

@@ -1,12 +1,7 @@
 -- How a call ends that has texts for its caller: what its buffers hold then, and what its sizes
 -- say.
-use Rattle.std.specs.Prelude.{◌≡◌, ℕ, ◌<◌, ◌≤◌, ◌++◌, ◌⊎◌, List, length, drop}
-
--- a text is at the front of a buffer, which has room for it, and after the text the buffer is as it
--- was
-pub record IsFilled (text before after : List ℕ) : Type 0 where
-  pub room : length text ≤ length before
-  pub bytes : after ≡ text ++ drop (length text) before
+use Rattle.std.specs.Prelude.{◌≡◌, ℕ, ◌<◌, ◌⊎◌, List, length}
+use Rattle.caller_buffers.specs.Filled.{IsFilled}
 
 -- a call with one text: it is handed out; or (5) it has no room, and its size is said; or (4)
 -- memory was refused. Else than where it is handed out the buffer is as it was.

@@ -5,7 +5,6 @@
 //! `c/mezulobu.c` is what a program calls: it turns null pointers into what these functions take.
 #![tactic(auto)]
 
-mod buffer;
 mod explained;
 mod live;
 mod told;
@@ -18,9 +17,9 @@ ghost use Rattle.mezulobu.specs.Explains.{ExplanationSays};
 ghost use Rattle.mezulobu.specs.Negotiated.{Negotiates, status_of};
 ghost use Rattle.mezulobu.specs.Says.{CheckSays, ProvedRunSays, RunSays};
 
-use crate::buffer::{hand_out, hand_out_both};
 use crate::explained::explanation_told;
 use crate::told::{check_told, proved_run_told, run_told};
+use caller_buffers::{hand_out, hand_out_both};
 use flat_negotiation::{
     FlatLayout, FlatParticipant, FlatPlatform, FlatRefusal, FlatSettings, Unsettled, layout_of,
     negotiate, refusal_of, settings_of,

@@ -7,11 +7,15 @@
 ghost use Rattle.std.specs.Prelude.{◌≡◌, ℕ, None, Some, IfSome};
 ghost use Rattle.live_calls.specs.Acting.{Acts};
 ghost use Rattle.live_calls.specs.Behind.{constraints_in};
-ghost use Rattle.live_calls.specs.Checking.{Checks};
+ghost use Rattle.live_calls.specs.Checking.{Checks, TellsSelection};
 ghost use Rattle.live_calls.specs.Deciding.{Decides, Enters, Freezes, GivesUp};
 ghost use Rattle.live_calls.specs.Making.{PutsConstraints, PutsPlatform};
+ghost use Rattle.live_calls.specs.Naming.{SetsName, TellsName};
 ghost use Rattle.live_calls.specs.Numbers.{action_at};
 ghost use Rattle.live_calls.specs.Opening.{Copies, Opens};
+ghost use Rattle.live_calls.specs.Reading.{ReadsConstraints, ReadsPlatform};
+ghost use Rattle.live_script.specs.Script.{IsScriptOf};
+ghost use Rattle.live_script.specs.Texts.{IsCertificateOf, Writes};
 ghost use Rattle.sysmem_tree.specs.ActionKind.{sets};
 
 use flat_negotiation::{FlatParticipant, FlatPlatform, FlatRefusal, FlatSettings};
@@ -41,11 +45,13 @@ pub extern "C" fn mezulobu_rt_live_platform(
 #[unsafe(no_mangle)]
 pub extern "C" fn mezulobu_rt_live_platform_record(
     alloc: Global,
-    record: &[u8],
+    bytes: &[u8],
     held: &mut Held,
     code: &mut u32,
-) -> u32 {
-    read_platform_into(alloc, record, held, code)
+) -> u32
+    ensures { ReadsPlatform bytes.now held.old.value held.new.value code.old code.new result }
+{
+    read_platform_into(alloc, bytes, held, code)
 }
 
 /// Puts a new collection for an allocator's platform into a handle.
@@ -75,11 +81,13 @@ pub extern "C" fn mezulobu_rt_live_asked(
 #[unsafe(no_mangle)]
 pub extern "C" fn mezulobu_rt_live_asked_record(
     alloc: Global,
-    record: &[u8],
+    bytes: &[u8],
     held: &mut Held,
     code: &mut u32,
-) -> u32 {
-    read_constraints_into(alloc, record, held, code)
+) -> u32
+    ensures { ReadsConstraints bytes.now held.old.value held.new.value code.old code.new result }
+{
+    read_constraints_into(alloc, bytes, held, code)
 }
 
 /// Makes the action of a number on the node of a number of a collection.
@@ -142,7 +150,9 @@ pub extern "C" fn mezulobu_rt_live_selection(
     choices: &mut [u8],
     size: &mut usize,
 ) -> u32
-    ensures { held.new.value ≡ held.old.value }
+    ensures tells { TellsSelection node held.old.value choices.old choices.new
+        size.old size.new result }
+    ensures unchanged { held.new.value ≡ held.old.value }
 {
     selection_on(alloc, held, node, choices, size)
 }
@@ -177,7 +187,8 @@ pub extern "C" fn mezulobu_rt_live_enter(alloc: Global, held: &mut Held, decisio
     enter_on(alloc, held, decision)
 }
 
-/// Enters that memory was refused to the decision of the domain of a collection that is next.
+/// Enters that memory was refused to the decision of the domain of a collection that is next, if
+/// one waits.
 #[unsafe(no_mangle)]
 pub extern "C" fn mezulobu_rt_live_give_up(alloc: Global, held: &mut Held) -> u32
     ensures { GivesUp held.old.value held.new.value result }
@@ -192,7 +203,9 @@ pub extern "C" fn mezulobu_rt_live_set_name(
     held: &mut Held,
     node: u32,
     name: &[u8],
-) -> u32 {
+) -> u32
+    ensures { SetsName node name.now held.old.value held.new.value result }
+{
     set_name_on(alloc, held, node, name)
 }
 
@@ -205,7 +218,8 @@ pub extern "C" fn mezulobu_rt_live_name(
     text: &mut [u8],
     size: &mut usize,
 ) -> u32
-    ensures { held.new.value ≡ held.old.value }
+    ensures tells { TellsName node held.old.value text.old text.new size.old size.new result }
+    ensures unchanged { held.new.value ≡ held.old.value }
 {
     name_on(alloc, held, node, text, size)
 }
@@ -230,7 +244,7 @@ pub extern "C" fn mezulobu_rt_live_refusal(
     refusal_on(alloc, held, node, why)
 }
 
-/// Writes the history of a collection, or of a copy of one, as a script.
+/// Writes the script of a copy of a collection.
 #[unsafe(no_mangle)]
 pub extern "C" fn mezulobu_rt_live_script(
     alloc: Global,
@@ -238,12 +252,13 @@ pub extern "C" fn mezulobu_rt_live_script(
     text: &mut [u8],
     size: &mut usize,
 ) -> u32
-    ensures { held.new.value ≡ held.old.value }
+    ensures writes { Writes IsScriptOf held.old.value text.old text.new size.old size.new result }
+    ensures unchanged { held.new.value ≡ held.old.value }
 {
     script_on(alloc, held, text, size)
 }
 
-/// Writes the certificate of the decisions of a collection, or of a copy of one.
+/// Writes the certificate of the decisions of a copy of a collection.
 #[unsafe(no_mangle)]
 pub extern "C" fn mezulobu_rt_live_certificate(
     alloc: Global,
@@ -251,7 +266,9 @@ pub extern "C" fn mezulobu_rt_live_certificate(
     text: &mut [u8],
     size: &mut usize,
 ) -> u32
-    ensures { held.new.value ≡ held.old.value }
+    ensures writes { Writes IsCertificateOf held.old.value text.old text.new
+        size.old size.new result }
+    ensures unchanged { held.new.value ≡ held.old.value }
 {
     certificate_on(alloc, held, text, size)
 }

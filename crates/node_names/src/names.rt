@@ -1,6 +1,6 @@
 //! The names that nodes were given.
 
-ghost use Rattle.std.specs.Prelude.{◌≡◌, ◌≤◌, ◌==◌, ◌++◌, [], filter, not, option_map, true, false, IfErr, IfOk, OnErr, OnOk};
+ghost use Rattle.std.specs.Prelude.{◌≡◌, ◌≤◌, ◌==◌, ◌++◌, [], filter, length, not, option_map, true, false, IfErr, IfOk, OnErr, OnOk};
 ghost use Rattle.std.specs.String.{string_bytes};
 ghost use Rattle.std.specs.Vec.{vec_capacity, vec_len};
 ghost use Rattle.node_names.specs.Names.{given_name, is_taken, name_of, with_name};
@@ -136,6 +136,20 @@ impl Names {
         }
         put_name(alloc, &mut self.nodes, node, name)?;
         Ok(())
+    }
+
+    /// How many nodes have a name.
+    pub fn count(&self) -> usize
+        ensures { result ≡ length self.now }
+    {
+        self.nodes.len()
+    }
+
+    /// The name that a node was given, if it was.
+    pub fn given(&self, node: u32) -> Option<&str>
+        ensures { option_map (λ name. name.now) result ≡ given_name self.now node }
+    {
+        given_name(&self.nodes, node)
     }
 
     /// Puts what a node is called: the name that it was given, or else `root` or `n` and its

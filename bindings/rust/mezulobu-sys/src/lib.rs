@@ -616,12 +616,12 @@ extern "C" {
     ) -> c_int;
     /// All calls of the whole collection that were done so far, as a script, and what proves its
     /// decisions; texts as above, and certificate and certificate_size may be null. Both are of one
-    /// moment. mezulobu_run accepts each of its calls and decides the same, which is tried before it is
-    /// handed out, so this takes what the decisions took; mezulobu_check says yes to the certificate.
-    /// REFUSED: there is no such script, since a decision had no memory, or it would be longer than a
-    /// script may be; each size is 0. What isn't in it: calls that were refused, check and wait. Of two
-    /// scripts the later one begins with the calls of the earlier one, under the names of its own
-    /// moment.
+    /// moment. mezulobu_run accepts each of its calls and decides the same, and mezulobu_check says yes
+    /// to the certificate; but a decision that had no memory is made by mezulobu_run, calls behind it may
+    /// be refused, and mezulobu_check says no. The actor of a call is the node on which it is made, where
+    /// that has a name and there are 15 names at most. REFUSED: the script would be longer than a script
+    /// may be; each size is 0. What isn't in it: calls that were refused, check and wait. Of two scripts
+    /// the later one begins with the calls of the earlier one, under the names of its own moment.
     pub fn mezulobu_collection_script(
         collection: *mut mezulobu_collection,
         text: *mut c_char,
@@ -630,8 +630,8 @@ extern "C" {
         certificate_size: *mut usize,
     ) -> c_int;
     /// mezulobu_explain of the script, and mezulobu_explain_json, with "collection" for its file: who is
-    /// awaited, what decided each value, who is in the way and which changes help. REFUSED: there is no
-    /// such script, and the size is 0.
+    /// awaited, what decided each value, who is in the way and which changes help. Of a decision that had
+    /// no memory it says what it would be. REFUSED: there is no such script, and the size is 0.
     pub fn mezulobu_collection_explain(
         collection: *mut mezulobu_collection,
         text: *mut c_char,

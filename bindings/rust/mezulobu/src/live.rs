@@ -458,8 +458,8 @@ impl<S> Collection<S> {
     /// All calls of the whole collection that were done so far, as a script.
     ///
     /// # Errors
-    /// `REFUSED` where there is none, since a decision had no memory, or it would be longer than a script
-    /// may be; `NO_MEMORY`. So too of what follows.
+    /// `REFUSED` where there is none, since it would be longer than a script may be; `NO_MEMORY`. So too of
+    /// what follows.
     pub fn script(&self) -> Result<String, Status> {
         // Safety: the handle lives, and so do the text and its size.
         self.text(|at, size| unsafe {

@@ -1,7 +1,8 @@
-//! A caller's buffers.
+//! A caller's buffers, to which texts are handed out where they have room.
+#![tactic(auto)]
 
 ghost use Rattle.std.specs.Prelude.{◌≡◌, ◌≤◌, ◌<◌, ◌⊎◌, length, false, IsTrue};
-ghost use Rattle.mezulobu.specs.Ends.{IsFilled};
+ghost use Rattle.caller_buffers.specs.Filled.{IsFilled};
 
 /// Copies a text to the front of a buffer with room for it.
 fn fill(text: &[u8], buffer: &mut [u8])
@@ -12,7 +13,7 @@ fn fill(text: &[u8], buffer: &mut [u8])
 }
 
 /// Hands a text out where the buffer has room for it, and says whether it has.
-pub(crate) fn hand_out(text: &[u8], buffer: &mut [u8]) -> bool
+pub fn hand_out(text: &[u8], buffer: &mut [u8]) -> bool
     ensures out { IsTrue result → IsFilled text.now buffer.old buffer.new }
     ensures small { result ≡ false → length buffer.old < length text.now }
     ensures kept { result ≡ false → buffer.new ≡ buffer.old }
@@ -25,12 +26,7 @@ pub(crate) fn hand_out(text: &[u8], buffer: &mut [u8]) -> bool
 }
 
 /// Hands two texts out where both buffers have room, and says whether they have.
-pub(crate) fn hand_out_both(
-    text: &[u8],
-    buffer: &mut [u8],
-    other: &[u8],
-    other_buffer: &mut [u8],
-) -> bool
+pub fn hand_out_both(text: &[u8], buffer: &mut [u8], other: &[u8], other_buffer: &mut [u8]) -> bool
     ensures out { IsTrue result → IsFilled text.now buffer.old buffer.new }
     ensures other_out { IsTrue result → IsFilled other.now other_buffer.old other_buffer.new }
     ensures small { result ≡ false → (length buffer.old < length text.now)

@@ -1,0 +1,4 @@
+pub mod Laws
+pub mod Recurring
+pub mod Script
+pub mod Texts
