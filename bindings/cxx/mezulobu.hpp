@@ -406,7 +406,8 @@ class Token : public detail::Handle<mezulobu_token, mezulobu_token_close> {
     /// Gives the token up, without harm to the others. Refused, it is as it was.
     expected<Done, Status> release() && { return detail::done(mezulobu_token_release(&at_)); }
 
-    /// Names the node, in scripts and explanations; MISUSED of the first one, which is root, and of what is no such name.
+    /// Names the node, in scripts and explanations; REFUSED of what is no name, NO where another node has it, MISUSED of the first one,
+    /// which is root.
     expected<Done, Status> set_name(const char *name) const { return detail::done(mezulobu_token_set_name(at_, name)); }
 };
 

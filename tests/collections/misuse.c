@@ -169,7 +169,7 @@ static void ask_fd(struct given g)
     judge(&g, fd < 0 ? MEZULOBU_MISUSED : MEZULOBU_DONE, "fd");
 }
 
-// A name is misused where it is no name, also one that another node has: so the names that may be taken are only asked to be answered.
+// The first node has no other name than its own: so a name of whatever may be that one is only asked to be answered.
 static void name(struct given g)
 {
     static const char *const bad[] = {"", "root", "n7", "a b", "0123456789012345678901234567890123456789"};
@@ -177,7 +177,7 @@ static void name(struct given g)
     bool has = take(8) != 0;
     int status = g.kind == TOKEN ? mezulobu_token_set_name(g.k->at, has ? word : NULL) : g.kind == GROUP ? mezulobu_group_set_name(g.k->at, has ? word : NULL)
                                                                                                          : mezulobu_collection_set_name(g.k->at, has ? word : NULL);
-    g.is_misused |= !has || strcmp(word, "camera");
+    g.is_misused |= !has;
     if (g.is_misused || status != MEZULOBU_MISUSED)
         judge(&g, status, "set_name");
 }

@@ -40,7 +40,7 @@ static int name(struct actor *a, const struct own *o)
     snprintf(word, sizeof word, "%s%u", draw(&a->seed, 4) ? "node_" : "n", draw(&a->seed, 200));
     int status = o->kind == TOKEN ? mezulobu_token_set_name(o->token, word) : o->kind == GROUP ? mezulobu_group_set_name(o->group, word)
                                                                                                : mezulobu_collection_set_name(o->collection, word);
-    return status == MEZULOBU_MISUSED ? MEZULOBU_DONE : status;
+    return status == MEZULOBU_MISUSED || status == MEZULOBU_REFUSED || status == MEZULOBU_NO ? MEZULOBU_DONE : status;
 }
 
 static int act_on_token(struct actor *a, struct own *o, unsigned what)

@@ -45,8 +45,8 @@ static void try_names(void)
     expect(&t, mezulobu_collection_name_of(c, 3, text, &size) == MEZULOBU_MISUSED, "there is no fourth node");
     expect(&t, mezulobu_collection_name_of(c, 1, text, &size) == MEZULOBU_TOO_SMALL && size == 6, "the length of a name");
     for (size_t i = 0; i < sizeof bad / sizeof *bad; i++)
-        expect(&t, mezulobu_token_set_name(other, bad[i]) == MEZULOBU_MISUSED && is_called(c, 2, "n2"), bad[i]);
-    expect(&t, mezulobu_token_set_name(other, "camera") == MEZULOBU_MISUSED, "another node has the name");
+        expect(&t, mezulobu_token_set_name(other, bad[i]) == MEZULOBU_REFUSED && is_called(c, 2, "n2"), bad[i]);
+    expect(&t, mezulobu_token_set_name(other, "camera") == MEZULOBU_NO && is_called(c, 2, "n2"), "another node has the name");
     expect(&t, mezulobu_token_set_name(root, "app") == MEZULOBU_MISUSED && is_called(c, 0, "root"), "the first node is always the root");
     for (size_t i = 0; i < sizeof good / sizeof *good; i++)
         expect(&t, mezulobu_token_set_name(other, good[i]) == MEZULOBU_DONE && is_called(c, 2, good[i]), good[i]);

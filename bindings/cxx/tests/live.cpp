@@ -57,7 +57,7 @@ void a_thread_waits_for_the_other()
 {
     auto [camera, encoder] = both();
     expect(camera.set_name("camera").has_value() && camera.name_of(camera.node()).value() == "camera", "a name");
-    expect(camera.set_name("n7").error() == Status{MEZULOBU_MISUSED}, "no name");
+    expect(camera.set_name("n7").error() == Status{MEZULOBU_REFUSED}, "no name");
     expect(camera.set_constraints(asked(2)).has_value(), "what a camera asks for");
     expect(!camera.check().value() && !camera.wait(1).value(), "nothing is decided");
     mezulobu::Settings settings;

@@ -140,10 +140,10 @@ class _Node(_Handle):
         self._spend(self._release)
 
     def set_name(self, name: str) -> None:
-        """Names the node, in scripts and explanations: 1 to 32 letters, digits, _ or -, but for root, n with digits, and what another node
-        of the collection has. The first node is always root."""
+        """Names the node, in scripts and explanations: 1 to 32 letters, digits, _ or -, but for root and n with digits (REFUSED), and what
+        another node of the collection has (NO). The first node is always root (MISUSED)."""
         text = name.encode()
-        _done(Status.MISUSED if b"\0" in text else self._call(self._set_name, text))
+        _done(Status.REFUSED if b"\0" in text else self._call(self._set_name, text))
 
 
 class Token(_Node):

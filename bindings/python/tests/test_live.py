@@ -61,7 +61,7 @@ class Live(unittest.TestCase):
             self.assertEqual(select.select([camera], [], [], 0)[0], [camera])
             self.refused(Status.MISUSED, camera.name_of, 9)
             for name in ("root", "n7", "", "a\0b"):
-                self.refused(Status.MISUSED, camera.set_name, name)
+                self.refused(Status.REFUSED, camera.set_name, name)
 
     def test_who_leaves_too_early_fails_the_domain(self) -> None:
         camera, encoder = both()

@@ -14,8 +14,8 @@ use Rattle.node_names.specs.declared.names.Unnamed.TheVariants.{NoMemory, NoName
 -- the status of why a node isn't given a name
 abbrev pub misname_status : Misnamed → ℕ
 misname_status NoNode = 2
-misname_status (of NoName) = 2
-misname_status (of Taken) = 2
+misname_status (of NoName) = 3
+misname_status (of Taken) = 6
 misname_status (of NoMemory) = 4
 
 -- how many nodes a collection has had
@@ -31,7 +31,7 @@ pub data SetsName (k : ℕ) (name : List ℕ) (before after : Option Object) : �
       → SetsName k name before after 0
   misnames : (c : CollectionFacts) (why : Misnamed) → before ≡ Some (Collection c)
       → IsMisnamed c k name why → after ≡ before → SetsName k name before after (misname_status why)
-  is_no_text : ¬ IsUtf8 name → after ≡ before → SetsName k name before after 2
+  is_no_text : ¬ IsUtf8 name → after ≡ before → SetsName k name before after 3
   set_name_misused : IsNoCollection before → after ≡ before → SetsName k name before after 2
 
 -- what node k of what lies behind a handle is called is told; or there is no such node or no

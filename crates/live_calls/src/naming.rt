@@ -5,7 +5,7 @@ ghost use Rattle.live_book.specs.declared.object.Object.TheVariants.{Collection 
 ghost use Rattle.live_calls.specs.Naming.{SetsName, TellsName, misname_status, nodes_in};
 ghost use Rattle.node_names.specs.Names.{name_of};
 
-use crate::statuses::{DONE, MISUSED, NO_MEMORY};
+use crate::statuses::{DONE, MISUSED, NO, NO_MEMORY, REFUSED};
 use crate::writing::fit;
 use live_book::{Collection, Misnamed, Object, set_name};
 use live_held::Held;
@@ -18,8 +18,8 @@ fn misname_status(why: Misnamed) -> u32
 {
     match why {
         Misnamed::NoNode => MISUSED,
-        Misnamed::Unnamed(Unnamed::NoName) => MISUSED,
-        Misnamed::Unnamed(Unnamed::Taken) => MISUSED,
+        Misnamed::Unnamed(Unnamed::NoName) => REFUSED,
+        Misnamed::Unnamed(Unnamed::Taken) => NO,
         Misnamed::Unnamed(Unnamed::NoMemory) => NO_MEMORY,
     }
 }
@@ -44,7 +44,7 @@ fn set_name_in(alloc: Global, object: &mut Object, node: u32, name: &[u8]) -> u3
     };
     match str::from_utf8(name) {
         Ok(name) => name_by(alloc, collection, node, name),
-        Err(_) => MISUSED,
+        Err(_) => REFUSED,
     }
 }
 

@@ -14,7 +14,7 @@ pub const DONE: u32 = 0;
 /// What isn't fit for a call lies behind the handle.
 pub const MISUSED: u32 = 2;
 
-/// There is no such text, or a struct or a record states nothing.
+/// There is no such text, a struct or a record states nothing, or a name is none.
 pub const REFUSED: u32 = 3;
 
 /// Memory was refused.
@@ -22,7 +22,7 @@ pub const NO_MEMORY: u32 = 4;
 
 pub(crate) const TOO_SMALL: u32 = 5;
 
-/// Nothing waits, or nobody is in the way.
+/// Nothing waits, nobody is in the way, or another node has the name.
 pub const NO: u32 = 6;
 
 /// That a domain waits for a decision, which has to be entered first.

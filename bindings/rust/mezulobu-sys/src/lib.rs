@@ -569,9 +569,9 @@ extern "C" {
         collection: *mut mezulobu_collection,
     ) -> c_int;
     /// Names a node, in scripts and explanations, which else call it `n` and its number: 1 to 32
-    /// letters, digits, '_' or '-', and a 0. The first node of all is always `root`. MISUSED: of that
-    /// one, another name than these, `root`, `n` with digits, or a name that another node of the
-    /// collection has. NO_MEMORY. A further name takes the place of the one before.
+    /// letters, digits, '_' or '-', and a 0. A further name takes the place of the one before. REFUSED:
+    /// it is no such name, or it is `root` or `n` with digits. NO: another node of the collection has
+    /// it. MISUSED: of the first node, which is always `root`. NO_MEMORY.
     pub fn mezulobu_token_set_name(
         token: *mut mezulobu_token,
         name: *const c_char,

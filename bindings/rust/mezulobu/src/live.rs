@@ -89,7 +89,7 @@ fn done(status: c_int) -> Result<(), Status> {
 
 /// A handle's text of a name; `MISUSED` where a 0 is in it.
 fn c_name(name: &str) -> Result<CString, Status> {
-    CString::new(name).map_err(|_| Status::MISUSED)
+    CString::new(name).map_err(|_| Status::REFUSED)
 }
 
 /// Makes collections, which are decided for one platform.
@@ -164,7 +164,8 @@ macro_rules! handle {
             /// `n` with digits, and what another node of the collection has.
             ///
             /// # Errors
-            /// `MISUSED` of another name, and of the first node, which is `root`; `NO_MEMORY`.
+            /// `REFUSED` of another name, `NO` where another node has it, `MISUSED` of the first node, which is `root`;
+            /// `NO_MEMORY`.
             pub fn set_name(&self, name: &str) -> Result<(), Status> {
                 let name = c_name(name)?;
                 // Safety: the handle lives, and the name ends with a 0.
