@@ -213,7 +213,8 @@ fn a_late_participant_accepts_the_settings() {
         .unwrap();
     assert_eq!(late.wait(None), camera.check());
     assert!(late.descriptor().is_some());
-    assert_eq!(camera.set_name("root"), Err(Status::REFUSED));
+    assert_eq!(camera.set_name("camera"), Err(Status::MISUSED));
+    assert_eq!(late.set_name("root"), Err(Status::REFUSED));
     assert_eq!(late.set_name("a\0b"), Err(Status::REFUSED));
 }
 
