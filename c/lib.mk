@@ -41,7 +41,7 @@ install: library
 	install -d $(TO)/bin $(TO)/include $(TO)/share/doc/mezulobu $(LIB)/pkgconfig
 	install -m 755 $(PROGRAM) $(TO)/bin
 	install -m 644 c/mezulobu.h $(TO)/include
-	install -m 644 docs/FORMATS.md docs/LIVE.md $(TO)/share/doc/mezulobu
+	install -m 644 $(addprefix docs/,$(addsuffix .md,SCRIPT REPORT CERTIFICATE EXPLAIN LIBRARY LIVE)) $(TO)/share/doc/mezulobu
 	install -m 644 $(OUT)/libmezulobu.a $(LIB)
 	install -m 755 $(OUT)/libmezulobu.so.1 $(LIB)
 	ln -sf libmezulobu.so.1 $(LIB)/libmezulobu.so

@@ -52,7 +52,8 @@ enum mezulobu_status {
  *
  * At NO_MEMORY each size is 0, and no buffer is written to. After a text a buffer is as it was. A text isn't ended by a 0.
  *
- * A script is one JSON value; FORMATS, which is installed as share/doc/mezulobu/FORMATS.md, says what it holds. */
+ * A script is one JSON value. SCRIPT, which is installed as share/doc/mezulobu/SCRIPT.md, says what it holds, and beside it
+ * REPORT, CERTIFICATE and EXPLAIN say what the texts hold. */
 
 /* Replays a script. At DONE text is its report and, where certificate_size isn't null, certificate proves its decisions.
  * At REFUSED text is the words of the script's first fault, as `script refused: Q4 at call 7`, and the certificate is of
@@ -75,7 +76,7 @@ int mezulobu_check(const void *script, size_t script_size,
 int mezulobu_explain(const void *script, size_t script_size, const char *file, bool is_strict,
                      char *text, size_t *text_size);
 
-/* The same as objects of JSON, one a line: one for each item of the explanation, and one that ends them. FORMATS says what each has. */
+/* The same as objects of JSON, one a line: one for each item of the explanation, and one that ends them. EXPLAIN says what each has. */
 int mezulobu_explain_json(const void *script, size_t script_size, const char *file, bool is_strict,
                           char *text, size_t *text_size);
 
@@ -86,7 +87,7 @@ int mezulobu_explain_json(const void *script, size_t script_size, const char *fi
  * `= {0}`, states nothing, and a caller fills in what it means. Four are read as they are: modifier, whose 0 is linear, and
  * format, colors and usage, which may not be 0. Each struct_size, also of settings and of a refusal, is set by the caller to
  * sizeof of the struct; another size is MISUSED. A list of no items may be null. Text in brackets is the name of the field in a
- * script's records, by which a refusal names it; FORMATS has a table of them.
+ * script's records, by which a refusal names it; LIBRARY, which is installed beside SCRIPT, has a table of them.
  *
  *     struct mezulobu_heap heaps[] = {{.cpu = true, .ram = true}};
  *     struct mezulobu_pair pairs[] = {{.format = DRM_FORMAT_XRGB8888}};
@@ -324,7 +325,7 @@ uint32_t mezulobu_version(void);
 /* ---- Live collections --------------------------------------------------------------------------------------------------
  *
  * The same negotiation while it goes on: a camera, a codec, a GPU and a display driver, each on a thread of its own, hold
- * tokens and collections of one collection of buffers, act on them, and are told once nobody is awaited any more. FORMATS says
+ * tokens and collections of one collection of buffers, act on them, and are told once nobody is awaited any more. SCRIPT says
  * what each call does ("What the calls do"), and LIVE, which is installed as share/doc/mezulobu/LIVE.md, how a program is made
  * of them. The least is:
  *

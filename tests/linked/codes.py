@@ -1,5 +1,5 @@
 #!/usr/bin/env python3
-"""Compares the machine's drm_fourcc.h with docs/FORMATS.md and with the library: each format and modifier of the tables has the code that the header has under its DRM
+"""Compares the machine's drm_fourcc.h with docs/REPORT.md and with the library: each format and modifier of the tables has the code that the header has under its DRM
 name, and the library lays such images out; each other code of the header is refused. The last line is 'N passed, M failed'.
 
 usage: codes.py LIBRARY
@@ -41,9 +41,9 @@ def status(library, code, modifier):
 def answers(library, header):
     """What is compared, and whether it is right."""
     formats, modifiers = codes_in(header)
-    known = {drm: letters + (spaces and "  ") for _, drm, letters, spaces in ROW.findall(content(os.path.join(TOP, "docs", "FORMATS.md")))}
-    named = {drm: int(value, 0) for _, drm, value in VALUE.findall(content(os.path.join(TOP, "docs", "FORMATS.md")))}
-    yield "the tables of FORMATS", (len(known), len(named)) == (14, 3)
+    known = {drm: letters + (spaces and "  ") for _, drm, letters, spaces in ROW.findall(content(os.path.join(TOP, "docs", "REPORT.md")))}
+    named = {drm: int(value, 0) for _, drm, value in VALUE.findall(content(os.path.join(TOP, "docs", "REPORT.md")))}
+    yield "the tables of REPORT", (len(known), len(named)) == (14, 3)
     for drm, letters in known.items():
         yield drm, formats.get(drm) == letters and status(library, int.from_bytes(letters.encode(), "little"), 0) == DONE
     for drm, value in named.items():

@@ -379,7 +379,7 @@ extern "C" {
         text: *mut c_char,
         text_size: *mut usize,
     ) -> c_int;
-    /// The same as objects of JSON, one a line: one for each item of the explanation, and one that ends them. FORMATS says what each has.
+    /// The same as objects of JSON, one a line: one for each item of the explanation, and one that ends them. EXPLAIN says what each has.
     pub fn mezulobu_explain_json(
         script: *const c_void,
         script_size: usize,
