@@ -1,5 +1,6 @@
 -- The replies of calls that are made one after the other.
-use Rattle.std.proofs.Common.{◌≡◌, ◌≤◌, ℕ, zero, suc, ◌+◌, ◌++◌, List, [], ◌∷◌, false, length, map, drop, refl, sym, subst, append-nil, append_assoc, length-map}
+use Rattle.std.proofs.Common.{◌≡◌, ◌≤◌, ℕ, ◌+◌, ◌++◌, List, [], ◌∷◌, None, false, length, map, drop, refl, sym, subst, append-nil, append_assoc}
+use Rattle.std.proofs.lemmas.List.{at_drop_all, length-map}
 use Rattle.sysmem_alloc.specs.Decision.{answer_of}
 use Rattle.sysmem_alloc.specs.State.{next_ready}
 use Rattle.sysmem_sanitise.specs.Platform.{PlatformFacts}
@@ -17,7 +18,7 @@ use Rattle.script_replay.specs.Steps.{GoesIn}
 -- decisions alone
 decided_alone : (number : ℕ) (s t : RunState) (rs : List CallFacts) (a : List ℕ) (cs : List Certified) → rs ≡ [] → Goes number s rs a cs t → Answers s [] [] t
 decided_alone _ _ _ _ _ _ none (stays number s) = replies.stays s
-decided_alone _ _ _ _ _ _ none (calls number s answered t r rs reply text cs idle replied rest) = absurd none
+decided_alone _ _ _ _ _ _ none (calls number s answered t r rs reply text cs idle replied rest) = absurd (cc)
 decided_alone _ _ _ _ _ _ none (decides number s t c rs what text cs allowed said rest) =
     replies.decides s t c [] [] allowed (decided_alone number (with_decision s (answer_of c)) t rs text cs none rest)
 
@@ -56,18 +57,12 @@ remain_next platform rs place s t r reply given here replied sofar = record {
   idle = replied.idle;
 }
 
-past : (rs : List CallFacts) (place : ℕ) → length rs ≤ place → drop place rs ≡ []
-past [] zero more = refl
-past [] (suc k) more = refl
-past (r ∷ rs) zero more = absurd (omega (arith, more))
-past (r ∷ rs) (suc k) more = past rs k (omega (arith, more))
-
 pub remain_none : (platform : PlatformFacts) (called : List Call) (place : ℕ) (s : RunState) (given : List Reply) → length called ≤ place → s.starved ≡ false
     → Remain platform (map call_seen called) place s given → AreReplies platform (map call_seen called) given
 remain_none platform called place s given all fed sofar = record {
   last = s;
   made = subst (λ (gs : List Reply). Answers (first_run_state platform) (map call_seen called) gs s) (append-nil given)
-      (sofar.left s [] (subst (λ (qs : List CallFacts). Answers s qs [] s) (sym (past (map call_seen called) place (rw length-map all))) (replies.stays s)));
+      (sofar.left s [] (subst (λ (qs : List CallFacts). Answers s qs [] s) (sym (at_drop_all (λ (l : List CallFacts). l) (map call_seen called) place (rw length-map all))) (replies.stays s)));
   done = sofar.idle;
   fed = fed;
 }
