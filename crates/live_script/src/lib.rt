@@ -3,7 +3,6 @@
 
 mod calls;
 mod certificate;
-mod records;
 mod refusal;
 mod replaying;
 mod script;

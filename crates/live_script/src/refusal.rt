@@ -2,15 +2,14 @@
 
 ghost use Rattle.std.specs.Prelude.{◌≡◌};
 
-use crate::records::put_participant;
 use flat_negotiation::{FlatRefusal, MOST_PARTICIPANTS, Unsettled, refusal_of, settled};
 use live_book::{Object, Snapshot};
 use live_calls::MISUSED;
 use live_held::Held;
-use serde_json::Value;
+use record_writing::copy_constraints;
 use std::alloc::{AllocError, Global};
 use sysmem_alloc::Entry;
-use sysmem_sanitise::{Constraints, read_constraints};
+use sysmem_sanitise::Constraints;
 use sysmem_tree::{DomainId, NodeKind, Tree};
 use verdict_claims::Verdict;
 
@@ -59,27 +58,12 @@ fn members_of(alloc: Global, tree: &Tree, domain: DomainId) -> Result<Vec<u32>, 
     Ok(numbers)
 }
 
-/// A copy of constraints, by their record; `None` where memory is refused.
-fn copied(alloc: Global, constraints: &Constraints) -> Option<Constraints> {
-    let mut text = String::new(alloc);
-    if put_participant(&mut text, constraints).is_err() {
-        return None;
-    }
-    let Ok(value) = Value::from_slice(alloc, text.as_bytes()) else {
-        return None;
-    };
-    match read_constraints(alloc, &value) {
-        Ok(copy) => Some(copy),
-        Err(_) => None,
-    }
-}
-
 /// Copies of the constraints of the nodes of these numbers; `None` where memory is refused.
 fn asked_by(alloc: Global, tree: &Tree, numbers: &[u32]) -> Option<Vec<Constraints>> {
     let mut asked = Vec::new(alloc);
     for number in numbers {
         let node = tree.node(*number)?;
-        let copy = copied(alloc, tree.constraints_of(node)?)?;
+        let copy = copy_constraints(alloc, tree.constraints_of(node)?).ok()?;
         if asked.push(copy).is_err() {
             return None;
         }

@@ -2,9 +2,10 @@
 
 ghost use Rattle.std.specs.Prelude.{◌≡◌};
 
-use crate::records::{put_participant, put_platform};
 use crate::replaying::is_script_of;
 use live_book::Snapshot;
+use record_writing::{write_constraints, write_platform};
+use serde_json::Value;
 use std::alloc::{AllocError, Global};
 use sysmem_alloc::Entry;
 use sysmem_tree::{ActionKind, NodeId, Tree};
@@ -23,19 +24,31 @@ fn word_of(kind: ActionKind) -> &'static str {
     }
 }
 
-fn put_constraints(text: &mut String, tree: &Tree, number: u32) -> Result<(), AllocError> {
+fn put_value(alloc: Global, text: &mut String, value: &Value) -> Result<(), AllocError> {
+    let written = value.to_string(alloc)?;
+    text.push_str(&written)
+}
+
+fn put_constraints(
+    alloc: Global,
+    text: &mut String,
+    tree: &Tree,
+    number: u32,
+) -> Result<(), AllocError> {
     let Some(node) = tree.node(number) else {
         return Ok(());
     };
-    if let Some(asked) = tree.constraints_of(node) {
-        text.push_str(",\"constraints\":")?;
-        put_participant(text, asked)?;
-    }
-    Ok(())
+    let Some(asked) = tree.constraints_of(node) else {
+        return Ok(());
+    };
+    let record = write_constraints(alloc, asked)?;
+    text.push_str(",\"constraints\":")?;
+    put_value(alloc, text, &record)
 }
 
 /// Puts a call, and tells how many nodes there are behind it.
 fn put_call(
+    alloc: Global,
     text: &mut String,
     snapshot: &Snapshot,
     number: u32,
@@ -55,7 +68,7 @@ fn put_call(
         nodes = nodes.saturating_add(1);
     }
     if kind == ActionKind::SetConstraints {
-        put_constraints(text, snapshot.tree(), number)?;
+        put_constraints(alloc, text, snapshot.tree(), number)?;
     }
     text.push_str("}")?;
     Ok(nodes)
@@ -65,7 +78,11 @@ fn put_call(
 fn written(alloc: Global, snapshot: &Snapshot) -> Result<Vec<u8>, AllocError> {
     let mut text = String::from_str(alloc, "{\"platform\":")?;
     let tree = snapshot.tree();
-    put_platform(&mut text, snapshot.platform())?;
+    put_value(
+        alloc,
+        &mut text,
+        &write_platform(alloc, snapshot.platform())?,
+    )?;
     text.push_str(",\n\"calls\":[")?;
     let mut nodes = 1;
     let mut first = true;
@@ -73,7 +90,7 @@ fn written(alloc: Global, snapshot: &Snapshot) -> Result<Vec<u8>, AllocError> {
         if let Entry::Acted(node, kind) = entry {
             text.push_str(if first { "\n" } else { ",\n" })?;
             let number = number_of(tree, *node);
-            nodes = put_call(&mut text, snapshot, number, *kind, nodes)?;
+            nodes = put_call(alloc, &mut text, snapshot, number, *kind, nodes)?;
             first = false;
         }
     }
