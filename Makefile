@@ -12,7 +12,7 @@ JOBS ?= $(shell awk -v n=$$(nproc) '/^MemAvailable/ { m = int($$2 / 4000000); n 
 
 help:
 	@echo 'make build        the program and the library, not proved: 5 minutes or less, once'
-	@echo 'make quick-test   the same, and the tests of these two: 5 to 10 minutes; run this first'
+	@echo 'make quick-test   the same, and the tests of these two: 7 minutes in all; run this first'
 	@echo 'make prove        the program, proved with all that it stands on: over an hour, once'
 	@echo 'make lib          the library for C, C++ and Python, proved: 3 minutes after make prove'
 	@echo 'make install      the program and the library under PREFIX, as made by the two above;'
