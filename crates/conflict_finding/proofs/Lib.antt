@@ -9,7 +9,10 @@ pub mod FirstWithout
 pub mod FirstLines
 pub mod FirstKinds
 pub mod KeptLines
-pub mod PairsTaken
+pub mod SameOnes
+pub mod FrontReads
+pub mod TakenOffers
+pub mod AskedOffers
 pub mod ThoseAsking
 pub mod AskedOnce
 pub mod FoundNodes

@@ -6,5 +6,6 @@ pub mod Learnt
 pub mod Refusals
 pub mod Askers
 pub mod Reading
-pub mod OpenPairs
+pub mod OfferAsked
+pub mod OffersAsked
 pub mod PlacesAsked

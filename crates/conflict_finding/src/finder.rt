@@ -122,7 +122,8 @@ fn find_initial(
     if let Refusals::Whole(lines) = places {
         return Ok(Some(Conflict::Places(lines)));
     }
-    match refused_offers(alloc, platform, tree, nodes, whole, None, &mut learnt.alone)? {
+    let (asked, alone) = (&mut learnt.offers, &mut learnt.alone);
+    match refused_offers(alloc, platform, tree, nodes, whole, None, asked, alone)? {
         Refusals::Whole(lines) => Ok(Some(Conflict::Offers(lines))),
         Refusals::UpTo(_) => Ok(None),
     }
@@ -290,8 +291,18 @@ pub fn lines_before(
     let nodes = settled_at(tree, domain, &layout, selection)?;
     let (offer, place) = (settings.offer, settings.place);
     let mut learnt = Learnt::new(alloc);
+    let (asked, alone) = (&mut learnt.offers, &mut learnt.alone);
+    let offers = refused_offers(
+        alloc,
+        platform,
+        tree,
+        &nodes,
+        true,
+        Some(offer),
+        asked,
+        alone,
+    )?;
     let (asked, alone) = (&mut learnt.asked, &mut learnt.alone);
-    let offers = refused_offers(alloc, platform, tree, &nodes, true, Some(offer), alone)?;
     let places = refused_places(alloc, platform, tree, &nodes, Some(place), asked, alone)?;
     Ok(LinesBefore {
         offers: offers.into_lines(),

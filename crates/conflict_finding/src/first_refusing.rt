@@ -1,26 +1,26 @@
 //! The first of some participants who refuses an offer, a place, or settings that are given.
 
-ghost use Rattle.std.specs.Prelude.{◌≡◌, ◌<◌, true, false, [], ◌∷◌, Some, All, Any, Contains, IfSome, IfNone, IsSomeAnd, IsTrue, length, option_map, slice_get};
+ghost use Rattle.std.specs.Prelude.{◌≡◌, ◌<◌, true, false, [], ◌∷◌, Some, All, Any, Contains, IfOk, IfSome, IfNone, IsSomeAnd, IsTrue, length, option_map, slice_get};
 ghost use Rattle.std.specs.List.{cons_option};
-ghost use Rattle.sysmem_counts.specs.declared.field.Field.TheVariants.{ColorSpaces};
+ghost use Rattle.sysmem_counts.specs.declared.field.Field.TheVariants.{ColorSpaces, PixelFormat};
 ghost use Rattle.sysmem_memory.specs.PlaceTable.{AllowsPlace, first_refusing, refuses_by};
 ghost use Rattle.sysmem_merge.specs.Demands.{OfferDemand, offer_demand, offer_demands};
 ghost use Rattle.sysmem_merge.specs.Failing.{FailsOn, IsFirstUncovered};
 ghost use Rattle.sysmem_merge.specs.OfferRead.{IsOfferRead};
-ghost use Rattle.sysmem_merge.specs.Offers.{has_colour};
+ghost use Rattle.sysmem_merge.specs.Offers.{has_colour, has_format};
 ghost use Rattle.sysmem_merge.specs.Reasons.{IsOfferLine};
 ghost use Rattle.sysmem_merge.specs.Settings.{CoversOn};
 ghost use Rattle.verdict_claims.specs.FirstConflict.{IsFirstWithout};
 ghost use Rattle.verdict_claims.specs.Members.{members_at, participants};
-ghost use Rattle.conflict_finding.specs.Askers.{AreAskers};
-ghost use Rattle.conflict_finding.specs.OpenPairs.{IsOpenFor};
+ghost use Rattle.conflict_finding.specs.OffersAsked.{AreAskedOf};
 ghost use Rattle.conflict_finding.specs.PlacesAsked.{AreAsked};
 ghost use Rattle.conflict_finding.specs.Reading.{IsReading, TakesIn};
 ghost use Rattle.sysmem_tree.specs.Nodes.{HasNode};
 ghost use Rattle.sysmem_tree.specs.Path.{path_of};
 
-use crate::open_pairs::{OpenPair, first_without_colour, first_without_format};
+use crate::offers_asked::OffersAsked;
 use crate::places_asked::PlacesAsked;
+use std::alloc::AllocError;
 use sysmem_counts::Field;
 use sysmem_formats::Offer;
 use sysmem_image::{Entry, entry_for, takes_colour};
@@ -44,6 +44,46 @@ pub(crate) enum Reading {
     Refused(Field, NodeId),
     /// Each takes its format and its colour space; this is what all of them ask.
     Read(OfferRead),
+}
+
+/// Whether a participant with these entries takes the offer's format.
+fn has_format(entries: &[Entry], offer: &Offer) -> bool
+    ensures { (d : OfferDemand) → d.entries ≡ entries.now → result ≡ has_format offer.now d }
+{
+    match entry_for(entries, offer) {
+        Some(_entry) => true,
+        None => entries.is_empty(),
+    }
+}
+
+/// Whether a participant, if there is one, doesn't take the offer's format.
+fn lacks_format(asked: Option<&Constraints>, offer: &Offer) -> bool
+    ensures line { IsTrue result → IsOfferLine PixelFormat offer.now
+        (offer_demands (cons_option (option_map (λ one. one.now) asked.entry) [])) }
+    ensures takes { result ≡ false → All (λ p. TakesIn PixelFormat offer.now (offer_demand p))
+        (cons_option (option_map (λ one. one.now) asked.entry) []) }
+{
+    match asked {
+        Some(one) => !has_format(one.entries(), offer),
+        None => false,
+    }
+}
+
+/// The first of the participants at these nodes who doesn't take the offer's format.
+fn first_without_format(tree: &Tree, nodes: &[NodeId], offer: &Offer) -> Option<NodeId>
+    requires { All (HasNode tree.now.nodes) nodes.now }
+    ensures there { IfSome result (Contains nodes.now) }
+    ensures line { IfSome result (λ node. IsOfferLine PixelFormat offer.now
+        (offer_demands (participants (members_at tree.now.nodes (node ∷ []))))) }
+    ensures none { IfNone result (All (λ p. TakesIn PixelFormat offer.now (offer_demand p))
+        (participants (members_at tree.now.nodes nodes.now))) }
+{
+    for node in nodes {
+        if lacks_format(tree.constraints_of(*node), offer) {
+            return Some(*node);
+        }
+    }
+    None
 }
 
 /// Whether a participant's entry for the offer, if these have one, takes the offer's colour space.
@@ -70,7 +110,7 @@ fn lacks_colour(asked: Option<&Constraints>, offer: &Offer) -> bool
 }
 
 /// The first of the participants at these nodes who doesn't take the offer's colour space.
-pub(crate) fn first_lacking(tree: &Tree, nodes: &[NodeId], offer: &Offer) -> Option<NodeId>
+fn first_without_colour(tree: &Tree, nodes: &[NodeId], offer: &Offer) -> Option<NodeId>
     requires { All (HasNode tree.now.nodes) nodes.now }
     ensures there { IfSome result (Contains nodes.now) }
     ensures line { IfSome result (λ node. IsOfferLine ColorSpaces offer.now
@@ -99,32 +139,31 @@ fn read_all(tree: &Tree, nodes: &[NodeId], offer: &Offer) -> OfferRead
     read
 }
 
-/// Reads what the participants at these nodes ask of an offer, of whom some are given who alone
-/// ask something. The first who doesn't take its format ends it; where nobody is that, the first
-/// who doesn't take its colour space; neither's bounds are read.
+/// Reads what the participants at these nodes ask of an offer, which has this number. Where one of
+/// them doesn't take its format, it is the first who doesn't; or else the first who doesn't take
+/// its colour space.
 pub(crate) fn read_offer(
     tree: &Tree,
     nodes: &[NodeId],
-    askers: &[NodeId],
+    number: usize,
     offer: &Offer,
-    known: &mut Option<OpenPair>,
-) -> Reading
+    asked: &mut OffersAsked,
+) -> Result<Reading, AllocError>
     requires there { All (HasNode tree.now.nodes) nodes.now }
-    requires askers { AreAskers tree.now.nodes nodes.now askers.now }
-    requires known { IfSome known.old
-        (IsOpenFor (participants (members_at tree.now.nodes askers.now))) }
-    ensures known { IfSome known.new
-        (IsOpenFor (participants (members_at tree.now.nodes askers.now))) }
-    ensures reading { IsReading tree.now.nodes nodes.now offer.now result }
+    requires asked { AreAskedOf tree.now.nodes nodes.now asked.old }
+    ensures asked { AreAskedOf tree.now.nodes nodes.now asked.new }
+    ensures reading { IfOk result (IsReading tree.now.nodes nodes.now offer.now) }
 {
-    let _ = nodes;
-    if let Some(node) = first_without_format(tree, askers, offer, known) {
-        return Reading::Refused(Field::PixelFormat, node);
+    if let Some(read) = asked.read(tree, nodes, number, offer)? {
+        return Ok(Reading::Read(read));
     }
-    if let Some(node) = first_without_colour(tree, askers, offer, *known) {
-        return Reading::Refused(Field::ColorSpaces, node);
+    if let Some(node) = first_without_format(tree, nodes, offer) {
+        return Ok(Reading::Refused(Field::PixelFormat, node));
     }
-    Reading::Read(read_all(tree, askers, offer))
+    if let Some(node) = first_without_colour(tree, nodes, offer) {
+        return Ok(Reading::Refused(Field::ColorSpaces, node));
+    }
+    Ok(Reading::Read(read_all(tree, nodes, offer)))
 }
 
 /// The first of the participants at these nodes to whom the place is refused,

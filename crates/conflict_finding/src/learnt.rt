@@ -6,13 +6,16 @@ ghost use Rattle.conflict_finding.specs.Learnt.{IsLearnt};
 ghost use Rattle.sysmem_tree.specs.Node.{NodeFacts};
 
 use crate::alone_lines::AloneLines;
+use crate::offers_asked::OffersAsked;
 use crate::places_asked::PlacesAsked;
 use std::alloc::Global;
 
-/// What the participants of a tree said of places, and lines that name one of them each.
+/// What the participants of a tree said of places and of offers, and lines that name one of them
+/// each.
 #[derive(Drop)]
 pub struct Learnt {
     pub(crate) asked: PlacesAsked,
+    pub(crate) offers: OffersAsked,
     pub(crate) alone: AloneLines,
 }
 
@@ -23,6 +26,7 @@ impl Learnt {
     {
         Learnt {
             asked: PlacesAsked::new(alloc),
+            offers: OffersAsked::new(alloc),
             alone: AloneLines::new(alloc),
         }
     }

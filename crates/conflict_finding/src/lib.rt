@@ -11,9 +11,11 @@ mod count_lines;
 mod finder;
 mod first_refusing;
 mod learnt;
-mod open_pairs;
+mod offer_asked;
+mod offers_asked;
 mod places_asked;
 mod refusals;
+mod settled_row;
 mod subject;
 mod whom;
 

@@ -10,10 +10,9 @@ ghost use Rattle.sysmem_merge.specs.Demands.{offer_demand, offer_demands};
 ghost use Rattle.sysmem_merge.specs.OfferRead.{IsRefusingLine};
 ghost use Rattle.sysmem_merge.specs.Reasons.{IsOfferLine, IsUnnamedLine};
 ghost use Rattle.conflict_finding.specs.AloneLines.{AreAlone};
-ghost use Rattle.conflict_finding.specs.Askers.{AreAskers};
 ghost use Rattle.verdict_claims.specs.FirstConflict.{IsOfferLineGiven, IsPlaceLineGiven};
 ghost use Rattle.verdict_claims.specs.Members.{members_at, participants, StandFor};
-ghost use Rattle.conflict_finding.specs.OpenPairs.{IsOpenFor};
+ghost use Rattle.conflict_finding.specs.OffersAsked.{AreAskedOf, AreOffersAsked};
 ghost use Rattle.conflict_finding.specs.PlacesAsked.{AreAsked};
 ghost use Rattle.conflict_finding.specs.Reading.{TakesIn};
 ghost use Rattle.conflict_finding.specs.Refusals.{AreRefusals, AreSoFar, Ends, GoOn, RefusesLast, ShareOffer, SharePlace};
@@ -26,7 +25,7 @@ ghost use Rattle.sysmem_tree.specs.Shape.{Member};
 use crate::alone_lines::{AloneLines, line_alone};
 use crate::askers::those_asking;
 use crate::first_refusing::{Reading, first_refused, read_offer};
-use crate::open_pairs::{OpenPair, all_take_colour};
+use crate::offers_asked::OffersAsked;
 use crate::places_asked::PlacesAsked;
 use crate::whom::{Named, Whom, next_line_of};
 use std::alloc::{AllocError, Global};
@@ -78,17 +77,15 @@ fn whom_for(field: Field) -> Whom
 fn line_again(
     tree: &Tree,
     nodes: &[NodeId],
-    askers: &[NodeId],
     earlier: &Offer,
     offer: &Offer,
     before: &[Line],
-    known: Option<OpenPair>,
+    asked: &mut OffersAsked,
 ) -> Result<Option<Line>, AllocError>
     requires there { All (HasNode tree.now.nodes) nodes.now }
-    requires askers { AreAskers tree.now.nodes nodes.now askers.now }
-    requires known { IfSome known
-        (IsOpenFor (participants (members_at tree.now.nodes askers.now))) }
-    ensures { (whole : _) (ms : List Member)
+    requires asked { AreAskedOf tree.now.nodes nodes.now asked.old }
+    ensures asked { AreAskedOf tree.now.nodes nodes.now asked.new }
+    ensures line { (whole : _) (ms : List Member)
         → StandFor (members_at tree.now.nodes nodes.now) ms
         → RefusesLast (IsOfferLineGiven whole ms) earlier.now before.now
         → IfOk result (λ line. IfSome line (IsOfferLineGiven whole ms offer.now)) }
@@ -100,7 +97,7 @@ fn line_again(
     if !is_shared(field, earlier, offer) {
         return Ok(None);
     }
-    if !is_before_colour(tree, nodes, askers, field, offer, known) {
+    if !is_before_colour(tree, nodes, field, before.len(), offer, asked)? {
         return Ok(None);
     }
     let line = last.again()?;
@@ -108,27 +105,25 @@ fn line_again(
 }
 
 /// Whether no line of the colour space comes before one with this field: it is that of the format,
-/// or all take the offer's colour space.
+/// or all take the colour space of the offer, which has this number.
 fn is_before_colour(
     tree: &Tree,
     nodes: &[NodeId],
-    askers: &[NodeId],
     field: Field,
+    number: usize,
     offer: &Offer,
-    known: Option<OpenPair>,
-) -> bool
+    asked: &mut OffersAsked,
+) -> Result<bool, AllocError>
     requires there { All (HasNode tree.now.nodes) nodes.now }
-    requires askers { AreAskers tree.now.nodes nodes.now askers.now }
-    requires known { IfSome known
-        (IsOpenFor (participants (members_at tree.now.nodes askers.now))) }
-    ensures { IsTrue result → (field ≡ PixelFormat)
+    requires asked { AreAskedOf tree.now.nodes nodes.now asked.old }
+    ensures asked { AreAskedOf tree.now.nodes nodes.now asked.new }
+    ensures before { IfOk result (λ before. IsTrue before → (field ≡ PixelFormat)
         ⊎ All (λ p. TakesIn ColorSpaces offer.now (offer_demand p))
-        (participants (members_at tree.now.nodes nodes.now)) }
+        (participants (members_at tree.now.nodes nodes.now))) }
 {
-    let _ = nodes;
     match field {
-        Field::PixelFormat => true,
-        _ => all_take_colour(tree, askers, offer, known),
+        Field::PixelFormat => Ok(true),
+        _ => asked.all_take(tree, nodes, number, offer),
     }
 }
 
@@ -138,30 +133,26 @@ fn offer_line(
     alloc: Global,
     tree: &Tree,
     nodes: &[NodeId],
-    askers: &[NodeId],
     offer: &Offer,
     whole: bool,
     before: &[Line],
     kept: &mut Option<Named>,
-    known: &mut Option<OpenPair>,
+    asked: &mut OffersAsked,
     alone: &mut AloneLines,
 ) -> Result<Option<Line>, AllocError>
     requires there { All (HasNode tree.now.nodes) nodes.now }
-    requires askers { AreAskers tree.now.nodes nodes.now askers.now }
     requires named { IfSome kept.old (NamesThose tree.now.nodes nodes.now) }
-    requires known { IfSome known.old
-        (IsOpenFor (participants (members_at tree.now.nodes askers.now))) }
+    requires asked { AreAskedOf tree.now.nodes nodes.now asked.old }
     requires alone { AreAlone tree.now.nodes alone.old }
     ensures named { IfSome kept.new (NamesThose tree.now.nodes nodes.now) }
-    ensures known { IfSome known.new
-        (IsOpenFor (participants (members_at tree.now.nodes askers.now))) }
+    ensures asked { AreAskedOf tree.now.nodes nodes.now asked.new }
     ensures alone { AreAlone tree.now.nodes alone.new }
     ensures line { (ms : List Member) → StandFor (members_at tree.now.nodes nodes.now) ms
         → IfOk result (λ line. IfSome line (IsOfferLineGiven whole ms offer.now)) }
     ensures share { (ms : List Member) → StandFor (members_at tree.now.nodes nodes.now) ms
         → IfOk result (λ line. IfNone line (ShareOffer whole ms offer.now)) }
 {
-    match read_offer(tree, nodes, askers, offer, known) {
+    match read_offer(tree, nodes, before.len(), offer, asked)? {
         Reading::Refused(field, node) => {
             let line = line_alone(alloc, tree, node, field, alone)?;
             Ok(Some(line))
@@ -183,39 +174,33 @@ fn next_line(
     alloc: Global,
     tree: &Tree,
     nodes: &[NodeId],
-    askers: &[NodeId],
     earlier: &Offer,
     offer: &Offer,
     whole: bool,
     before: &[Line],
     kept: &mut Option<Named>,
-    known: &mut Option<OpenPair>,
+    asked: &mut OffersAsked,
     alone: &mut AloneLines,
 ) -> Result<Option<Line>, AllocError>
     requires there { All (HasNode tree.now.nodes) nodes.now }
-    requires askers { AreAskers tree.now.nodes nodes.now askers.now }
     requires named { IfSome kept.old (NamesThose tree.now.nodes nodes.now) }
-    requires known { IfSome known.old
-        (IsOpenFor (participants (members_at tree.now.nodes askers.now))) }
+    requires asked { AreAskedOf tree.now.nodes nodes.now asked.old }
     requires last { (ms : List Member) → StandFor (members_at tree.now.nodes nodes.now) ms
         → RefusesLast (IsOfferLineGiven whole ms) earlier.now before.now }
     requires alone { AreAlone tree.now.nodes alone.old }
     ensures named { IfSome kept.new (NamesThose tree.now.nodes nodes.now) }
-    ensures known { IfSome known.new
-        (IsOpenFor (participants (members_at tree.now.nodes askers.now))) }
+    ensures asked { AreAskedOf tree.now.nodes nodes.now asked.new }
     ensures alone { AreAlone tree.now.nodes alone.new }
     ensures line { (ms : List Member) → StandFor (members_at tree.now.nodes nodes.now) ms
         → IfOk result (λ line. IfSome line (IsOfferLineGiven whole ms offer.now)) }
     ensures share { (ms : List Member) → StandFor (members_at tree.now.nodes nodes.now) ms
         → IfOk result (λ line. IfNone line (ShareOffer whole ms offer.now)) }
 {
-    let again = line_again(tree, nodes, askers, earlier, offer, before, *known)?;
+    let again = line_again(tree, nodes, earlier, offer, before, asked)?;
     if again.is_some() {
         return Ok(again);
     }
-    offer_line(
-        alloc, tree, nodes, askers, offer, whole, before, kept, known, alone,
-    )
+    offer_line(alloc, tree, nodes, offer, whole, before, kept, asked, alone)
 }
 
 /// Lines that refuse each offer of the platform to the participants at these nodes, or each before
@@ -228,28 +213,29 @@ pub(crate) fn refused_offers(
     nodes: &[NodeId],
     whole: bool,
     until: Option<Offer>,
+    asked: &mut OffersAsked,
     alone: &mut AloneLines,
 ) -> Result<Refusals, AllocError>
     requires there { All (HasNode tree.now.nodes) nodes.now }
+    requires asked { AreOffersAsked tree.now.nodes asked.old }
     requires alone { AreAlone tree.now.nodes alone.old }
+    ensures asked { AreOffersAsked tree.now.nodes asked.new }
     ensures alone { AreAlone tree.now.nodes alone.new }
     ensures lines { (ms : List Member) → StandFor (members_at tree.now.nodes nodes.now) ms
         → IfOk result (AreRefusals (IsOfferLineGiven whole ms)
         (Ends until (λ (o : Offered). o) (ShareOffer whole ms)) (offers_of platform.now)) }
 {
     let asking = those_asking(alloc, tree, nodes)?;
-    let askers = asking.as_slice();
+    asked.settle(tree, nodes, &asking)?;
     let mut lines = Vec::new(alloc);
     let mut earlier = Offer::NoImage;
     let mut kept = None;
-    let mut known = None;
     while let Some(offer) = offer_at(platform.pairs(), platform.colours(), lines.len()) {
         if until == Some(offer) {
             return Ok(Refusals::UpTo(Lines::new(lines)));
         }
         let Some(line) = next_line(
-            alloc, tree, nodes, askers, &earlier, &offer, whole, &lines, &mut kept, &mut known,
-            alone,
+            alloc, tree, nodes, &earlier, &offer, whole, &lines, &mut kept, asked, alone,
         )?
         else {
             return Ok(Refusals::UpTo(Lines::new(lines)));

@@ -22,6 +22,9 @@ refused_offers-requires-clause-there c = (found_at c.args.tree.now.nodes c.requi
 pub refused_offers-requires-clause-alone : goal.refused_offers-requires-clause-alone
 refused_offers-requires-clause-alone c = (c.new-learnt.ensures c.args.tree.now.nodes c.args.platform.now.heaps).alone
 
+pub refused_offers-requires-clause-asked : goal.refused_offers-requires-clause-asked
+refused_offers-requires-clause-asked c = (c.new-learnt.ensures c.args.tree.now.nodes c.args.platform.now.heaps).offers
+
 pub refused_places-requires-clause-asked : goal.refused_places-requires-clause-asked
 refused_places-requires-clause-asked c = (c.new-learnt.ensures c.args.tree.now.nodes c.args.platform.now.heaps).asked
 

@@ -5,13 +5,13 @@ use Rattle.verdict_claims.specs.Members.{members_at}
 use Rattle.conflict_finding.proofs.FirstLines.{line_again}
 use Rattle.conflict_finding.proofs.refusals.line_again.Goals as goal
 
-pub returns : goal.returns
-returns c = λ whole ms stand refuses.
+pub returns-clause-line : goal.returns-clause-line
+returns-clause-line c = λ whole ms stand refuses.
     let yes' = c.if-not-is_shared.false in
     let at : slice_get c.args.before.now (length c.args.before.now - 1) ≡ Some c.in-Some.last.now = sym c.last.ensures.value ∙ ap option_copied c.in-Some.is in
     let was = refuses (c.is_shared.ensures.image yes') c.in-Some.last.now at in
     subst (IsOfferLineGiven whole ms c.args.offer.now) (sym c.in_ok-line.ensures) (record {
       refuses = c.is_shared.ensures.shared yes' whole ms c.in-Some.last.now (sym c.field-field.ensures) was.refuses;
       first = line_again c.args.earlier.now c.args.offer.now (c.is_shared.ensures.pair yes') whole (members_at c.args.tree.now.nodes c.args.nodes.now) ms stand c.in-Some.last.now.field c.field-field.result c.field-field.ensures
-          (c.is_shared.ensures.ignores yes') (c.is_before_colour.ensures c.if-not-is_before_colour.false) was.first;
+          (c.is_shared.ensures.ignores yes') (c.in_ok-is_before_colour.ensures.before c.if-not-branch.false) was.first;
     })

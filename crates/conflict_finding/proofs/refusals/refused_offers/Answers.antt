@@ -29,11 +29,11 @@ returns-in_default-2-clause-lines c = λ ms stand.
     (ends_at_offer (IsOfferLineGiven c.args.whole ms) (Ends c.args.until (λ (o : Offer). o) (ShareOffer c.args.whole ms)) (offers_of c.args.platform.now) c.loop-offer.lines.items c.in-Some.offer
     (sym here) (c.loop-offer.invariant.so_far ms stand) (inr (other, of_none _ c.in_ok-line.field-0 c.in_default-2.is (c.in_ok-line.ensures.share ms stand))))
 
-pub next_line-requires-clause-askers : goal.next_line-requires-clause-askers
-next_line-requires-clause-askers c = subst (AreAskers c.args.tree.now.nodes c.args.nodes.now) (sym c.as_slice-askers.ensures.value) c.in_ok-asking.ensures
+pub settle-requires-clause-askers : goal.settle-requires-clause-askers
+settle-requires-clause-askers c = subst (AreAskers c.args.tree.now.nodes c.args.nodes.now) (sym c.deref.ensures.value) c.in_ok-asking.ensures
 
 pub next_line-requires-clause-last : goal.next_line-requires-clause-last
-next_line-requires-clause-last c = λ ms stand. subst (RefusesLast (IsOfferLineGiven c.args.whole ms) c.loop-offer.earlier) (sym c.deref.ensures.value) (c.loop-offer.invariant.last ms stand)
+next_line-requires-clause-last c = λ ms stand. subst (RefusesLast (IsOfferLineGiven c.args.whole ms) c.loop-offer.earlier) (sym c.deref-in-Some.ensures.value) (c.loop-offer.invariant.last ms stand)
 
 pub loop-offer-smaller : goal.loop-offer-smaller
 loop-offer-smaller c =
@@ -50,7 +50,7 @@ loop-offer-preserved c = record {
       (of_some (IsOfferLineGiven c.args.whole ms c.in-Some.offer) c.in_ok-line.field-0 c.in-Some-2.line c.in-Some-2.is (c.in_ok-line.ensures.line ms stand));
   alone = c.next_line.ensures.alone;
   named = c.in_ok-line.ensures.named;
-  known = c.in_ok-line.ensures.known;
+  asked = c.next_line.ensures.asked;
   last = λ ms stand image last at.
       subst (IsOfferLineGiven c.args.whole ms c.in-Some.offer) (last_pushed c.loop-offer.lines.items _ c.in-Some-2.line last c.in_ok-push.ensures.items at)
       (of_some (IsOfferLineGiven c.args.whole ms c.in-Some.offer) c.in_ok-line.field-0 c.in-Some-2.line c.in-Some-2.is (c.in_ok-line.ensures.line ms stand));

@@ -5,8 +5,8 @@ use Rattle.sysmem_tree.specs.Shape.{Member}
 use Rattle.conflict_finding.specs.AloneLines.{AreAlone}
 use Rattle.verdict_claims.specs.FirstConflict.{IsOfferLineGiven}
 use Rattle.std.specs.Prelude.{IfSome}
-use Rattle.verdict_claims.specs.Members.{members_at, participants, StandFor}
-use Rattle.conflict_finding.specs.OpenPairs.{IsOpenFor}
+use Rattle.verdict_claims.specs.Members.{members_at, StandFor}
+use Rattle.conflict_finding.specs.OffersAsked.{AreAskedOf}
 use Rattle.conflict_finding.specs.Refusals.{AreSoFar, RefusesLast}
 use Rattle.conflict_finding.specs.Whom.{NamesThose}
 use Rattle.conflict_finding.proofs.refusals.refused_offers.Given as goal
@@ -17,7 +17,7 @@ invariant-loop-offer l = record {
       → AreSoFar (IsOfferLineGiven l.whole ms) (offers_of l.platform) l.lines.items (drop (length l.lines.items) (offers_of l.platform));
   alone : AreAlone l.tree.nodes l.alone;
   named : IfSome l.kept (NamesThose l.tree.nodes l.nodes);
-  known : IfSome l.known (IsOpenFor (participants (members_at l.tree.nodes l.askers)));
+  asked : AreAskedOf l.tree.nodes l.nodes l.asked;
   last : (ms : List Member) → StandFor (members_at l.tree.nodes l.nodes) ms → RefusesLast (IsOfferLineGiven l.whole ms) l.earlier l.lines.items;
 }
 
