@@ -67,12 +67,12 @@ headline_of_bytes reports headline input c certifies =
     record {
       script = r.script;
       reads = r.reads;
+      decisions = r.report.decisions;
+      report = report;
       history = es;
-      legal = is.legal;
-      report = subst (λ ds. IsReport platform r.script.calls c.text ds c.starved) is.decided report;
-      certificate = subst (λ ds. c.certificate ≡ certificate_of platform ds) is.decided r.report.gave.text;
-      proved = subst AreProved is.decided r.report.gave.proved;
-      claimed = λ fed. subst (AllByRecursion HasClaim) is.decided
-          (each_claimed 1 (first_run_state platform) report.last r.script.calls report.lines r.report.decisions report.goes (sym report.memory ∙ fed));
+      leads = is;
+      certificate = r.report.gave.text;
+      proved = r.report.gave.proved;
+      claimed = λ fed. each_claimed 1 (first_run_state platform) report.last r.script.calls report.lines r.report.decisions report.goes (sym report.memory ∙ fed);
       negotiated = λ before domain claim after split. headline platform before domain claim after (subst (IsLegal platform) split is.legal);
     }

@@ -43,18 +43,20 @@ ReportsAreLegal = (platform : PlatformFacts) (rs : List CallFacts) (text : List 
 abbrev pub HasClaim : Certified → Type 0
 HasClaim d = is_none d.1 ≡ false
 
--- the bytes are a script, and what was written of them the report, and the certificate, of the
--- decisions of a legal history; where memory wasn't refused, each has a claim; and each that has
--- one is negotiated as the headline says
+-- the bytes are a script, and what was written of them is the report of its calls, and the
+-- certificate of its decisions; a legal history has these decisions, and leads to the collection as
+-- the calls and decisions leave it; where memory wasn't refused, each decision has a claim; and
+-- each that has one is negotiated as the headline says
 pub record HasHistory (input : List ℕ) (c : CertifiedFacts) : Type 0 where
   pub script : ScriptFacts
   pub reads : IsScriptOf input script
+  pub decisions : List Certified
+  pub report : IsReport script.platform script.calls c.text decisions c.starved
   pub history : List BookEntry
-  pub legal : IsLegal script.platform history
-  pub report : IsReport script.platform script.calls c.text (certified_in history) c.starved
-  pub certificate : c.certificate ≡ certificate_of script.platform (certified_in history)
-  pub proved : AreProved (certified_in history)
-  pub claimed : c.starved ≡ false → AllByRecursion HasClaim (certified_in history)
+  pub leads : IsHistoryOf script.platform decisions report.last.book history
+  pub certificate : c.certificate ≡ certificate_of script.platform decisions
+  pub proved : AreProved decisions
+  pub claimed : c.starved ≡ false → AllByRecursion HasClaim decisions
   pub negotiated : (es : List BookEntry) (r : ℕ) (claim : Claim) (fs : List BookEntry)
       → history ≡ history_with es r claim fs → IsNegotiated script.platform es r claim fs
 

@@ -20,7 +20,7 @@ use Rattle.sysmem_alloc.specs.Book.{book_of}
 use Rattle.sysmem_alloc.specs.Claims.{HasProof, IsRightClaim}
 use Rattle.sysmem_alloc.specs.Decision.{DomainVerdict, answer_of, decision_for}
 use Rattle.sysmem_alloc.specs.Entry.{BookEntry, Decided, tree_entry}
-use Rattle.sysmem_alloc.specs.Headline.{Headline, IsAsSaid, IsNegotiated, shape_in, terms_in, history_with}
+use Rattle.sysmem_alloc.specs.Headline.{GetsAnswer, Headline, IsAsSaid, IsNegotiated, shape_in, terms_in, history_with}
 use Rattle.sysmem_alloc.specs.History.{Allows, IsLegal, NoEarlyClose, SameCalls, after_entry, replay}
 use Rattle.sysmem_alloc.specs.Laws.{BaseIsGiven, Confluence, DecisionsHaveProofs, LegalAgrees, LegalIsSound}
 use Rattle.sysmem_alloc.specs.Sound.{IsSoundState, MayWait}
@@ -31,6 +31,7 @@ use Rattle.sysmem_alloc.proofs.Lasting.{decision_stays, ready_unfailed, shown, t
 use Rattle.sysmem_alloc.proofs.Lists.{all_each}
 use Rattle.sysmem_alloc.proofs.Next.{first_waits}
 use Rattle.sysmem_alloc.proofs.Onward.{all_keep, allowed_split}
+use Rattle.sysmem_alloc.proofs.Split.{gave}
 use Rattle.sysmem_alloc.proofs.Stepping.{accepts, tree_of_entry}
 
 -- what an optimal verdict says
@@ -138,15 +139,18 @@ module _ (sound : LegalIsSound) (agrees : LegalAgrees) (stays : ForestStays) (re
 
   module _ (given : BaseIsGiven) (have_proofs : DecisionsHaveProofs) (exact : TestsAreExact) (one_answer : OneAnswer) (confluence : Confluence) where
     -- other histories with the same calls
-    same_answer : (platform : PlatformFacts) (es : List BookEntry) (r : ℕ) (c : Claim) (fs : List BookEntry) → IsLegal platform (history_with es r c fs) → (gs : List BookEntry) (d : Claim) (hs : List BookEntry) → r ≡ 0
-        → IsLegal platform (history_with gs 0 d hs) → SameCalls (history_with es r c fs) (history_with gs 0 d hs) → NoEarlyClose (history_with es r c fs) → NoEarlyClose (history_with gs 0 d hs)
-        → IsSameAnswer c.verdict d.verdict
-    same_answer platform es r c fs legal gs d hs initial legal' calls early late =
+    same_answer : (platform : PlatformFacts) (es : List BookEntry) (r : ℕ) (c : Claim) (fs : List BookEntry) → IsLegal platform (history_with es r c fs) → (all : List BookEntry) → r ≡ 0
+        → IsLegal platform all → SameCalls (history_with es r c fs) all → NoEarlyClose (history_with es r c fs) → NoEarlyClose all → GetsAnswer c.verdict (replay all)
+    same_answer platform es r c fs legal all initial legal' calls early late =
         let a : DomainVerdict = answer_of (record { domain = r; claim = Some c }) in
-        let b : DomainVerdict = answer_of (record { domain = 0; claim = Some d }) in
-        (confluence platform (history_with es r c fs) (history_with gs 0 d hs) legal legal' calls early late).answer a b c.verdict d.verdict
-        (subst (λ k. decision_for (replay (history_with es r c fs)).decisions k ≡ Some a) initial (decided_at_end platform es r c fs legal).entered)
-        (decided_at_end platform gs 0 d hs legal').entered refl refl
+        let ended = decided_at_end platform es r c fs legal in
+        let alike = confluence platform (history_with es r c fs) all legal legal' calls early late in
+        record {
+          ready = sym alike.ready.ready ∙ subst (λ k. is_ready (replay (history_with es r c fs)).tree k ≡ true) initial ended.is.ready;
+          same = λ w is decided.
+              let g = gave (replay all) 0 w is decided in
+              alike.answer a g.decision c.verdict w (subst (λ k. decision_for (replay (history_with es r c fs)).decisions k ≡ Some a) initial ended.entered) g.entered refl g.verdict;
+        }
 
     -- a proof that passes: the claim's own, where it came with one
     proved : (platform : PlatformFacts) (es : List BookEntry) (r : ℕ) (c : Claim) (fs : List BookEntry) → IsLegal platform (history_with es r c fs)
@@ -175,12 +179,15 @@ module _ (sound : LegalIsSound) (agrees : LegalAgrees) (stays : ForestStays) (re
         let d : Forest Member = shape_in (replay es) r in
         let passing : Proved platform terms d c = proved platform es r c fs legal right in
         let ended = decided_at_end platform es r c fs legal in
+        let waits : MayWait (replay es).tree r = first_waits (replay es).tree (replay es).waiting r (sound platform es parts.0).waiting parts.1.0.0 in
         record {
+          there = waits.there;
           given = given platform es r parts.0 parts.1.0.0;
           said = as_said platform terms d c.verdict right.optimal;
           proof = passing.proof;
           passes = passing.passes;
           certified = passing.own;
+          sound = λ v other takes. as_said platform terms d v (((exact platform terms d).verdict v other).0 takes).0;
           one = λ v other takes. one_answer platform terms d c.verdict v right.optimal (((exact platform terms d).verdict v other).0 takes).0;
           stays = verdict_shown (replay (history_with es r c fs)) (answer_of (record { domain = r; claim = Some c })) ended.is.ready ended.entered;
           shape = ended.is.shape;

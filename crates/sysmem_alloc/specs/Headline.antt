@@ -1,11 +1,12 @@
 -- The headline: what each decision of a legal history says of its domain.
-use Rattle.std.specs.Prelude.{◌≡◌, ◌≤◌, ◌<◌, ◌++◌, ℕ, List, ◌∷◌, Option, Some, None, All}
+use Rattle.std.specs.Prelude.{◌≡◌, ◌≤◌, ◌<◌, ◌++◌, ℕ, true, List, ◌∷◌, Option, Some, None, All}
 use Rattle.std.specs.Prelude.{option_map}
 use Rattle.sysmem_counts.specs.Counts.{IsCounted}
 use Rattle.sysmem_merge.specs.Demands.{counts_asked}
 use Rattle.sysmem_merge.specs.Settings.{CoversOn}
 use Rattle.sysmem_sanitise.specs.Participant.{Participant}
 use Rattle.sysmem_sanitise.specs.Platform.{PlatformFacts}
+use Rattle.sysmem_tree.specs.Domain.{HasDomain, is_ready}
 use Rattle.sysmem_tree.specs.Forest.{Forest, count, settled}
 use Rattle.sysmem_tree.specs.Selection.{IsSelection}
 use Rattle.sysmem_tree.specs.Shape.{Member, shape_of}
@@ -67,27 +68,36 @@ IsAsSaid platform terms d verdicts.IntersectionEmpty =
 IsAsSaid platform terms d verdicts.TooMany = MOST_SELECTIONS < count d
 IsAsSaid platform terms d _ = ⊥
 
+-- in this state the initial domain is ready, and a verdict that it has, unless memory was wanted,
+-- is this answer
+pub record GetsAnswer (v : Verdict) (s : State) : Type 0 where
+  pub ready : is_ready s.tree 0 ≡ true
+  pub same : (w : Verdict) → verdict_of s 0 ≡ Some w → IsDecision w → IsSameAnswer v w
+
 -- domain r, decided with this claim after es and before fs: on a base exactly where it is attached;
 -- it is as the verdict says; a proof of the verdict passes the checker, the claim's own where it
--- came with one, and any verdict that passes is this answer; at the history's end the domain has
--- this verdict, and the shape of which it was said; and each legal history with the same calls that
--- decided the initial domain, no node closed before, gave it this answer
+-- came with one; any verdict that passes is as it says, and this answer; at the history's end the
+-- domain has this verdict, and the shape of which it was said; and each legal history with the same
+-- calls, in neither of which a node is closed before the initial domain's decision, leaves that one
+-- ready for this answer
 pub record IsNegotiated (platform : PlatformFacts) (es : List BookEntry) (r : ℕ) (c : Claim)
     (fs : List BookEntry) : Type 0 where
+  pub there : HasDomain (replay es).tree.nodes r
   pub given : IsGivenBase platform (replay es).tree.nodes r (base_of (replay es) r)
   pub said : IsAsSaid platform (terms_in (replay es) r) (shape_in (replay es) r) c.verdict
   pub proof : Proof
   pub passes : Passes platform (replay es) r c.verdict proof
   pub certified : HasProof c → proof ≡ c.proof
+  pub sound : (v : Verdict) (p : Proof) → Passes platform (replay es) r v p
+      → IsAsSaid platform (terms_in (replay es) r) (shape_in (replay es) r) v
   pub one : (v : Verdict) (p : Proof) → Passes platform (replay es) r v p
       → IsSameAnswer c.verdict v
   pub stays : verdict_of (replay (history_with es r c fs)) r ≡ Some c.verdict
   pub shape : shape_in (replay (history_with es r c fs)) r ≡ shape_in (replay es) r
-  pub interleaved : (gs : List BookEntry) (d : Claim) (hs : List BookEntry) → r ≡ 0
-      → IsLegal platform (history_with gs 0 d hs)
-      → SameCalls (history_with es r c fs) (history_with gs 0 d hs)
-      → NoEarlyClose (history_with es r c fs) → NoEarlyClose (history_with gs 0 d hs)
-      → IsSameAnswer c.verdict d.verdict
+  pub interleaved : (all : List BookEntry) → r ≡ 0 → IsLegal platform all
+      → SameCalls (history_with es r c fs) all
+      → NoEarlyClose (history_with es r c fs) → NoEarlyClose all
+      → GetsAnswer c.verdict (replay all)
 
 -- each decision of a legal history is so negotiated
 abbrev pub Headline : Type 0
