@@ -5,6 +5,7 @@ pub mod Failures
 pub mod Following
 pub mod Growing
 pub mod Reaching
+pub mod Replying
 pub mod Results
 pub mod Since
 pub mod Stopping

@@ -4,8 +4,10 @@ pub mod Lines
 pub mod Marks
 pub mod Outcome
 pub mod Replayed
+pub mod Replies
 pub mod Report
 pub mod Runner
+pub mod Searching
 pub mod State
 pub mod Steps
 pub mod Stop

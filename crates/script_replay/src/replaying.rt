@@ -1,5 +1,9 @@
 //! The replies of a script's calls, without a report.
 
+ghost use Rattle.std.specs.Prelude.{map, IfOk};
+ghost use Rattle.script_reading.specs.Seen.{call_seen};
+ghost use Rattle.script_replay.specs.Replies.{AreReplies};
+
 use crate::decider::Stop;
 use crate::reply::Reply;
 use crate::runner::Runner;
@@ -14,7 +18,10 @@ pub fn replies_of(
     alloc: Global,
     platform: Platform,
     calls: &[Call<'_>],
-) -> Result<Vec<Reply>, AllocError> {
+) -> Result<Vec<Reply>, AllocError>
+    ensures { IfOk result (λ replies.
+        AreReplies platform (map call_seen calls.now) replies.items) }
+{
     let mut runner = Runner::new(alloc, platform)?;
     let mut replies = Vec::with_capacity(alloc, calls.len())?;
     for call in calls {

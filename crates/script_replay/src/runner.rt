@@ -7,6 +7,7 @@ ghost use Rattle.serde_json.specs.View.{view};
 ghost use Rattle.script_reading.specs.Call.{states};
 ghost use Rattle.script_reading.specs.Seen.{act_seen, call_seen};
 ghost use Rattle.script_replay.specs.Answer.{AsksFor, Replies, is_want};
+ghost use Rattle.script_replay.specs.Replies.{RepliesAlone};
 ghost use Rattle.script_replay.specs.Report.{with_decision};
 ghost use Rattle.script_replay.specs.Steps.{DecidesIn, EntersIn, GoesIn, RepliesIn};
 ghost use Rattle.script_replay.specs.State.{AreThere, first_run_state, names_given, node_named};
@@ -108,7 +109,10 @@ impl Runner {
     }
 
     /// Makes a call, decides each domain that waits then, and gives the reply.
-    pub(crate) fn reply_to(&mut self, alloc: Global, call: &Call<'_>) -> Result<Reply, Stop> {
+    pub(crate) fn reply_to(&mut self, alloc: Global, call: &Call<'_>) -> Result<Reply, Stop>
+        ensures { IfOk result (λ reply. RepliesAlone (state_of self.old) (call_seen call.now) reply
+            (state_of self.new)) }
+    {
         let answered = self.answer(alloc, call)?;
         let mut unsaid = String::new(alloc);
         self.decide_waiting(alloc, &mut Searching::new(), &mut unsaid)?;

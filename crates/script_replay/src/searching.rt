@@ -1,6 +1,6 @@
 //! Domains decided by a search.
 
-ghost use Rattle.std.specs.Prelude.{[], ⊤};
+ghost use Rattle.std.specs.Prelude.{◌≡◌, [], ⊤};
 
 use crate::decider::{Decider, Stop};
 use crate::deciding::claim_for;
@@ -18,13 +18,19 @@ pub struct Searching {
 }
 
 impl Searching {
+    ghost use Rattle.script_replay.specs.Searching.{visits_of};
+
     /// Begins before the first search.
-    pub fn new() -> Searching {
+    pub fn new() -> Searching
+        ensures { visits_of result ≡ 0 }
+    {
         Searching { visits: 0 }
     }
 
     /// How many prefixes its searches visited so far, at most `u64::MAX`.
-    pub(crate) fn visits(&self) -> u64 {
+    pub(crate) fn visits(&self) -> u64
+        ensures { result ≡ visits_of self.now }
+    {
         self.visits
     }
 }
