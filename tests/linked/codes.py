@@ -1,6 +1,7 @@
 #!/usr/bin/env python3
-"""Compares the machine's drm_fourcc.h with docs/REPORT.md and with the library: each format and modifier of the tables has the code that the header has under its DRM
-name, and the library lays such images out; each other code of the header is refused. The last line is 'N passed, M failed'.
+"""Compares the machine's drm_fourcc.h with docs/REPORT.md and with the library: each format and modifier of the tables
+has the code that the header has under its DRM name, and the library lays such images out; each other code of the header
+is refused. The last line is 'N passed, M failed'.
 
 usage: codes.py LIBRARY
 """
@@ -35,17 +36,24 @@ def codes_in(header):
 
 def status(library, code, modifier):
     layout = ctypes.create_string_buffer(256)
-    return library.mezulobu_planes(ctypes.c_uint32(code), ctypes.c_uint64(modifier), ctypes.c_uint32(4096), ctypes.c_uint32(64), layout)
+    return library.mezulobu_planes(
+        ctypes.c_uint32(code), ctypes.c_uint64(modifier), ctypes.c_uint32(4096), ctypes.c_uint32(64), layout
+    )
 
 
 def answers(library, header):
     """What is compared, and whether it is right."""
     formats, modifiers = codes_in(header)
-    known = {drm: letters + (spaces and "  ") for _, drm, letters, spaces in ROW.findall(content(os.path.join(TOP, "docs", "REPORT.md")))}
+    known = {
+        drm: letters + (spaces and "  ")
+        for _, drm, letters, spaces in ROW.findall(content(os.path.join(TOP, "docs", "REPORT.md")))
+    }
     named = {drm: int(value, 0) for _, drm, value in VALUE.findall(content(os.path.join(TOP, "docs", "REPORT.md")))}
     yield "the tables of REPORT", (len(known), len(named)) == (14, 3)
     for drm, letters in known.items():
-        yield drm, formats.get(drm) == letters and status(library, int.from_bytes(letters.encode(), "little"), 0) == DONE
+        yield drm, formats.get(drm) == letters and status(
+            library, int.from_bytes(letters.encode(), "little"), 0
+        ) == DONE
     for drm, value in named.items():
         yield drm, modifiers.get(drm) == value and status(library, ABGR8888, value) == DONE
     for drm, letters in formats.items():

@@ -1,6 +1,6 @@
 #!/usr/bin/env python3
-"""Explains scripts through the library, by ctypes: the text, the objects and the status are those of the program, strict and not, where it is built, and the text is
-NAME.told where that is there. The last line is 'N passed, M failed'.
+"""Explains scripts through the library, by ctypes: the text, the objects and the status are those of the program,
+strict and not, where it is built, and the text is NAME.told where that is there. The last line is 'N passed, M failed'.
 
 usage: explain.py LIBRARY PROGRAM NAME ..
 """
@@ -12,7 +12,9 @@ import sys
 lib = ctypes.CDLL(sys.argv[1])
 PROGRAM = sys.argv[2]
 SIZE = ctypes.POINTER(ctypes.c_size_t)
-lib.mezulobu_explain.argtypes = [ctypes.c_char_p, ctypes.c_size_t, ctypes.c_char_p, ctypes.c_bool, ctypes.c_char_p, SIZE]
+lib.mezulobu_explain.argtypes = [
+    ctypes.c_char_p, ctypes.c_size_t, ctypes.c_char_p, ctypes.c_bool, ctypes.c_char_p, SIZE,
+]
 lib.mezulobu_explain_json.argtypes = lib.mezulobu_explain.argtypes
 TOO_SMALL = 5
 

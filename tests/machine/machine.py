@@ -1,4 +1,5 @@
-"""A machine of QEMU, with Debian's kernel, whose drivers are real: V4L2 test devices (vivid) and two displays (virtio-gpu and cirrus).
+"""A machine of QEMU, with Debian's kernel, whose drivers are real: V4L2 test devices (vivid) and two displays
+(virtio-gpu and cirrus).
 
 What it needs are packages of Debian, which tools/needs sees to. The kernel's package is only unpacked, below out/.
 """
@@ -15,7 +16,8 @@ import time
 TOP = os.path.dirname(os.path.dirname(os.path.dirname(os.path.abspath(__file__))))
 OUT = os.path.join(TOP, "out", "machine")
 MODULES = ("virtio_pci", "virtio-gpu", "cirrus", "vivid")
-# A camera, another one, and one with an output beside it (HDMI, of whole images) whose queues have several planes: nodes 0, 1, 2 and 3.
+# A camera, another one, and one with an output beside it (HDMI, of whole images) whose queues have several planes:
+# nodes 0, 1, 2 and 3.
 VIVID = "n_devs=3 multiplanar=1,1,2 node_types=0x1,0x1,0x101 num_outputs=1,1,1 output_types=1,1,1"
 INIT = """#!/bin/sh
 mount -t proc proc /proc; mount -t sysfs sys /sys; mount -t devtmpfs dev /dev
@@ -103,10 +105,15 @@ def libraries(program):
 
 
 def valgrind():
-    """The files of valgrind, each with its place: none where this machine hasn't all of them, or hasn't the dynamic linker's symbols, which it needs."""
+    """The files of valgrind, each with its place: none where this machine hasn't all of them, or hasn't the dynamic
+    linker's symbols, which it needs."""
     linker = re.search(r"Build ID: (\w+)", output("readelf", "-n", "/lib64/ld-linux-x86-64.so.2")[0])
-    names = ["memcheck-amd64-linux", "vgpreload_core-amd64-linux.so", "vgpreload_memcheck-amd64-linux.so", "default.supp"]
-    files = {"/usr/libexec/valgrind/" + name: "/usr/libexec/valgrind/" + name for name in names} | {"/usr/bin/valgrind.bin": "/bin/valgrind"}
+    names = [
+        "memcheck-amd64-linux", "vgpreload_core-amd64-linux.so", "vgpreload_memcheck-amd64-linux.so", "default.supp",
+    ]
+    files = {"/usr/libexec/valgrind/" + name: "/usr/libexec/valgrind/" + name for name in names} | {
+        "/usr/bin/valgrind.bin": "/bin/valgrind"
+    }
     symbols = f"/usr/lib/debug/.build-id/{linker[1][:2]}/{linker[1][2:]}.debug" if linker else ""
     files[symbols] = symbols
     return files if all(map(os.path.exists, files)) else {}
@@ -133,7 +140,11 @@ def fill(root, folder, files, commands):
         put(root, file, at)
         for library in libraries(file):
             put(root, library, library)
-    for name, text in (("init", INIT.replace("VIVID", VIVID)), ("commands", commands), ("modules", "".join(f"/modules.d/{os.path.basename(module)}\n" for module in loaded))):
+    for name, text in (
+        ("init", INIT.replace("VIVID", VIVID)),
+        ("commands", commands),
+        ("modules", "".join(f"/modules.d/{os.path.basename(module)}\n" for module in loaded)),
+    ):
         with open(os.path.join(root, name), "w", encoding="utf-8") as out:
             out.write(text)
     os.chmod(os.path.join(root, "init"), 0o755)
@@ -153,7 +164,8 @@ def pack(room, folder, files, commands):
 
 
 class Screens(threading.Thread):
-    """Asks QEMU, as long as it runs, what is on the two screens of a display in turn; keeps each picture that differs from the one before on the same screen."""
+    """Asks QEMU, as long as it runs, what is on the two screens of a display in turn; keeps each picture that differs
+    from the one before on the same screen."""
 
     def __init__(self, room):
         super().__init__(daemon=True)
@@ -177,7 +189,13 @@ class Screens(threading.Thread):
             self.told(lines, {"execute": "qmp_capabilities"})
             while True:
                 for screen, pictures in enumerate(self.pictures):
-                    self.told(lines, {"execute": "screendump", "arguments": {"filename": self.picture, "device": "screen", "head": screen}})
+                    self.told(
+                        lines,
+                        {
+                            "execute": "screendump",
+                            "arguments": {"filename": self.picture, "device": "screen", "head": screen},
+                        },
+                    )
                     self.keep(pictures)
                 time.sleep(0.3)
         except (OSError, ValueError):
@@ -202,12 +220,22 @@ class Screens(threading.Thread):
 
 
 def boot(room, files, commands, seconds):
-    """Starts a machine that runs the commands: what they print, the pictures that were on each screen, and how many seconds it took."""
+    """Starts a machine that runs the commands: what they print, the pictures that were on each screen, and how many
+    seconds it took."""
     folder, begun = kernel(), time.time()
     packed, told, screens = pack(room, folder, files, commands), os.path.join(room, "told"), Screens(room)
-    words = ["qemu-system-x86_64", "-accel", "tcg", "-cpu", "max", "-m", "768", "-smp", "2", "-no-reboot", "-nodefaults", "-display", "none"]
-    words += ["-kernel", glob.glob(os.path.join(folder, "boot", "vmlinuz-*"))[0], "-initrd", packed, "-append", "console=ttyS0 quiet panic=-1"]
-    words += ["-serial", f"file:{os.path.join(room, 'console')}", "-serial", f"file:{told}", "-qmp", f"unix:{screens.at},server=on,wait=off"]
+    words = [
+        "qemu-system-x86_64", "-accel", "tcg", "-cpu", "max", "-m", "768", "-smp", "2", "-no-reboot", "-nodefaults",
+        "-display", "none",
+    ]
+    words += [
+        "-kernel", glob.glob(os.path.join(folder, "boot", "vmlinuz-*"))[0], "-initrd", packed, "-append",
+        "console=ttyS0 quiet panic=-1",
+    ]
+    words += [
+        "-serial", f"file:{os.path.join(room, 'console')}", "-serial", f"file:{told}", "-qmp",
+        f"unix:{screens.at},server=on,wait=off",
+    ]
     # Without EDID a screen has all modes of VESA's list.
     words += ["-device", "virtio-gpu-pci,id=screen,edid=off,max_outputs=2", "-device", "cirrus-vga"]
     screens.start()
