@@ -485,9 +485,7 @@ def misused():
     video, heap = Participant(usage=16), array(Heap, [Heap(cpu=True)])
     on, settings, refusal = flat_platform(random_platform(random.Random(1))), Settings(), Refusal()
     short, entry, good = (
-        Participant(usage=16),
-        Entry(format=code("NV12"), colors=32),
-        Entry(format=code("NV12"), colors=32),
+        Participant(usage=16), Entry(format=code("NV12"), colors=32), Entry(format=code("NV12"), colors=32)
     )
     short.struct_size -= 8
     entry.struct_size += 8
