@@ -30,9 +30,9 @@ static bool is_called(struct mezulobu_collection *c, uint32_t node, const char *
     return mezulobu_collection_name_of(c, node, text, &size) == MEZULOBU_DONE && size == strlen(name) && !memcmp(text, name, size);
 }
 
-static bool is_named(int status, const char *text, size_t size, const char *name)
+static bool is_named(int status, const char *text, const size_t *size, const char *name)
 {
-    return status == MEZULOBU_DONE && size == strlen(name) && !memcmp(text, name, size);
+    return status == MEZULOBU_DONE && *size == strlen(name) && !memcmp(text, name, *size);
 }
 
 // Each kind of handle tells its own name.
@@ -45,9 +45,9 @@ static void try_own_names(void)
     size_t size = 3, root_size = sizeof text, group_size = sizeof text;
     NEED(mezulobu_token_create_group(root, &group));
     expect(&t, mezulobu_collection_name(c, text, &size) == MEZULOBU_TOO_SMALL && size == 6 && !strcmp(text, "1234567"), "no room for a collection's name");
-    expect(&t, is_named(mezulobu_collection_name(c, text, &size), text, size, "camera"), "a collection's name");
-    expect(&t, is_named(mezulobu_token_name(root, text, &root_size), text, root_size, "root"), "the root's name");
-    expect(&t, is_named(mezulobu_group_name(group, text, &group_size), text, group_size, "n2"), "a group without a name");
+    expect(&t, is_named(mezulobu_collection_name(c, text, &size), text, &size, "camera"), "a collection's name");
+    expect(&t, is_named(mezulobu_token_name(root, text, &root_size), text, &root_size, "root"), "the root's name");
+    expect(&t, is_named(mezulobu_group_name(group, text, &group_size), text, &group_size, "n2"), "a group without a name");
     expect(&t, mezulobu_token_name((struct mezulobu_token *)(void *)c, text, &size) == MEZULOBU_MISUSED, "a handle of another kind");
     expect(&t, mezulobu_token_name(NULL, text, &size) == MEZULOBU_MISUSED && mezulobu_token_name(root, text, NULL) == MEZULOBU_MISUSED, "null pointers");
     expect(&t, mezulobu_token_name(root, NULL, &size) == MEZULOBU_MISUSED, "a null buffer with room");
