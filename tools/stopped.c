@@ -11,6 +11,8 @@
 void (*signal(int number, void (*handler)(int)))(int);
 long write(int file, const void *bytes, unsigned long size);
 int strcmp(const char *one, const char *other);
+_Noreturn void _Exit(int status);
+_Noreturn void _exit(int status);
 
 /* The instruction that stopped the program is tried again, and then nothing takes the signal. */
 static void say(int number)
@@ -29,9 +31,10 @@ __attribute__((constructor)) static void begin(int n, char **words)
     is_asked = n > 1 && (!strcmp(words[1], "--version") || !strcmp(words[1], "-V"));
 }
 
-/* Behind the version, which the program has written without a buffer. */
-__attribute__((destructor)) static void end(void)
+/* Behind the version: the kit's programs end by this call, which stands before the C library's. */
+_Noreturn void _exit(int status)
 {
     if (is_asked)
         (void)!write(1, NOT_PROVED, sizeof NOT_PROVED - 1);
+    _Exit(status);
 }
