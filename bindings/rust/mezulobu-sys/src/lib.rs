@@ -562,8 +562,8 @@ extern "C" {
     ///     S4 pixel_format
     ///      --> record:1:62: image_format_constraints[0].pixel_format
     ///       |
-    ///     1 | ...constraints":[{"pixel_format":"NV21","color_spaces":["SRGB"]}]}
-    ///       |                                  ^^^^^^ unknown name
+    ///     1 | ...aints":[{"pixel_format":"NV21","color_spaces":["SRGB"]}]}
+    ///       |                            ^^^^^^ unknown name
     ///       = did you mean NV12?
     ///
     /// ```
