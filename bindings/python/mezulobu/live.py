@@ -99,9 +99,9 @@ class _Handle:
 
     def _own_name(self) -> Optional[str]:
         """The name of the node; None of what has none any more, and without memory for it."""
-        call = self._name
-        if call is None:
+        if self._name is None:
             return None
+        call: Callable[..., Any] = self._name
         try:
             status, (name,) = filled(1, lambda *room: self._call(call, *room))
         except Spent:
