@@ -43,20 +43,20 @@ static bool framed(const struct frame *f, const char *record, size_t size, struc
     return true;
 }
 
-typedef int asking(const struct text *script, char *text, size_t *size);
+typedef int asking(const char *script, size_t script_size, char *text, size_t *size);
 
-static int explained(const struct text *script, char *text, size_t *size)
+static int explained(const char *script, size_t script_size, char *text, size_t *size)
 {
-    return mezulobu_explain(script->at, script->size, "record", false, text, size);
+    return mezulobu_explain(script, script_size, "record", false, text, size);
 }
 
-static int reported(const struct text *script, char *text, size_t *size)
+static int reported(const char *script, size_t script_size, char *text, size_t *size)
 {
-    return mezulobu_run(script->at, script->size, text, size, NULL, NULL);
+    return mezulobu_run(script, script_size, text, size, NULL, NULL);
 }
 
 /* What is answered of a script, ended by a 0. */
-static int ask(asking *by, const struct text *script, struct text *answer)
+static int ask(asking *by, const char *script, size_t script_size, struct text *answer)
 {
     int status = MEZULOBU_TOO_SMALL;
     *answer = (struct text){.size = 4096};
@@ -65,7 +65,7 @@ static int ask(asking *by, const struct text *script, struct text *answer)
         if (!more)
             return MEZULOBU_NO_MEMORY;
         answer->at = more;
-        status = by(script, answer->at, &answer->size);
+        status = by(script, script_size, answer->at, &answer->size);
     }
     answer->at[answer->size] = 0;
     return status;
@@ -184,11 +184,11 @@ static int fault_in(const struct frame *f, const char *record, size_t size, stru
     struct text script, report = {0}, told = {0};
     if (!framed(f, record, size, &script))
         return MEZULOBU_NO_MEMORY;
-    int status = ask(reported, &script, &report);
+    int status = ask(reported, script.at, script.size, &report);
     if (status == MEZULOBU_DONE && (f == &platform_frame || strstr(report.at, "2 set_constraints root ok\n")))
         status = MEZULOBU_NO;
     if (status == MEZULOBU_DONE || status == MEZULOBU_REFUSED)
-        status = ask(explained, &script, &told);
+        status = ask(explained, script.at, script.size, &told);
     if (status == MEZULOBU_DONE || status == MEZULOBU_REFUSED)
         status = put_fault(f, report.at, told.at, fault);
     free(told.at);
@@ -200,9 +200,9 @@ static int fault_in(const struct frame *f, const char *record, size_t size, stru
 /* The frame of a record: none stands around bytes that are no JSON value. Answers DONE or NO_MEMORY. */
 static int frame_of(uint32_t kind, const char *record, size_t size, const struct frame **f)
 {
-    struct text script = {.at = (char *)(uintptr_t)record, .size = size}, report = {0};
-    int status = ask(reported, &script, &report);
-    bool is_json = status != MEZULOBU_REFUSED || strncmp(report.at, REFUSED "Q2", strlen(REFUSED "Q2"));
+    struct text report = {0};
+    int status = ask(reported, record, size, &report);
+    bool is_json = status != MEZULOBU_REFUSED || strncmp(report.at, REFUSED "Q2", strlen(REFUSED "Q2")) != 0;
     free(report.at);
     *f = !is_json ? &no_frame : kind == MEZULOBU_KIND_PLATFORM ? &platform_frame : &constraints_frame;
     return status == MEZULOBU_NO_MEMORY ? status : MEZULOBU_DONE;
