@@ -17,6 +17,8 @@ static const struct frame constraints_frame = {
 static const struct frame no_frame = {"", "", "", NULL};
 
 #define ARROW "--> record:"
+/* What a line begins with that leads to another place of the record. */
+#define ELSEWHERE "= first at "
 #define REFUSED "script refused: "
 
 /* Bytes in memory of their own. */
@@ -138,7 +140,7 @@ static void put_line(struct text *to, const char *line, const char *end, const s
         line += put_line_number(to, line, true);
         put(to, line, (size_t)(end - line));
     } else {
-        put_in_record(to, line, end, line[spaces] == '|' ? "" : f->path);
+        put_in_record(to, line, end, strncmp(line + spaces, ELSEWHERE, strlen(ELSEWHERE)) != 0 ? "" : f->path);
     }
 }
 
