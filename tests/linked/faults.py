@@ -1,15 +1,16 @@
 #!/usr/bin/env python3
 """Asks the library for the fault of each record of tests/records, by ctypes: its text begins with the fault that is expected there, and a record without one has no
-text. Some texts are compared whole: of a record that is no JSON, of one of several lines, of one that would end the script around it. Then what statuses mean: the
+text; what is said of the place, and what would be right, are as the program explains a script with that record. Some texts are compared whole: of a record that is no JSON, of one of several lines, of one that would end the script around it. Then what statuses mean: the
 names of E1 to E10 are those that the definitions give to reports. The last line is 'N passed, M failed'.
 
-usage: faults.py LIBRARY
+usage: faults.py LIBRARY PROGRAM
 """
 import ctypes
 import importlib.machinery
 import importlib.util
 import os
 import re
+import subprocess
 import sys
 
 TOP = os.path.dirname(os.path.dirname(os.path.dirname(os.path.abspath(__file__))))
@@ -88,13 +89,33 @@ def fault_of(library, kind, record):
     return status, text.raw[: size.value].decode() if text.raw[size.value : -1] == b"\1" else "more than it has room for"
 
 
-def answers(library):
+def marks(text, path):
+    """What explanations say of a place, and what would be right there: the lines with marks, and those behind them."""
+    lines = [line.strip().replace(f"first at {path}.", "first at ") for line in text.split("\n")]
+    return [re.sub(r" +", " ", line) for line in lines if line.startswith("= ") or re.match(r"\| *\^", line)]
+
+
+def by_program(program, kind, record):
+    """The same by the program, of a script that has the record."""
+    if kind == PLATFORM:
+        script, path = f'{{"calls":[],"platform":\n{record}\n}}', "platform"
+    else:
+        platform = '{"heaps":[{"heap_type":"a","domains":["cpu"]}],"pairs":[{"pixel_format":"R8"}],"color_spaces":["SRGB"]}'
+        path, calls = "calls[1].constraints", f'[{{"call":"bind","on":"root"}},{{"call":"set_constraints","on":"root","constraints":\n{record}\n}}]'
+        script = f'{{"platform":{platform},"calls":{calls}}}'
+    done = subprocess.run([program, "explain", "-"], input=script, stdout=subprocess.PIPE, text=True, timeout=60)
+    return marks(done.stdout, path)
+
+
+def answers(library, program):
     """What is compared, what it is, and what it is to be."""
     records = names_of(os.path.join(TOP, "tests", "records"))
     for kind, known in ((PARTICIPANT, records.PARTICIPANTS), (PLATFORM, records.PLATFORMS)):
         for record, fault in known:
             status, text = fault_of(library, kind, record.encode())
             yield record, (status, text.partition("\n")[0] if fault and text else text), (DONE, fault) if fault else (NO, 0)
+            if fault and os.path.exists(program):
+                yield f"what is said of {record}", marks(text, "") or "nothing", by_program(program, kind, record)
             if fault:
                 yield f"the place in {record}", re.search(r"\n +--> record:\d+:\d+: \S.*\n", text) is not None and "calls[1]" not in text, True
     for record, text in WHOLE.items():
@@ -118,7 +139,7 @@ def answers(library):
 
 def main():
     passed = failed = 0
-    for name, had, wanted in answers(ctypes.CDLL(sys.argv[1])):
+    for name, had, wanted in answers(ctypes.CDLL(sys.argv[1]), sys.argv[2]):
         passed, failed = passed + (had == wanted), failed + (had != wanted)
         if had != wanted:
             print(f"library: the fault of {name}: {had!r}, not {wanted!r}")
