@@ -57,7 +57,7 @@ program-test: prove
 # The same where `make test` or `make prove` has just built the program. With `-j` they run side by
 # side: none reads what another writes.
 OF_TEXT := docs/columns docs/definitions docs/schema
-OF_PROGRAM := names pages schema reports json_reports refusals records values every_selection orders \
+OF_PROGRAM := names pages claims crates schema reports json_reports refusals records values every_selection orders \
 	launcher certificates checks failing_files want_of_memory threads explanations \
 	json_explanations
 OF_WORKBENCH := handles written_records
