@@ -1,5 +1,5 @@
-// told: what a collection is told beside its settings: names, numbers, descriptors, waits that end and that don't, who is in the way, selections, and explanations under
-// its own names. The expected values are worked out by hand. The last line is 'N passed, M failed'.
+// told: what a collection is told beside its settings: names, numbers, descriptors, waits that end and that don't, who is in the way, selections, records, and explanations
+// under its own names. The expected values are worked out by hand. The last line is 'N passed, M failed'.
 #include "common.h"
 #include <poll.h>
 #include <pthread.h>
@@ -279,10 +279,32 @@ static void try_long(void)
         NEED(mezulobu_collection_release(&c[i]));
 }
 
+static int by_record(const char *record, uint32_t *code)
+{
+    struct mezulobu_allocator *a = NULL;
+    int status = mezulobu_allocator_new_record(record, strlen(record), &a, code);
+    if ((status == MEZULOBU_DONE) != (a != NULL))
+        return MEZULOBU_STRANGE;
+    mezulobu_allocator_free(a);
+    return status;
+}
+
+// A platform may be stated as in a script, and the number of what is amiss is that of docs/SCRIPT.md.
+static void try_records(void)
+{
+    static const char good[] = "{\"heaps\": [{\"heap_type\": \"SYSTEM_RAM\", \"domains\": [\"cpu\", \"ram\"]}], \"color_spaces\": [\"REC709\"],"
+                               " \"pairs\": [{\"pixel_format\": \"NV12\", \"pixel_format_modifier\": \"LINEAR\"}]}";
+    uint32_t code = 99;
+    expect(&t, by_record(good, &code) == MEZULOBU_DONE && code == 99, "the record of a platform");
+    expect(&t, by_record("{\"heap\": []}", &code) == MEZULOBU_REFUSED && code == 2, "S2: there is no such field");
+    expect(&t, by_record("{", &code) == MEZULOBU_REFUSED && code == 0, "a record that is no JSON");
+}
+
 int main(void)
 {
     try_names();
     try_own_names();
+    try_records();
     try_waits();
     try_failure();
     try_refusal();
