@@ -176,4 +176,47 @@ const char *mezulobu_status_name(int status)
     return status >= 0 && (size_t)status < sizeof names / sizeof names[0] && names[status] ? names[status] : "?";
 }
 
+/* What a status says of a call, or of any where there is none. */
+struct meaning {
+    int status;
+    const char *call, *text;
+};
+
+/* What is of a call stands before what is of any. The names of E1 to E10 are those of reports. */
+static const struct meaning meanings[] = {
+    {MEZULOBU_MISUSED, "set_name", "misused: the first node is always root"},
+    {MEZULOBU_MISUSED, "name_of", "misused: there is no node of that number"},
+    {MEZULOBU_REFUSED, "set_name", "refused: a name is 1 to 32 letters, digits, _ or -, and not root, nor n with digits"},
+    {MEZULOBU_NO, "set_name", "no: another node of the collection has this name"},
+    {MEZULOBU_WRONG_STATE, "set_constraints", "E2 WrongState: a collection says once what it asks for"},
+    {MEZULOBU_WRONG_STATE, "set_constraints_record", "E2 WrongState: a collection says once what it asks for"},
+    {MEZULOBU_WRONG_STATE, "create_child", "E2 WrongState: a child comes before all_children_present"},
+    {MEZULOBU_WRONG_STATE, "all_children_present", "E2 WrongState: it is called once"},
+    {MEZULOBU_WRONG_STATE, "release", "E2 WrongState: a group is released after all_children_present"},
+    {MEZULOBU_DONE, NULL, "done"},
+    {MEZULOBU_MISUSED, NULL, "misused: a null pointer, a handle that is spent or of another kind, or a struct of another size"},
+    {MEZULOBU_REFUSED, NULL, "refused: what is given can't be meant"},
+    {MEZULOBU_NO_MEMORY, NULL, "E1 NoMemory: memory was refused; the call changed nothing"},
+    {MEZULOBU_TOO_SMALL, NULL, "too small: a text is longer than the room for it"},
+    {MEZULOBU_NO, NULL, "no"},
+    {MEZULOBU_WRONG_STATE, NULL, "E2 WrongState: the handle isn't in a state that allows the call"},
+    {MEZULOBU_TOO_MANY_NODES, NULL, "E3 TooManyNodes: a collection has at most 128, those that are gone included"},
+    {MEZULOBU_NO_CHILDREN, NULL, "E4 NoChildren: a group has a child before all_children_present"},
+    {MEZULOBU_NOT_SELECTED, NULL, "E5 NotSelected: another alternative was chosen"},
+    {MEZULOBU_DOMAIN_FAILED, NULL, "E6 DomainFailed: somebody closed too early, or what it was attached to has no settings"},
+    {MEZULOBU_INTERSECTION_EMPTY, NULL, "E7 ConstraintsIntersectionEmpty: no settings meet everybody; explain says who is in the way"},
+    {MEZULOBU_TOO_MANY_SELECTIONS, NULL, "E8 TooManyGroupChildCombinations: more than 4,096 selections of alternatives"},
+    {MEZULOBU_PENDING, NULL, "E9 Pending: nothing is decided yet; explain says who is awaited"},
+    {MEZULOBU_STRANGE, NULL, "E10 Strange: no correct run gives it"},
+};
+
+const char *mezulobu_status_text(int status, const char *call)
+{
+    const char *of = call ? call : "";
+    for (size_t i = 0; i < sizeof meanings / sizeof meanings[0]; i++)
+        if (meanings[i].status == status && (!meanings[i].call || !strcmp(meanings[i].call, of)))
+            return meanings[i].text;
+    return "?";
+}
+
 uint32_t mezulobu_version(void) { return MEZULOBU_VERSION; }

@@ -21,7 +21,7 @@
 extern "C" {
 #endif
 
-#define MEZULOBU_VERSION 0x00010003u /* major 16 bits, minor 16 bits */
+#define MEZULOBU_VERSION 0x00010004u /* major 16 bits, minor 16 bits */
 
 /* What a call answers: the exit status that the program has of the same, and 2 and 5 for what only
  * a caller can get wrong. */
@@ -364,6 +364,11 @@ int mezulobu_planes(uint32_t format, uint64_t modifier, uint32_t pitch, uint32_t
 /* The name of a status, as "TOO_SMALL"; "?" of a number that is none. */
 const char *mezulobu_status_name(int status);
 
+/* What a status means, in one line for people, as "E9 Pending: nothing is decided yet; explain says
+ * who is awaited"; of the call of this name, as "set_name", what would be right there. call may be
+ * null. "?" of a number that is none. */
+const char *mezulobu_status_text(int status, const char *call);
+
 /* The version of the library, as MEZULOBU_VERSION is that of the header. */
 uint32_t mezulobu_version(void);
 
@@ -418,7 +423,8 @@ struct mezulobu_collection;
 /* What makes collections, which are decided for one platform. DONE, MISUSED, NO_MEMORY; REFUSED:
  * the platform states nothing that could be meant, and why, which may be null, has kind PLATFORM
  * and says which field. Or from the JSON of a platform as scripts have it: at REFUSED code, which
- * may be null, is the number of its fault, 1 of S1 and so on, and 0 where it is no JSON. */
+ * may be null, is the number of its fault, 1 of S1 and so on, and 0 where it is no JSON;
+ * mezulobu_record_fault tells it in words. */
 int mezulobu_allocator_new(const struct mezulobu_platform *platform,
                            struct mezulobu_allocator **allocator, struct mezulobu_refusal *why);
 int mezulobu_allocator_new_record(const void *record, size_t size,
@@ -459,6 +465,21 @@ int mezulobu_collection_attach_token(struct mezulobu_collection *collection,
 int mezulobu_collection_release(struct mezulobu_collection **collection);
 int mezulobu_collection_close(struct mezulobu_collection **collection);
 
+/* The fault of a record in words: its name, as reports have it, where it is, and what would be
+ * right. A text as above:
+ *
+ *     S4 pixel_format
+ *      --> record:1:62: image_format_constraints[0].pixel_format
+ *       |
+ *     1 | ...aints":[{"pixel_format":"NV21","color_spaces":["SRGB"]}]}
+ *       |                            ^^^^^^ unknown name
+ *       = did you mean NV12?
+ *
+ * kind says whose record it is: MEZULOBU_KIND_PLATFORM or MEZULOBU_KIND_PARTICIPANT. DONE: text. NO:
+ * it has no fault, and the size is 0. */
+int mezulobu_record_fault(uint32_t kind, const void *record, size_t size, char *text,
+                          size_t *text_size);
+
 /* What was decided for a collection. DONE: settings, which may be null. Else why there are none, or
  * PENDING; NO_MEMORY: the decision had no memory. The answer stays once it isn't PENDING. Of
  * settings with a format that has no code, which is L8 alone, the image is all 0. */
@@ -483,6 +504,12 @@ int mezulobu_collection_fd(struct mezulobu_collection *collection);
 int mezulobu_token_set_name(struct mezulobu_token *token, const char *name);
 int mezulobu_group_set_name(struct mezulobu_group *group, const char *name);
 int mezulobu_collection_set_name(struct mezulobu_collection *collection, const char *name);
+
+/* The name of a handle's own node. A text as above. */
+int mezulobu_token_name(struct mezulobu_token *token, char *name, size_t *name_size);
+int mezulobu_group_name(struct mezulobu_group *group, char *name, size_t *name_size);
+int mezulobu_collection_name(struct mezulobu_collection *collection, char *name,
+                             size_t *name_size);
 
 /* The number of the collection's node: 0 is the first token of all, and each call that makes one
  * takes the next. */

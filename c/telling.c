@@ -90,6 +90,30 @@ int mezulobu_collection_set_name(struct mezulobu_collection *collection, const c
     return set_name(collection, COLLECTION, name);
 }
 
+/* The name of a node of the room, by its number. */
+static int tell_name(const struct visit *v, uint32_t node, char *name, size_t *name_size)
+{
+    uint8_t none = 0;
+    return (int)mezulobu_rt_live_name(&v->room->book, node, name ? (uint8_t *)name : &none, *name_size, name_size);
+}
+
+static int own_name(void *handle, enum kind kind, char *name, size_t *name_size)
+{
+    struct visit v;
+    if (!name_size || lacks(name, *name_size) || !room_enter(&v, handle, kind))
+        return MEZULOBU_MISUSED;
+    int status = tell_name(&v, node_of(&v), name, name_size);
+    room_leave(&v);
+    return status;
+}
+
+int mezulobu_token_name(struct mezulobu_token *token, char *name, size_t *name_size) { return own_name(token, TOKEN, name, name_size); }
+int mezulobu_group_name(struct mezulobu_group *group, char *name, size_t *name_size) { return own_name(group, GROUP, name, name_size); }
+int mezulobu_collection_name(struct mezulobu_collection *collection, char *name, size_t *name_size)
+{
+    return own_name(collection, COLLECTION, name, name_size);
+}
+
 int mezulobu_collection_node(struct mezulobu_collection *collection, uint32_t *node)
 {
     struct visit v;
@@ -103,10 +127,9 @@ int mezulobu_collection_node(struct mezulobu_collection *collection, uint32_t *n
 int mezulobu_collection_name_of(struct mezulobu_collection *collection, uint32_t node, char *name, size_t *name_size)
 {
     struct visit v;
-    uint8_t none = 0;
     if (!name_size || lacks(name, *name_size) || !room_enter(&v, collection, COLLECTION))
         return MEZULOBU_MISUSED;
-    int status = (int)mezulobu_rt_live_name(&v.room->book, node, name ? (uint8_t *)name : &none, *name_size, name_size);
+    int status = tell_name(&v, node, name, name_size);
     room_leave(&v);
     return status;
 }

@@ -32,7 +32,7 @@ def take_part(token, name, asked, outcomes):
             mine.wait()
             outcomes[name] = "DONE"
         except CallRefused as why:
-            outcomes[name] = str(why)
+            outcomes[name] = why.status.name
 
 
 async def is_told(name, collection):
@@ -40,7 +40,7 @@ async def is_told(name, collection):
     try:
         settings = await collection.chosen()
     except CallRefused as why:
-        print(f"{name}: {why}")
+        print(f"{name}: {why.status.name}")
         return False
     image = settings.image
     print(f"{name}: {settings.count} buffers of {settings.bytes} bytes in heap {settings.heap}, {image.width}x{image.height}, pitch {image.layout.planes[0].pitch}")

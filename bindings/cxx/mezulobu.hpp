@@ -136,9 +136,19 @@ struct Settings : mezulobu_settings {
     bool has_image() const noexcept { return image.format != 0; }
 };
 
+/// Which call it is, and of a live collection on the node of which name.
+inline std::string said_of(std::string_view call, std::string_view node)
+{
+    std::string line(call);
+    return node.empty() ? line : line.append(" of ").append(node);
+}
+
 /// Why there are no settings, with the status that says it.
 struct Refusal : mezulobu_refusal {
     int status = MEZULOBU_DONE;
+    /// Of a live collection the call, as "set_constraints", and the name of its node.
+    const char *call = "";
+    std::string node;
     /// What `who` numbers: a participant, of a live collection a node, and nothing where there is one alone.
     std::string_view numbered = "participant";
 
@@ -155,10 +165,12 @@ struct Refusal : mezulobu_refusal {
         return who;
     }
 
-    /// One line for people, as "NO: participant 1: max_size".
+    /// One line for people, as "NO: participant 1: max_size", or "set_constraints of camera: the participant: usage".
     std::string text() const
     {
-        std::string line(status_name());
+        if (*call && status != MEZULOBU_REFUSED)
+            return said_of(call, node) + ": " + mezulobu_status_text(status, call);
+        std::string line = *call ? said_of(call, node) + ": the participant" : std::string(status_name());
         if (kind == MEZULOBU_KIND_PLATFORM)
             line += ": the platform";
         else if (participant() && !numbered.empty())
@@ -309,42 +321,56 @@ inline expected<Text, Failure> explain_json(std::string_view script, const char 
 // ---- Live collections: handles on the nodes of one collection, each on whatever thread. Who destroys one closes its node, and its domain fails if
 // it wasn't ready yet: so a driver that ends early keeps nobody waiting.
 
-/// The status of a call of a live collection that isn't done.
+/// The status of a call of a live collection that isn't done; two of one number are equal.
 struct Status {
     int status;
+    /// The call, as "bind", and the name of its node: none of an allocator's.
+    const char *call = "";
+    std::string node = {};
 
     std::string_view name() const { return mezulobu_status_name(status); }
-    friend bool operator==(Status a, Status b) { return a.status == b.status; }
-    friend bool operator!=(Status a, Status b) { return a.status != b.status; }
+
+    /// One line for people, as "check of camera: E9 Pending: nothing is decided yet; explain says who is awaited".
+    std::string text() const { return said_of(call, node) + ": " + mezulobu_status_text(status, call); }
+
+    friend bool operator==(const Status &a, const Status &b) { return a.status == b.status; }
+    friend bool operator!=(const Status &a, const Status &b) { return a.status != b.status; }
 };
 
 /// A call that is done and gives nothing.
 using Done = std::monostate;
 
-/// The fault of a record: 1 is S1 and so on, and 0 no JSON; with another status than REFUSED it says nothing.
+/// The fault of a record: 1 is S1 and so on, and 0 no JSON; with another status than REFUSED there is none.
 struct RecordFault {
     int status;
     std::uint32_t number;
+    /// The call, as "set_constraints_record", and the name of its node: none of an allocator's.
+    const char *call = "";
+    std::string node = {};
+    /// What it is, where in the record, and what would be right.
+    std::string fault = {};
+
+    /// What people read, as "set_constraints_record of camera: S5 usage" and the lines that show it.
+    std::string text() const
+    {
+        return said_of(call, node) + ": " + (status == MEZULOBU_REFUSED ? fault : mezulobu_status_text(status, call));
+    }
 };
 
 namespace detail {
 
-inline expected<Done, Status> done(int status)
+/// What is wrong with a record, in words; without memory for these its name alone.
+inline std::string fault_of(mezulobu_kind kind, std::string_view record, std::uint32_t number)
 {
-    if (status == MEZULOBU_DONE)
-        return Done{};
-    return unexpected{Status{status}};
-}
-
-inline expected<std::string, Status> text(Text &&it)
-{
-    if (it.status == MEZULOBU_DONE)
-        return std::move(it.text);
-    return unexpected{Status{it.status}};
+    Text told = filled([&](char *text, std::size_t *size) { return mezulobu_record_fault(kind, record.data(), record.size(), text, size); });
+    if (told.status != MEZULOBU_DONE)
+        return number ? "S" + std::to_string(number) : "no JSON";
+    told.text.pop_back(); // the end of its last line
+    return told.text;
 }
 
 /// A handle of C that one owns: moved, and closed at the end. A call that spends it writes null where it is done.
-template <class T, int (*Close)(T **)>
+template <class T, int (*Close)(T **), int (*Name)(T *, char *, std::size_t *)>
 class Handle {
   public:
     explicit Handle(T *at) noexcept : at_(at) {}
@@ -357,6 +383,13 @@ class Handle {
         return *this;
     }
     ~Handle() { close(); }
+
+    /// The name of the node: what set_name gave it, else root, or n with its number; none without memory for it.
+    std::string name() const
+    {
+        Text told = filled([&](char *text, std::size_t *size) { return Name(at_, text, size); });
+        return told.status == MEZULOBU_DONE ? std::move(told.text) : std::string();
+    }
 
     /// The handle as C has it, which stays owned here; null where it is spent.
     T *get() const noexcept { return at_; }
@@ -371,14 +404,31 @@ class Handle {
     }
 
   protected:
+    /// Why a call on this handle isn't done.
+    unexpected<Status> why(const char *call, int status) const { return unexpected{Status{status, call, name()}}; }
+
+    expected<Done, Status> done(const char *call, int status) const
+    {
+        if (status == MEZULOBU_DONE)
+            return Done{};
+        return why(call, status);
+    }
+
+    expected<std::string, Status> text(const char *call, Text &&it) const
+    {
+        if (it.status == MEZULOBU_DONE)
+            return std::move(it.text);
+        return why(call, it.status);
+    }
+
     template <class Made, class Of>
-    expected<Made, Status> made(int (*call)(T *, Of **)) const
+    expected<Made, Status> made(const char *name, int (*call)(T *, Of **)) const
     {
         Of *it = nullptr;
         const int status = call(at_, &it);
         if (status == MEZULOBU_DONE)
             return Made(it);
-        return unexpected{Status{status}};
+        return why(name, status);
     }
 
     T *at_;
@@ -390,12 +440,12 @@ class Collection;
 class Group;
 
 /// The right to take part: an open token.
-class Token : public detail::Handle<mezulobu_token, mezulobu_token_close> {
+class Token : public detail::Handle<mezulobu_token, mezulobu_token_close, mezulobu_token_name> {
   public:
     using Handle::Handle;
 
     /// A further token, below this one.
-    expected<Token, Status> duplicate() const { return made<Token>(mezulobu_token_duplicate); }
+    expected<Token, Status> duplicate() const { return made<Token>("duplicate", mezulobu_token_duplicate); }
 
     /// A group of alternatives, below this token.
     expected<Group, Status> create_group() const;
@@ -404,30 +454,30 @@ class Token : public detail::Handle<mezulobu_token, mezulobu_token_close> {
     expected<Collection, Status> bind() &&;
 
     /// Gives the token up, without harm to the others. Refused, it is as it was.
-    expected<Done, Status> release() && { return detail::done(mezulobu_token_release(&at_)); }
+    expected<Done, Status> release() && { return done("release", mezulobu_token_release(&at_)); }
 
     /// Names the node, in scripts and explanations; REFUSED of what is no name, NO where another node has it, MISUSED of the first one,
     /// which is root.
-    expected<Done, Status> set_name(const char *name) const { return detail::done(mezulobu_token_set_name(at_, name)); }
+    expected<Done, Status> set_name(const char *name) const { return done("set_name", mezulobu_token_set_name(at_, name)); }
 };
 
 /// Alternatives, of which one is selected.
-class Group : public detail::Handle<mezulobu_group, mezulobu_group_close> {
+class Group : public detail::Handle<mezulobu_group, mezulobu_group_close, mezulobu_group_name> {
   public:
     using Handle::Handle;
 
     /// The next alternative: of two that can be had, the one that was made first is selected.
-    expected<Token, Status> create_child() const { return made<Token>(mezulobu_group_create_child); }
+    expected<Token, Status> create_child() const { return made<Token>("create_child", mezulobu_group_create_child); }
 
     /// There are no further children. Only then a group can be released.
-    expected<Done, Status> all_children_present() const { return detail::done(mezulobu_group_all_children_present(at_)); }
+    expected<Done, Status> all_children_present() const { return done("all_children_present", mezulobu_group_all_children_present(at_)); }
 
-    expected<Done, Status> release() && { return detail::done(mezulobu_group_release(&at_)); }
-    expected<Done, Status> set_name(const char *name) const { return detail::done(mezulobu_group_set_name(at_, name)); }
+    expected<Done, Status> release() && { return done("release", mezulobu_group_release(&at_)); }
+    expected<Done, Status> set_name(const char *name) const { return done("set_name", mezulobu_group_set_name(at_, name)); }
 };
 
 /// A participant.
-class Collection : public detail::Handle<mezulobu_collection, mezulobu_collection_close> {
+class Collection : public detail::Handle<mezulobu_collection, mezulobu_collection_close, mezulobu_collection_name> {
   public:
     using Handle::Handle;
 
@@ -444,25 +494,28 @@ class Collection : public detail::Handle<mezulobu_collection, mezulobu_collectio
     /// The same by the JSON of constraints, as scripts have it.
     expected<Done, RecordFault> set_constraints_record(std::string_view record) const
     {
-        RecordFault fault{};
-        fault.status = mezulobu_collection_set_constraints_record(at_, record.data(), record.size(), &fault.number);
-        if (fault.status == MEZULOBU_DONE)
+        RecordFault why{MEZULOBU_DONE, 0, "set_constraints_record"};
+        why.status = mezulobu_collection_set_constraints_record(at_, record.data(), record.size(), &why.number);
+        if (why.status == MEZULOBU_DONE)
             return Done{};
-        return unexpected{fault};
+        why.node = name();
+        if (why.status == MEZULOBU_REFUSED)
+            why.fault = detail::fault_of(MEZULOBU_KIND_PARTICIPANT, record, why.number);
+        return unexpected{why};
     }
 
     /// A token for a participant who comes later.
-    expected<Token, Status> attach_token() const { return made<Token>(mezulobu_collection_attach_token); }
+    expected<Token, Status> attach_token() const { return made<Token>("attach_token", mezulobu_collection_attach_token); }
 
-    expected<Done, Status> release() && { return detail::done(mezulobu_collection_release(&at_)); }
-    expected<Done, Status> set_name(const char *name) const { return detail::done(mezulobu_collection_set_name(at_, name)); }
+    expected<Done, Status> release() && { return done("release", mezulobu_collection_release(&at_)); }
+    expected<Done, Status> set_name(const char *name) const { return done("set_name", mezulobu_collection_set_name(at_, name)); }
 
     /// What was decided: nothing where nothing is yet; why there are no settings.
     expected<std::optional<Settings>, Status> check() const
     {
         Settings settings;
         const int status = mezulobu_collection_check(at_, &settings);
-        return decided(status, MEZULOBU_PENDING, settings);
+        return decided("check", status, MEZULOBU_PENDING, settings);
     }
 
     /// The same as soon as it is decided; nothing where it isn't within so many milliseconds. Below 0 it waits as long as it takes.
@@ -470,7 +523,7 @@ class Collection : public detail::Handle<mezulobu_collection, mezulobu_collectio
     {
         Settings settings;
         const int status = mezulobu_collection_wait(at_, milliseconds, &settings);
-        return decided(status, MEZULOBU_NO, settings);
+        return decided("wait", status, MEZULOBU_NO, settings);
     }
 
     /// A file descriptor that polls as readable as soon as something is decided, and stays so; -1 where the system gives none. It is the collection's.
@@ -487,7 +540,7 @@ class Collection : public detail::Handle<mezulobu_collection, mezulobu_collectio
     /// The name of the node of a number; MISUSED where there is none.
     expected<std::string, Status> name_of(std::uint32_t node) const
     {
-        return detail::text(detail::filled([&](char *text, std::size_t *size) { return mezulobu_collection_name_of(at_, node, text, size); }));
+        return text("name_of", detail::filled([&](char *at, std::size_t *size) { return mezulobu_collection_name_of(at_, node, at, size); }));
     }
 
     /// Which alternatives were chosen: of each group that is selected itself, in the order of the tree, the number of its child, counted from 0.
@@ -498,7 +551,7 @@ class Collection : public detail::Handle<mezulobu_collection, mezulobu_collectio
             std::size_t n = choices.size();
             const int status = mezulobu_collection_selection(at_, choices.data(), &n);
             if (status != MEZULOBU_TOO_SMALL && status != MEZULOBU_DONE)
-                return unexpected{Status{status}};
+                return why("selection", status);
             choices.resize(n);
             if (status == MEZULOBU_DONE)
                 return choices;
@@ -509,13 +562,13 @@ class Collection : public detail::Handle<mezulobu_collection, mezulobu_collectio
     /// status is NO where it isn't so: explain tells more.
     expected<Refusal, Status> refusal() const
     {
-        Refusal why;
-        const int status = mezulobu_collection_refusal(at_, &why);
-        why.status = MEZULOBU_NO;
-        why.numbered = "node";
+        Refusal who;
+        const int status = mezulobu_collection_refusal(at_, &who);
+        who.status = MEZULOBU_NO;
+        who.numbered = "node";
         if (status == MEZULOBU_DONE)
-            return why;
-        return unexpected{Status{status}};
+            return who;
+        return why("refusal", status);
     }
 
     /// All calls of the whole collection that were done so far, as a script, and what proves its decisions. REFUSED, as of what follows, where there is
@@ -523,51 +576,53 @@ class Collection : public detail::Handle<mezulobu_collection, mezulobu_collectio
     expected<Report, Status> script() const
     {
         std::string proof(detail::room, '\0');
-        Text text = detail::filled([&](char *at, std::size_t *size) {
+        Text told = detail::filled([&](char *at, std::size_t *size) {
             std::size_t proof_size = proof.size();
             const int status = mezulobu_collection_script(at_, at, size, proof.data(), &proof_size);
             proof.resize(proof_size);
             return status;
         });
-        if (text.status == MEZULOBU_DONE)
-            return Report{std::move(text.text), std::move(proof)};
-        return unexpected{Status{text.status}};
+        if (told.status == MEZULOBU_DONE)
+            return Report{std::move(told.text), std::move(proof)};
+        return why("script", told.status);
     }
 
     /// The explanation of the script: who is awaited, what decided each value, who is in the way and which changes help.
     expected<std::string, Status> explain() const
     {
-        return detail::text(detail::filled([&](char *text, std::size_t *size) { return mezulobu_collection_explain(at_, text, size); }));
+        return text("explain", detail::filled([&](char *at, std::size_t *size) { return mezulobu_collection_explain(at_, at, size); }));
     }
 
     /// The same as objects of JSON, one a line.
     expected<std::string, Status> explain_json() const
     {
-        return detail::text(detail::filled([&](char *text, std::size_t *size) { return mezulobu_collection_explain_json(at_, text, size); }));
+        return text("explain_json", detail::filled([&](char *at, std::size_t *size) { return mezulobu_collection_explain_json(at_, at, size); }));
     }
 
   private:
     expected<Done, Refusal> set(const mezulobu_participant *asked) const
     {
-        Refusal why;
-        why.numbered = {};
-        why.status = mezulobu_collection_set_constraints(at_, asked, &why);
-        if (why.status == MEZULOBU_DONE)
+        Refusal refused;
+        refused.numbered = {};
+        refused.call = "set_constraints";
+        refused.status = mezulobu_collection_set_constraints(at_, asked, &refused);
+        if (refused.status == MEZULOBU_DONE)
             return Done{};
-        return unexpected{why};
+        refused.node = name();
+        return unexpected{refused};
     }
 
-    static expected<std::optional<Settings>, Status> decided(int status, int none, const Settings &settings)
+    expected<std::optional<Settings>, Status> decided(const char *call, int status, int none, const Settings &settings) const
     {
         if (status == MEZULOBU_DONE)
             return std::optional<Settings>(settings);
         if (status == none)
             return std::optional<Settings>();
-        return unexpected{Status{status}};
+        return why(call, status);
     }
 };
 
-inline expected<Group, Status> Token::create_group() const { return made<Group>(mezulobu_token_create_group); }
+inline expected<Group, Status> Token::create_group() const { return made<Group>("create_group", mezulobu_token_create_group); }
 
 inline expected<Collection, Status> Token::bind() &&
 {
@@ -575,7 +630,7 @@ inline expected<Collection, Status> Token::bind() &&
     const int status = mezulobu_token_bind(&at_, &bound);
     if (status == MEZULOBU_DONE)
         return Collection(bound);
-    return unexpected{Status{status}};
+    return why("bind", status);
 }
 
 /// Makes collections, which are decided for one platform, and live on without it.
@@ -596,11 +651,13 @@ class Allocator {
     static expected<Allocator, RecordFault> of_record(std::string_view record)
     {
         mezulobu_allocator *made = nullptr;
-        RecordFault fault{};
-        fault.status = mezulobu_allocator_new_record(record.data(), record.size(), &made, &fault.number);
-        if (fault.status == MEZULOBU_DONE)
+        RecordFault why{MEZULOBU_DONE, 0, "Allocator::of_record"};
+        why.status = mezulobu_allocator_new_record(record.data(), record.size(), &made, &why.number);
+        if (why.status == MEZULOBU_DONE)
             return Allocator(made);
-        return unexpected{fault};
+        if (why.status == MEZULOBU_REFUSED)
+            why.fault = detail::fault_of(MEZULOBU_KIND_PLATFORM, record, why.number);
+        return unexpected{why};
     }
 
     /// A new collection, by the token of its root.
@@ -610,7 +667,7 @@ class Allocator {
         const int status = mezulobu_allocate_shared(at_.get(), &token);
         if (status == MEZULOBU_DONE)
             return Token(token);
-        return unexpected{Status{status}};
+        return unexpected{Status{status, "allocate_shared"}};
     }
 
   private:

@@ -182,6 +182,18 @@ static void name(struct given g)
         judge(&g, status, "set_name");
 }
 
+static void ask_name(struct given g)
+{
+    char word[33];
+    size_t n = take(2) ? sizeof word : 0;
+    bool has = take(8) != 0, has_size = take(8) != 0;
+    g.is_misused |= !has_size || (!has && n);
+    char *to = has ? word : NULL;
+    size_t *size = has_size ? &n : NULL;
+    judge(&g, g.kind == TOKEN ? mezulobu_token_name(g.k->at, to, size) : g.kind == GROUP ? mezulobu_group_name(g.k->at, to, size)
+                                                                                         : mezulobu_collection_name(g.k->at, to, size), "name");
+}
+
 static void write_text(struct given g)
 {
     static char text[1 << 15], proof[1 << 15];
@@ -223,7 +235,7 @@ static void ask(struct given g)
 
 static void call(void)
 {
-    switch (take(20)) {
+    switch (take(21)) {
     case 0: make_token(duplicate, give(TOKEN), "duplicate"); break;
     case 1: make_token(create_child, give(GROUP), "create_child"); break;
     case 2: make_token(attach, give(COLLECTION), "attach_token"); break;
@@ -241,6 +253,7 @@ static void call(void)
     case 16: name(give((enum kind)(TOKEN + take(3)))); break;
     case 17: write_text(give(COLLECTION)); break;
     case 18: ask(give(COLLECTION)); break;
+    case 19: ask_name(give((enum kind)(TOKEN + take(3)))); break;
     default: if (take(8) == 0) explain(give(COLLECTION)); break;
     }
 }

@@ -1,5 +1,5 @@
-// told: what a collection is told beside its settings: names, numbers, descriptors, waits that end and that don't, who is in the way, selections, and explanations under
-// its own names. The expected values are worked out by hand. The last line is 'N passed, M failed'.
+// told: what a collection is told beside its settings: names, numbers, descriptors, waits that end and that don't, who is in the way, selections, records, and explanations
+// under its own names. The expected values are worked out by hand. The last line is 'N passed, M failed'.
 #include "common.h"
 #include <poll.h>
 #include <pthread.h>
@@ -28,6 +28,32 @@ static bool is_called(struct mezulobu_collection *c, uint32_t node, const char *
     char text[33];
     size_t size = sizeof text;
     return mezulobu_collection_name_of(c, node, text, &size) == MEZULOBU_DONE && size == strlen(name) && !memcmp(text, name, size);
+}
+
+static bool is_named(int status, const char *text, const size_t *size, const char *name)
+{
+    return status == MEZULOBU_DONE && *size == strlen(name) && !memcmp(text, name, *size);
+}
+
+// Each kind of handle tells its own name.
+static void try_own_names(void)
+{
+    struct mezulobu_token *root = new_root();
+    struct mezulobu_group *group = NULL;
+    struct mezulobu_collection *c = bound(root, "camera");
+    char text[8] = "1234567";
+    size_t size = 3, root_size = sizeof text, group_size = sizeof text;
+    NEED(mezulobu_token_create_group(root, &group));
+    expect(&t, mezulobu_collection_name(c, text, &size) == MEZULOBU_TOO_SMALL && size == 6 && !strcmp(text, "1234567"), "no room for a collection's name");
+    expect(&t, is_named(mezulobu_collection_name(c, text, &size), text, &size, "camera"), "a collection's name");
+    expect(&t, is_named(mezulobu_token_name(root, text, &root_size), text, &root_size, "root"), "the root's name");
+    expect(&t, is_named(mezulobu_group_name(group, text, &group_size), text, &group_size, "n2"), "a group without a name");
+    expect(&t, mezulobu_token_name((struct mezulobu_token *)(void *)c, text, &size) == MEZULOBU_MISUSED, "a handle of another kind");
+    expect(&t, mezulobu_token_name(NULL, text, &size) == MEZULOBU_MISUSED && mezulobu_token_name(root, text, NULL) == MEZULOBU_MISUSED, "null pointers");
+    expect(&t, mezulobu_token_name(root, NULL, &size) == MEZULOBU_MISUSED, "a null buffer with room");
+    NEED(mezulobu_token_close(&root));
+    NEED(mezulobu_group_close(&group));
+    NEED(mezulobu_collection_close(&c));
 }
 
 static void try_names(void)
@@ -253,9 +279,32 @@ static void try_long(void)
         NEED(mezulobu_collection_release(&c[i]));
 }
 
+static int by_record(const char *record, uint32_t *code)
+{
+    struct mezulobu_allocator *a = NULL;
+    int status = mezulobu_allocator_new_record(record, strlen(record), &a, code);
+    if ((status == MEZULOBU_DONE) != (a != NULL))
+        return MEZULOBU_STRANGE;
+    mezulobu_allocator_free(a);
+    return status;
+}
+
+// A platform may be stated as in a script, and the number of what is amiss is that of docs/SCRIPT.md.
+static void try_records(void)
+{
+    static const char good[] = "{\"heaps\": [{\"heap_type\": \"SYSTEM_RAM\", \"domains\": [\"cpu\", \"ram\"]}], \"color_spaces\": [\"REC709\"],"
+                               " \"pairs\": [{\"pixel_format\": \"NV12\", \"pixel_format_modifier\": \"LINEAR\"}]}";
+    uint32_t code = 99;
+    expect(&t, by_record(good, &code) == MEZULOBU_DONE && code == 99, "the record of a platform");
+    expect(&t, by_record("{\"heap\": []}", &code) == MEZULOBU_REFUSED && code == 2, "S2: there is no such field");
+    expect(&t, by_record("{", &code) == MEZULOBU_REFUSED && code == 0, "a record that is no JSON");
+}
+
 int main(void)
 {
     try_names();
+    try_own_names();
+    try_records();
     try_waits();
     try_failure();
     try_refusal();

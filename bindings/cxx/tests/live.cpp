@@ -11,6 +11,12 @@ using mezulobu::Status;
 namespace {
 
 constexpr std::uint32_t NV12 = 0x3231564e;
+constexpr const char *NO_USAGE = R"(S5 usage
+ --> record:1:10: usage
+  |
+1 | {"usage":[]}
+  |          ^^ the list is empty
+  = allowed: a list of none alone, or of one or more of cpu, vulkan, display and video)";
 int passed = 0, failed = 0;
 
 void expect(bool good, const char *what)
@@ -58,6 +64,8 @@ void a_thread_waits_for_the_other()
     auto [camera, encoder] = both();
     expect(camera.set_name("camera").has_value() && camera.name_of(camera.node()).value() == "camera", "a name");
     expect(camera.set_name("n7").error() == Status{MEZULOBU_REFUSED}, "no name");
+    expect(encoder.set_name("camera").error().text() == "set_name of n2: no: another node of the collection has this name", "another's name");
+    expect(camera.name() == "camera" && encoder.name() == "n2", "names of their own");
     expect(camera.set_constraints(asked(2)).has_value(), "what a camera asks for");
     expect(!camera.check().value() && !camera.wait(1).value(), "nothing is decided");
     mezulobu::Settings settings;
@@ -79,6 +87,9 @@ void who_ends_too_early_fails_the_domain()
     { const Collection gone = std::move(encoder); }
     expect(camera.check().error() == Status{MEZULOBU_DOMAIN_FAILED} && camera.check().error().name() == "DOMAIN_FAILED", "a failed domain");
     expect(camera.set_no_constraints().error().status == MEZULOBU_DOMAIN_FAILED, "nothing more is set");
+    expect(camera.set_no_constraints().error().text()
+               == "set_constraints of n1: E6 DomainFailed: somebody closed too early, or what it was attached to has no settings",
+           "why nothing more is set");
 }
 
 void what_is_assigned_to_is_closed_first()
@@ -95,6 +106,8 @@ void who_is_in_the_way_is_told_by_its_node()
     auto [camera, encoder] = both();
     expect(camera.set_constraints(asked(1)).has_value() && encoder.set_constraints(asked(1, {32, 32})).has_value(), "both are set");
     expect(camera.check().error() == Status{MEZULOBU_INTERSECTION_EMPTY}, "no settings");
+    expect(camera.check().error().text() == "check of n1: E7 ConstraintsIntersectionEmpty: no settings meet everybody; explain says who is in the way",
+           "why there are no settings");
     const auto why = encoder.refusal();
     expect(why.value().text() == "NO: node " + std::to_string(encoder.node()) + ": max_size, even alone", "by its node");
     expect(why && why->who == encoder.node() && why->field_name() == "max_size" && why->alone, "who is in the way");
@@ -104,15 +117,18 @@ void who_is_in_the_way_is_told_by_its_node()
 void what_cannot_be_meant_is_refused()
 {
     auto [camera, encoder] = both();
-    expect(camera.set_constraints(mezulobu::Participant(0)).error().text() == "REFUSED: usage", "no usage");
+    expect(camera.set_constraints(mezulobu::Participant(0)).error().text() == "set_constraints of n1: the participant: usage", "no usage");
     expect(camera.set_constraints_record("{").error().number == 0, "no JSON");
-    expect(camera.set_constraints_record("{\"usage\":[]}").error().number > 0, "no usage in a record");
+    expect(camera.set_constraints_record("").error().text() == "set_constraints_record of n1: no JSON", "nothing in a record");
+    const auto fault = camera.set_constraints_record("{\"usage\":[]}").error();
+    expect(fault.number == 5 && fault.fault == NO_USAGE && fault.text() == "set_constraints_record of n1: " + fault.fault, "no usage in a record");
     expect(camera.set_constraints_record("{\"usage\":[\"cpu\"]}").has_value(), "a record");
     expect(camera.set_no_constraints().error().status == MEZULOBU_WRONG_STATE, "set once");
     expect(encoder.set_no_constraints().has_value() && camera.wait().value()->count == 1, "decided");
     expect(camera.refusal().error() == Status{MEZULOBU_NO}, "nobody is in the way");
     expect(mezulobu::Allocator::of({}).error().status == MEZULOBU_REFUSED, "no platform");
-    expect(mezulobu::Allocator::of_record("{}").error().status == MEZULOBU_REFUSED, "no platform in a record");
+    const auto none = mezulobu::Allocator::of_record("{}").error();
+    expect(none.status == MEZULOBU_REFUSED && none.text().find("Allocator::of_record: S3 heaps\n --> record:1:1: the record\n") == 0, "no platform in a record");
 }
 
 void the_first_alternative_that_can_be_had_is_selected()
@@ -121,7 +137,8 @@ void the_first_alternative_that_can_be_had_is_selected()
     auto group = root.create_group().value();
     expect(group.set_name("either").has_value() && group.all_children_present().error() == Status{MEZULOBU_NO_CHILDREN}, "no children");
     auto one = group.create_child().value().bind().value(), two = group.create_child().value().bind().value();
-    expect(std::move(group).release().error() == Status{MEZULOBU_WRONG_STATE} && group, "a group that isn't complete stays");
+    expect(std::move(group).release().error().text() == "release of either: E2 WrongState: a group is released after all_children_present" && group,
+           "a group that isn't complete stays");
     expect(group.all_children_present().has_value() && std::move(group).release().has_value() && !group, "complete");
     expect(std::move(root).release().has_value(), "the root is released");
     expect(one.set_constraints(asked(1, {32, 32})).has_value() && two.set_constraints(asked(1)).has_value(), "both are set");

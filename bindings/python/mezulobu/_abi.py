@@ -2,7 +2,7 @@
 import ctypes
 from typing import Any, Dict, List, Tuple
 
-VERSION = 0x00010003
+VERSION = 0x00010004
 
 NOBODY = ctypes.c_size_t(-1).value
 
@@ -184,6 +184,10 @@ CALLS: Dict[str, Tuple[Any, List[Any]]] = {
         ctypes.c_char_p,
         [ctypes.c_int],
     ),
+    "mezulobu_status_text": (
+        ctypes.c_char_p,
+        [ctypes.c_int, ctypes.c_char_p],
+    ),
     "mezulobu_version": (
         ctypes.c_uint32,
         [],
@@ -262,6 +266,11 @@ CALLS: Dict[str, Tuple[Any, List[Any]]] = {
         ctypes.c_int,
         [ctypes.POINTER(ctypes.c_void_p)],
     ),
+    "mezulobu_record_fault": (
+        ctypes.c_int,
+        [ctypes.c_uint32, ctypes.c_char_p, ctypes.c_size_t, ctypes.c_void_p,
+         ctypes.POINTER(ctypes.c_size_t)],
+    ),
     "mezulobu_collection_check": (
         ctypes.c_int,
         [ctypes.c_void_p, ctypes.POINTER(mezulobu_settings)],
@@ -285,6 +294,18 @@ CALLS: Dict[str, Tuple[Any, List[Any]]] = {
     "mezulobu_collection_set_name": (
         ctypes.c_int,
         [ctypes.c_void_p, ctypes.c_char_p],
+    ),
+    "mezulobu_token_name": (
+        ctypes.c_int,
+        [ctypes.c_void_p, ctypes.c_void_p, ctypes.POINTER(ctypes.c_size_t)],
+    ),
+    "mezulobu_group_name": (
+        ctypes.c_int,
+        [ctypes.c_void_p, ctypes.c_void_p, ctypes.POINTER(ctypes.c_size_t)],
+    ),
+    "mezulobu_collection_name": (
+        ctypes.c_int,
+        [ctypes.c_void_p, ctypes.c_void_p, ctypes.POINTER(ctypes.c_size_t)],
     ),
     "mezulobu_collection_node": (
         ctypes.c_int,

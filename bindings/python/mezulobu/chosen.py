@@ -77,14 +77,22 @@ class Error(Exception):
     """A call isn't done: what the library answered."""
 
 
-class NegotiationError(Error):
-    """There are no settings; `refusal` says why."""
+def said_of(call: str, node: Optional[str]) -> str:
+    """Which call it is, and of a live collection on which node."""
+    return f"{call} of {node}" if node else call
 
-    def __init__(self, refusal: Refusal) -> None:
+
+class NegotiationError(Error):
+    """There are no settings; `refusal` says why, and of a live collection `call` and `node` which call it is, on the node of which name."""
+
+    def __init__(self, refusal: Refusal, call: str = "", node: Optional[str] = None) -> None:
         super().__init__(refusal)
-        self.refusal = refusal
+        self.refusal, self.call, self.node = refusal, call, node
 
     def __str__(self) -> str:
+        return f"{said_of(self.call, self.node)}: {self._said()}" if self.call else self._said()
+
+    def _said(self) -> str:
         it = self.refusal
         if it.who is not None:
             whose = f"participant {it.who}"

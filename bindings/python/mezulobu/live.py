@@ -18,8 +18,8 @@ from typing import Any, Callable, Generic, List, Optional, Set, Tuple, Type, Typ
 
 from . import _abi
 from ._library import library
-from .chosen import Error, Refusal, Refused, Settings, raise_for, refusal_of, settings_of
-from .codes import Status
+from .chosen import Error, Refusal, Refused, Settings, raise_for, refusal_of, said_of, settings_of
+from .codes import Kind, Status
 from .stated import Participant, Platform, flat_participant, flat_platform
 from .texts import filled, given_bytes
 
@@ -29,43 +29,48 @@ Self = TypeVar("Self", bound="_Handle")
 
 
 class CallRefused(Error):
-    """The collection refuses a call, which changes nothing: `status` says why."""
+    """A call on the node of a name is refused, and changes nothing: `status` says why. Without a node it is the allocator's."""
 
-    def __init__(self, status: int) -> None:
-        name = str(library.mezulobu_status_name(status).decode())
-        super().__init__(name)
+    def __init__(self, status: int, call: str, node: Optional[str] = None) -> None:
+        super().__init__(f"{said_of(call, node)}: {_meaning(status, call)}")
         self.status = Status(status) if status in Status.__members__.values() else status
+        self.call, self.node = call, node
 
 
 class RecordRefused(Error):
-    """A record has a fault: `number` is 1 of S1 and so on, and 0 where it is no JSON."""
+    """A record has a fault: `number` is 1 of S1 and so on, and 0 where it is no JSON; `fault` says what it is, where, and what would be right."""
 
-    def __init__(self, number: int) -> None:
-        super().__init__(f"S{number}" if number else "no JSON")
-        self.number = number
+    def __init__(self, number: int, fault: str, call: str, node: Optional[str] = None) -> None:
+        super().__init__(f"{said_of(call, node)}: {fault}")
+        self.number, self.fault, self.call, self.node = number, fault, call, node
 
 
 class Spent(Error):
     """The handle is spent."""
 
 
-def _done(status: int) -> None:
+def _meaning(status: int, call: str) -> str:
+    return str(library.mezulobu_status_text(status, call.encode()).decode())
+
+
+def _done(status: int, call: str, node: Optional[str] = None) -> None:
     if status == Status.NO_MEMORY:
-        raise MemoryError("the collection has no memory for the call")
+        raise MemoryError(f"{said_of(call, node)}: {_meaning(status, call)}")
     if status != Status.DONE:
-        raise CallRefused(status)
+        raise CallRefused(status, call, node)
 
 
-def _record(status: int, code: ctypes.c_uint32) -> None:
-    if status == Status.REFUSED:
-        raise RecordRefused(code.value)
-    _done(status)
+def _fault_of(kind: Kind, record: bytes, number: int) -> str:
+    """What is wrong with a record, in words; without memory for these its name alone."""
+    status, (text,) = filled(1, lambda *room: library.mezulobu_record_fault(kind, record, len(record), *room))
+    return text.decode().rstrip() if status == Status.DONE else f"S{number}" if number else "no JSON"
 
 
 class _Handle:
     """A handle that no call has any more once it is spent."""
 
     _close: Callable[..., Any]
+    _name: Optional[Callable[..., Any]] = None
 
     def __init__(self, at: Optional[int]) -> None:
         self._at = ctypes.c_void_p(at)
@@ -78,7 +83,7 @@ class _Handle:
         """A call that leaves the handle."""
         with self._turn:
             if self._at.value is None or self._is_ending:
-                raise Spent(type(self).__name__)
+                raise Spent(f"this {type(self).__name__} is spent")
             self._calls += 1
         try:
             return int(call(self._at, *words))
@@ -87,18 +92,35 @@ class _Handle:
                 self._calls -= 1
                 self._turn.notify_all()
 
-    def _spend(self, call: Callable[..., Any], *words: Any) -> None:
+    def _done(self, status: int, call: str) -> None:
+        """Raises what a status of a call on this handle says that isn't DONE."""
+        if status != Status.DONE:
+            _done(status, call, self._own_name())
+
+    def _own_name(self) -> Optional[str]:
+        """The name of the node; None of what has none any more, and without memory for it."""
+        if self._name is None:
+            return None
+        call: Callable[..., Any] = self._name
+        try:
+            status, (name,) = filled(1, lambda *room: self._call(call, *room))
+        except Spent:
+            return None
+        return name.decode() if status == Status.DONE else None
+
+    def _spend(self, name: str, call: Callable[..., Any], *words: Any) -> None:
         """A call that spends the handle where it is done."""
         with self._turn:
             if self._at.value is None or self._is_ending:
-                raise Spent(type(self).__name__)
+                raise Spent(f"{name}: this {type(self).__name__} is spent")
             self._is_ending = True
             # Also where the wait is broken off, as by Ctrl-C, the handle can still be spent.
             try:
                 self._turn.wait_for(lambda: self._calls == 0)
-                _done(int(call(ctypes.byref(self._at), *words)))
+                status = int(call(ctypes.byref(self._at), *words))
             finally:
                 self._is_ending = False
+        self._done(status, name)
         for end in list(self._ends):
             end()
 
@@ -109,7 +131,7 @@ class _Handle:
     def close(self) -> None:
         """Closes the node, whose domain fails if it wasn't ready yet; what is spent stays so."""
         if not self.is_spent:
-            self._spend(self._close)
+            self._spend("close", self._close)
 
     def __enter__(self: Self) -> Self:
         return self
@@ -127,23 +149,31 @@ class _Handle:
 
 
 class _Node(_Handle):
+    _name: Callable[..., Any]
     _release: Callable[..., Any]
     _set_name: Callable[..., Any]
 
-    def _made(self, call: Callable[..., Any]) -> Optional[int]:
+    def _made(self, name: str, call: Callable[..., Any]) -> Optional[int]:
         made = ctypes.c_void_p()
-        _done(self._call(call, ctypes.byref(made)))
+        self._done(self._call(call, ctypes.byref(made)), name)
         return made.value
+
+    @property
+    def name(self) -> str:
+        """The name of the node: what set_name gave it, else root, or n with its number."""
+        status, (name,) = filled(1, lambda *room: self._call(self._name, *room))
+        _done(status, "name")
+        return name.decode()
 
     def release(self) -> None:
         """Gives the node up, without harm to the others."""
-        self._spend(self._release)
+        self._spend("release", self._release)
 
     def set_name(self, name: str) -> None:
         """Names the node, in scripts and explanations: 1 to 32 letters, digits, _ or -, but for root and n with digits (REFUSED), and what
         another node of the collection has (NO). The first node is always root (MISUSED)."""
         text = name.encode()
-        _done(Status.REFUSED if b"\0" in text else self._call(self._set_name, text))
+        self._done(Status.REFUSED if b"\0" in text else self._call(self._set_name, text), "set_name")
 
 
 class Token(_Node):
@@ -152,19 +182,20 @@ class Token(_Node):
     _close = library.mezulobu_token_close
     _release = library.mezulobu_token_release
     _set_name = library.mezulobu_token_set_name
+    _name = library.mezulobu_token_name
 
     def duplicate(self) -> Token:
         """A further token, below this one."""
-        return Token(self._made(library.mezulobu_token_duplicate))
+        return Token(self._made("duplicate", library.mezulobu_token_duplicate))
 
     def create_group(self) -> Group:
         """A group of alternatives, below this token."""
-        return Group(self._made(library.mezulobu_token_create_group))
+        return Group(self._made("create_group", library.mezulobu_token_create_group))
 
     def bind(self) -> Collection:
         """Takes part: the token becomes a collection, and is spent."""
         made = ctypes.c_void_p()
-        self._spend(library.mezulobu_token_bind, ctypes.byref(made))
+        self._spend("bind", library.mezulobu_token_bind, ctypes.byref(made))
         return Collection(made.value)
 
 
@@ -174,14 +205,15 @@ class Group(_Node):
     _close = library.mezulobu_group_close
     _release = library.mezulobu_group_release
     _set_name = library.mezulobu_group_set_name
+    _name = library.mezulobu_group_name
 
     def create_child(self) -> Token:
         """The next alternative: of two that can be had, the one that was made first is selected."""
-        return Token(self._made(library.mezulobu_group_create_child))
+        return Token(self._made("create_child", library.mezulobu_group_create_child))
 
     def all_children_present(self) -> None:
         """There are no further children. Only then a group can be released."""
-        _done(self._call(library.mezulobu_group_all_children_present))
+        self._done(self._call(library.mezulobu_group_all_children_present), "all_children_present")
 
 
 class Collection(_Node):
@@ -190,6 +222,7 @@ class Collection(_Node):
     _close = library.mezulobu_collection_close
     _release = library.mezulobu_collection_release
     _set_name = library.mezulobu_collection_set_name
+    _name = library.mezulobu_collection_name
 
     def set_constraints(self, asked: Optional[Participant]) -> None:
         """Says once what the participant asks for: None for nothing. Raises Refused where that can't be meant."""
@@ -198,17 +231,20 @@ class Collection(_Node):
         status = self._call(library.mezulobu_collection_set_constraints, flat, refusal)
         if status == Status.REFUSED:
             # It is the only one here.
-            raise Refused(dataclasses.replace(refusal_of(refusal), who=None))
-        _done(status)
+            raise Refused(dataclasses.replace(refusal_of(refusal), who=None), "set_constraints", self._own_name())
+        self._done(status, "set_constraints")
 
     def set_constraints_record(self, record: Union[bytes, str]) -> None:
         """The same by the JSON of constraints, as scripts have it. Raises RecordRefused."""
-        code, given = ctypes.c_uint32(), given_bytes(record)
-        _record(self._call(library.mezulobu_collection_set_constraints_record, given, len(given), code), code)
+        code, given, call = ctypes.c_uint32(), given_bytes(record), "set_constraints_record"
+        status = self._call(library.mezulobu_collection_set_constraints_record, given, len(given), code)
+        if status == Status.REFUSED:
+            raise RecordRefused(code.value, _fault_of(Kind.PARTICIPANT, given, code.value), call, self._own_name())
+        self._done(status, call)
 
     def attach_token(self) -> Token:
         """A token for a participant who comes later."""
-        return Token(self._made(library.mezulobu_collection_attach_token))
+        return Token(self._made("attach_token", library.mezulobu_collection_attach_token))
 
     def check(self) -> Optional[Settings]:
         """What was decided: None where nothing is yet. Raises CallRefused where there are no settings."""
@@ -216,7 +252,7 @@ class Collection(_Node):
         status = self._call(library.mezulobu_collection_check, settings)
         if status == Status.PENDING:
             return None
-        _done(status)
+        self._done(status, "check")
         return settings_of(settings)
 
     def wait(self, timeout: Optional[float] = None) -> Settings:
@@ -227,10 +263,10 @@ class Collection(_Node):
             left = SLICE if ends is None else max(0.0, min(SLICE, (ends - time.monotonic()) * 1000))
             status = self._call(library.mezulobu_collection_wait, int(left + 0.999), settings)
             if status != Status.NO:
-                _done(status)
+                self._done(status, "wait")
                 return settings_of(settings)
             if ends is not None and time.monotonic() >= ends:
-                raise TimeoutError("nothing was decided in that time")
+                raise TimeoutError("nothing was decided in that time; explain says who is awaited")
 
     async def chosen(self) -> Settings:
         """The settings as soon as they are decided, for a task: it doesn't take a thread, and may be cancelled. Raises as wait does."""
@@ -243,7 +279,7 @@ class Collection(_Node):
             os.close(own)
         settings = self.check()
         if settings is None:
-            raise CallRefused(Status.STRANGE)
+            raise CallRefused(Status.STRANGE, "chosen", self._own_name())
         return settings
 
     @staticmethod
@@ -286,20 +322,20 @@ class Collection(_Node):
     def node(self) -> int:
         """The number of the node: 0 is the first token of all, and each call that makes one takes the next."""
         node = ctypes.c_uint32()
-        _done(self._call(library.mezulobu_collection_node, node))
+        self._done(self._call(library.mezulobu_collection_node, node), "node")
         return node.value
 
     def name_of(self, node: int) -> str:
         """The name of the node of a number."""
         if not 0 <= node < 1 << 32:
             raise OverflowError(f"node: {node} doesn't fit 32 bits")
-        return self._texts(1, library.mezulobu_collection_name_of, node)[0].decode()
+        return self._texts("name_of", 1, library.mezulobu_collection_name_of, node)[0].decode()
 
     def selection(self) -> Tuple[int, ...]:
         """Which alternatives were chosen: of each group that is selected itself, in the order of the tree, the number of its child, counted from 0."""
         size = ctypes.c_size_t(128)
         choices = (ctypes.c_uint8 * size.value)()
-        _done(self._call(library.mezulobu_collection_selection, choices, size))
+        self._done(self._call(library.mezulobu_collection_selection, choices, size), "selection")
         return tuple(choices[: size.value])
 
     def refusal(self) -> Optional[Refusal]:
@@ -309,29 +345,29 @@ class Collection(_Node):
         status = self._call(library.mezulobu_collection_refusal, refusal)
         if status == Status.NO:
             return None
-        _done(status)
+        self._done(status, "refusal")
         return refusal_of(refusal)
 
-    def _texts(self, number: int, call: Callable[..., Any], *words: Any) -> List[bytes]:
+    def _texts(self, name: str, number: int, call: Callable[..., Any], *words: Any) -> List[bytes]:
         status, texts = filled(number, lambda *rooms: self._call(call, *words, *rooms))
-        _done(status)
+        self._done(status, name)
         return texts
 
     def script(self) -> str:
         """All calls of the whole collection that were done so far, as a script. Raises CallRefused, as what follows does, where there is none: it would be
         longer than a script may be."""
-        return self._texts(1, lambda at, *room: library.mezulobu_collection_script(at, *room, None, None))[0].decode()
+        return self._texts("script", 1, lambda at, *room: library.mezulobu_collection_script(at, *room, None, None))[0].decode()
 
     def script_with_certificate(self) -> Tuple[str, bytes]:
         """The same, and what proves its decisions. Both are of one moment."""
-        text, proof = self._texts(2, library.mezulobu_collection_script)
+        text, proof = self._texts("script", 2, library.mezulobu_collection_script)
         return text.decode(), proof
 
     def explain(self, is_json: bool = False) -> str:
         """The explanation of the script: who is awaited, what decided each value, who is in the way and which changes help; with is_json as objects of
         JSON, one a line."""
         call = library.mezulobu_collection_explain_json if is_json else library.mezulobu_collection_explain
-        return self._texts(1, call)[0].decode()
+        return self._texts("explain", 1, call)[0].decode()
 
 
 class Allocator(_Handle):
@@ -341,8 +377,10 @@ class Allocator(_Handle):
         super().__init__(None)
         if isinstance(platform, (bytes, str)):
             code, given = ctypes.c_uint32(), given_bytes(platform)
-            call = library.mezulobu_allocator_new_record
-            _record(call(given, len(given), ctypes.byref(self._at), code), code)
+            status = library.mezulobu_allocator_new_record(given, len(given), ctypes.byref(self._at), code)
+            if status == Status.REFUSED:
+                raise RecordRefused(code.value, _fault_of(Kind.PLATFORM, given, code.value), "Allocator")
+            _done(status, "Allocator")
         else:
             refusal = _abi.mezulobu_refusal(ctypes.sizeof(_abi.mezulobu_refusal))
             status = library.mezulobu_allocator_new(flat_platform(platform), ctypes.byref(self._at), refusal)
@@ -358,5 +396,5 @@ class Allocator(_Handle):
     def allocate_shared(self) -> Token:
         """A new collection, by the token of its root."""
         made = ctypes.c_void_p()
-        _done(self._call(library.mezulobu_allocate_shared, ctypes.byref(made)))
+        self._done(self._call(library.mezulobu_allocate_shared, ctypes.byref(made)), "allocate_shared")
         return Token(made.value)

@@ -12,6 +12,19 @@ from mezulobu import Color, Entry, Field, Heap, Kind, Pair, Participant, Platfor
 PLATFORM = Platform([Heap(cpu=True, ram=True)], [Pair("NV12")], [Color.REC709])
 RECORD = b'{"heaps":[{"heap_type":"ram","domains":["cpu"]}],"pairs":[{"pixel_format":"NV12"}],"color_spaces":["REC709"]}'
 
+NO_JSON = """no JSON
+ --> record:1:2
+  |
+1 | {
+  |  ^ expected a key, found the end
+  = the text ends here; still open: the { of line 1, column 1"""
+NO_USAGE = """S5 usage
+ --> record:1:10: usage
+  |
+1 | {"usage":[]}
+  |          ^^ the list is empty
+  = allowed: a list of none alone, or of one or more of cpu, vulkan, display and video"""
+
 
 def asked(camping: int, max_size: Size = Size(), min_count: int = 0) -> Participant:
     entry = Entry("NV12", Color.REC709, min_size=Size(64, 64), max_size=max_size)
@@ -26,11 +39,28 @@ def both() -> "list[live.Collection]":
     return [token.bind() for token in tokens]
 
 
+# What statuses say, by the names that reports have.
+WORDS = {
+    Status.MISUSED: "misused: ",
+    Status.REFUSED: "refused: ",
+    Status.WRONG_STATE: "E2 WrongState: ",
+    Status.NO_CHILDREN: "E4 NoChildren: ",
+    Status.NOT_SELECTED: "E5 NotSelected: ",
+    Status.DOMAIN_FAILED: "E6 DomainFailed: ",
+    Status.INTERSECTION_EMPTY: "E7 ConstraintsIntersectionEmpty: ",
+}
+
+
 class Live(unittest.TestCase):
-    def refused(self, status: Status, call: "object", *words: "object") -> None:
+    def refused(self, status: Status, call: "object", *words: "object") -> live.CallRefused:
+        """A bound method, which names its call and, by its handle, its node."""
         with self.assertRaises(live.CallRefused) as caught:
             call(*words)  # type: ignore[operator]
-        self.assertEqual((caught.exception.status, str(caught.exception)), (status, status.name))
+        why = caught.exception
+        name, node = call.__name__, call.__self__.name  # type: ignore[attr-defined]
+        self.assertEqual((why.status, why.call, why.node), (status, name, node))
+        self.assertTrue(str(why).startswith(f"{name} of {node}: {WORDS[status]}"), str(why))
+        return why
 
     def is_written(self, of: live.Collection, decision: str) -> None:
         """What is written is run to the same decision, and the certificate is right for it."""
@@ -59,7 +89,9 @@ class Live(unittest.TestCase):
             self.assertIn("camera", camera.explain())
             self.assertTrue(camera.explain(is_json=True).startswith("{"))
             self.assertEqual(select.select([camera], [], [], 0)[0], [camera])
-            self.refused(Status.MISUSED, camera.name_of, 9)
+            self.assertEqual((camera.name, encoder.name), ("camera", "n2"))
+            why = self.refused(Status.MISUSED, camera.name_of, 9)
+            self.assertEqual(str(why), "name_of of camera: misused: there is no node of that number")
             for name in ("root", "n7", "", "a\0b"):
                 self.refused(Status.REFUSED, camera.set_name, name)
 
@@ -112,7 +144,8 @@ class Live(unittest.TestCase):
         with camera, encoder:
             camera.set_constraints(asked(1))
             encoder.set_constraints(asked(1, Size(32, 32)))
-            self.refused(Status.INTERSECTION_EMPTY, camera.check)
+            empty = self.refused(Status.INTERSECTION_EMPTY, camera.check)
+            self.assertEqual(str(empty), "check of n1: E7 ConstraintsIntersectionEmpty: no settings meet everybody; explain says who is in the way")
             why = encoder.refusal()
             assert why is not None
             self.assertEqual((why.who, why.field, why.kind, why.alone), (encoder.node, Field.MAX_SIZE, Kind.OFFERS, True))
@@ -123,17 +156,21 @@ class Live(unittest.TestCase):
         with camera, encoder:
             with self.assertRaises(mezulobu.Refused) as caught:
                 camera.set_constraints(Participant(Usage(0)))
-            self.assertEqual((caught.exception.refusal.field, str(caught.exception)), (Field.USAGE, "the participant: usage"))
-            for record, number in ((b"{", 0), (b'{"usage":[]}', 5)):
+            self.assertEqual((caught.exception.refusal.field, caught.exception.node), (Field.USAGE, "n1"))
+            self.assertEqual(str(caught.exception), "set_constraints of n1: the participant: usage")
+            camera.set_name("camera")
+            for record, number, told in ((b"{", 0, NO_JSON), (b'{"usage":[]}', 5, NO_USAGE)):
                 with self.assertRaises(live.RecordRefused) as fault:
                     camera.set_constraints_record(record)
-                self.assertEqual(fault.exception.number, number)
+                known = fault.exception
+                self.assertEqual((known.number, known.call, known.node), (number, "set_constraints_record", "camera"))
+                self.assertEqual((str(known), known.fault), (f"set_constraints_record of camera: {told}", told))
             camera.set_constraints_record(b'{"usage":["cpu"]}')
             self.refused(Status.WRONG_STATE, camera.set_constraints, None)
             encoder.set_constraints(None)
             self.assertEqual(camera.wait().count, 1)
             self.assertIsNone(camera.refusal())
-        with self.assertRaises(live.RecordRefused):
+        with self.assertRaisesRegex(live.RecordRefused, r"^Allocator: S3 heaps\n --> record:1:1: the record\n"):
             live.Allocator(b"{}")
         with self.assertRaises(mezulobu.Refused):
             live.Allocator(Platform([], [], []))
@@ -144,7 +181,8 @@ class Live(unittest.TestCase):
                 group.set_name("either")
                 self.refused(Status.NO_CHILDREN, group.all_children_present)
                 first, second = (group.create_child().bind() for _ in range(2))
-                self.refused(Status.WRONG_STATE, group.release)
+                why = self.refused(Status.WRONG_STATE, group.release)
+                self.assertEqual(str(why), "release of either: E2 WrongState: a group is released after all_children_present")
                 group.all_children_present()
                 group.release()
             root.release()

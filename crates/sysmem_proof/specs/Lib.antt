@@ -28,5 +28,6 @@ pub use Rattle.conflict_finding.specs.AloneLines
 pub use Rattle.conflict_finding.specs.Learnt
 pub use Rattle.conflict_finding.specs.Refusals
 pub use Rattle.conflict_finding.specs.Reading
-pub use Rattle.conflict_finding.specs.OpenPairs
+pub use Rattle.conflict_finding.specs.OfferAsked
+pub use Rattle.conflict_finding.specs.OffersAsked
 pub use Rattle.conflict_finding.specs.PlacesAsked

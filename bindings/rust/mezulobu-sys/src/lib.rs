@@ -4,7 +4,7 @@
 use std::os::raw::{c_char, c_int, c_void};
 
 /// major 16 bits, minor 16 bits
-pub const MEZULOBU_VERSION: u32 = 0x00010003;
+pub const MEZULOBU_VERSION: u32 = 0x00010004;
 
 /// done; of a check: yes
 pub const MEZULOBU_DONE: c_int = 0;
@@ -460,13 +460,21 @@ extern "C" {
     pub fn mezulobu_status_name(
         status: c_int,
     ) -> *const c_char;
+    /// What a status means, in one line for people, as "E9 Pending: nothing is decided yet; explain says
+    /// who is awaited"; of the call of this name, as "set_name", what would be right there. call may be
+    /// null. "?" of a number that is none.
+    pub fn mezulobu_status_text(
+        status: c_int,
+        call: *const c_char,
+    ) -> *const c_char;
     /// The version of the library, as MEZULOBU_VERSION is that of the header.
     pub fn mezulobu_version(
     ) -> u32;
     /// What makes collections, which are decided for one platform. DONE, MISUSED, NO_MEMORY; REFUSED:
     /// the platform states nothing that could be meant, and why, which may be null, has kind PLATFORM
     /// and says which field. Or from the JSON of a platform as scripts have it: at REFUSED code, which
-    /// may be null, is the number of its fault, 1 of S1 and so on, and 0 where it is no JSON.
+    /// may be null, is the number of its fault, 1 of S1 and so on, and 0 where it is no JSON;
+    /// mezulobu_record_fault tells it in words.
     pub fn mezulobu_allocator_new(
         platform: *const mezulobu_platform,
         allocator: *mut *mut mezulobu_allocator,
@@ -547,6 +555,27 @@ extern "C" {
     pub fn mezulobu_collection_close(
         collection: *mut *mut mezulobu_collection,
     ) -> c_int;
+    /// The fault of a record in words: its name, as reports have it, where it is, and what would be
+    /// right. A text as above:
+    ///
+    /// ```c
+    ///     S4 pixel_format
+    ///      --> record:1:62: image_format_constraints[0].pixel_format
+    ///       |
+    ///     1 | ...aints":[{"pixel_format":"NV21","color_spaces":["SRGB"]}]}
+    ///       |                            ^^^^^^ unknown name
+    ///       = did you mean NV12?
+    ///
+    /// ```
+    /// kind says whose record it is: MEZULOBU_KIND_PLATFORM or MEZULOBU_KIND_PARTICIPANT. DONE: text. NO:
+    /// it has no fault, and the size is 0.
+    pub fn mezulobu_record_fault(
+        kind: u32,
+        record: *const c_void,
+        size: usize,
+        text: *mut c_char,
+        text_size: *mut usize,
+    ) -> c_int;
     /// What was decided for a collection. DONE: settings, which may be null. Else why there are none, or
     /// PENDING; NO_MEMORY: the decision had no memory. The answer stays once it isn't PENDING. Of
     /// settings with a format that has no code, which is L8 alone, the image is all 0.
@@ -583,6 +612,22 @@ extern "C" {
     pub fn mezulobu_collection_set_name(
         collection: *mut mezulobu_collection,
         name: *const c_char,
+    ) -> c_int;
+    /// The name of a handle's own node. A text as above.
+    pub fn mezulobu_token_name(
+        token: *mut mezulobu_token,
+        name: *mut c_char,
+        name_size: *mut usize,
+    ) -> c_int;
+    pub fn mezulobu_group_name(
+        group: *mut mezulobu_group,
+        name: *mut c_char,
+        name_size: *mut usize,
+    ) -> c_int;
+    pub fn mezulobu_collection_name(
+        collection: *mut mezulobu_collection,
+        name: *mut c_char,
+        name_size: *mut usize,
     ) -> c_int;
     /// The number of the collection's node: 0 is the first token of all, and each call that makes one
     /// takes the next.

@@ -43,7 +43,7 @@ pub use texts::{
 };
 
 use mezulobu_sys as sys;
-use std::ffi::CStr;
+use std::ffi::{CStr, CString};
 use std::fmt;
 use std::os::raw::c_char;
 
@@ -81,6 +81,18 @@ impl Status {
     pub fn name(self) -> &'static str {
         // Safety: as of a field's.
         unsafe { name_of(sys::mezulobu_status_name(self.0)) }
+    }
+
+    /// What the status means, as `E9 Pending: nothing is decided yet; explain says who is awaited`.
+    pub fn meaning(self) -> &'static str {
+        self.meaning_of("")
+    }
+
+    /// The same of a call, as `set_name`, with what would be right there.
+    pub(crate) fn meaning_of(self, call: &'static str) -> &'static str {
+        let call = CString::new(call).unwrap_or_default();
+        // Safety: as of a field's, and the call's name lives.
+        unsafe { name_of(sys::mezulobu_status_text(self.0, call.as_ptr())) }
     }
 }
 

@@ -1,5 +1,5 @@
 //! Collections that live, beside what a run of the script that they write decides.
-use mezulobu::live::{Allocator, Collection, Set, Why};
+use mezulobu::live::{Allocator, CallRefused, Collection, Fault, Set, Why};
 use mezulobu::{
     check, run, Amiss, Color, Conflict, Entry, Field, Format, Heap, Kind, Pair, Participant,
     Platform, Size, Status, Usage, Whose,
@@ -9,6 +9,12 @@ use std::thread;
 use std::time::Duration;
 
 const NV12: Format = Format::new(*b"NV12");
+const NO_USAGE: &str = "S5 usage
+ --> record:1:10: usage
+  |
+1 | {\"usage\":[]}
+  |          ^^ the list is empty
+  = allowed: a list of none alone, or of one or more of cpu, vulkan, display and video";
 
 fn platform() -> Platform {
     let heap = Heap {
@@ -75,7 +81,11 @@ fn a_thread_waits_for_the_other() {
             (camera.node(), camera.name_of(1)),
             (1, Ok("camera".to_owned()))
         );
-        assert_eq!(camera.name_of(9), Err(Status::MISUSED));
+        assert_eq!(camera.name().unwrap(), "camera");
+        assert_eq!(
+            camera.name_of(9).unwrap_err().to_string(),
+            "name_of of camera: misused: there is no node of that number"
+        );
         assert!(camera.explain().unwrap().contains("camera"));
         assert!(camera.explain_json().unwrap().starts_with('{'));
         assert_eq!(camera.selection(), Ok(vec![]));
@@ -95,9 +105,16 @@ fn a_thread_waits_for_the_other() {
 fn who_is_dropped_too_early_fails_the_domain() {
     let [camera, encoder] = both();
     drop(encoder);
-    assert_eq!(camera.check(), Err(Status::DOMAIN_FAILED));
+    assert_eq!(camera.check().unwrap_err().status(), Status::DOMAIN_FAILED);
     let refused = camera.set_constraints(None).unwrap_err();
-    assert_eq!(refused.why, Why::Status(Status::DOMAIN_FAILED));
+    let wanted = CallRefused {
+        call: "set_constraints",
+        node: Some("n1".to_owned()),
+        why: Why::Status(Status::DOMAIN_FAILED),
+    };
+    assert_eq!(refused.error, wanted);
+    let told = "set_constraints of n1: E6 DomainFailed: somebody closed too early, or what it was attached to has no settings";
+    assert_eq!(refused.to_string(), told);
     refused.handle.close();
 }
 
@@ -110,7 +127,12 @@ fn who_is_in_the_way_is_told_by_its_node() {
     let encoder = encoder
         .set_constraints(Some(&asked(1, Size::new(32, 32))))
         .unwrap();
-    assert_eq!(camera.check(), Err(Status::INTERSECTION_EMPTY));
+    let told = "check of n1: E7 ConstraintsIntersectionEmpty: no settings meet everybody; explain says who is in the way";
+    assert_eq!(camera.check().unwrap_err().to_string(), told);
+    assert_eq!(
+        camera.wait(None).unwrap_err().status(),
+        Status::INTERSECTION_EMPTY
+    );
     let conflict = encoder.refusal().unwrap().unwrap();
     let wanted = (
         Some(encoder.node() as usize),
@@ -145,20 +167,31 @@ fn what_cannot_be_meant_leaves_the_handle_as_it_was() {
         field: Field::USAGE,
         index: 0,
     };
-    assert_eq!(refused.why, Why::Stated(wanted));
-    assert_eq!(refused.to_string(), "refused: usage");
+    assert_eq!(refused.error.why, Why::Stated(wanted));
+    assert_eq!(
+        refused.to_string(),
+        "set_constraints of n1: the participant: usage"
+    );
     let refused = refused
         .handle
         .set_constraints_record(b"{\"usage\":[]}")
         .unwrap_err();
-    assert!(
-        matches!(refused.why, Why::Record(number) if number > 0),
-        "{refused}"
+    assert_eq!(
+        refused.to_string(),
+        format!("set_constraints_record of n1: {NO_USAGE}")
+    );
+    let fault = Fault {
+        number: 5,
+        text: NO_USAGE.to_owned(),
+    };
+    assert_eq!(
+        (refused.error.status(), refused.error.why),
+        (Status::REFUSED, Why::Record(fault))
     );
     let refused = refused.handle.set_constraints_record(b"{").unwrap_err();
-    assert_eq!(
-        (refused.to_string().as_str(), refused.why),
-        ("refused: no JSON", Why::Record(0))
+    assert!(
+        matches!(&refused.error.why, Why::Record(fault) if fault.number == 0 && fault.text.starts_with("no JSON\n --> record:1:2\n")),
+        "{refused}"
     );
     let camera = refused
         .handle
@@ -178,7 +211,9 @@ fn the_first_alternative_that_can_be_had_is_selected() {
     let group = root.create_group().unwrap();
     group.set_name("either").unwrap();
     let refused = group.all_children_present().unwrap_err();
-    assert_eq!(refused.why, Why::Status(Status::NO_CHILDREN));
+    assert_eq!(refused.error.status(), Status::NO_CHILDREN);
+    let told = "all_children_present of either: E4 NoChildren: a group has a child before all_children_present";
+    assert_eq!(refused.to_string(), told);
     let group = refused.handle;
     let [first, second] = [(); 2].map(|()| group.create_child().unwrap().bind().unwrap());
     group.all_children_present().unwrap().release().unwrap();
@@ -189,17 +224,18 @@ fn the_first_alternative_that_can_be_had_is_selected() {
         .set_constraints(Some(&asked(1, Size::default())))
         .unwrap();
     assert_eq!(second.wait(None).unwrap().unwrap().count, 1);
-    assert_eq!(
-        (first.check(), second.selection()),
-        (Err(Status::NOT_SELECTED), Ok(vec![1]))
-    );
+    assert_eq!(first.check().unwrap_err().status(), Status::NOT_SELECTED);
+    assert_eq!(second.selection(), Ok(vec![1]));
 }
 
 #[test]
 fn a_late_participant_accepts_the_settings() {
     let record = "{\"heaps\":[{\"heap_type\":\"ram\",\"domains\":[\"cpu\"]}],\"pairs\":[{\"pixel_format\":\"NV12\"}],\"color_spaces\":[\"REC709\"]}";
     let allocator = Allocator::from_record(record.as_bytes()).unwrap();
-    assert_eq!(Allocator::from_record(b"").unwrap_err(), Why::Record(0));
+    assert_eq!(
+        Allocator::from_record(b"").unwrap_err().to_string(),
+        "from_record: no JSON"
+    );
     let camera = allocator.allocate_shared().unwrap().bind().unwrap();
     drop(allocator);
     let room = Participant {
@@ -213,9 +249,14 @@ fn a_late_participant_accepts_the_settings() {
         .unwrap();
     assert_eq!(late.wait(None), camera.check());
     assert!(late.descriptor().is_some());
-    assert_eq!(camera.set_name("camera"), Err(Status::MISUSED));
-    assert_eq!(late.set_name("root"), Err(Status::REFUSED));
-    assert_eq!(late.set_name("a\0b"), Err(Status::REFUSED));
+    let told = "set_name of root: misused: the first node is always root";
+    assert_eq!(camera.set_name("camera").unwrap_err().to_string(), told);
+    for name in ["root", "a\0b"] {
+        let refused = late.set_name(name).unwrap_err();
+        assert_eq!(refused.status(), Status::REFUSED);
+        let told = "set_name of n1: refused: a name is 1 to 32 letters, digits, _ or -, and not root, nor n with digits";
+        assert_eq!(refused.to_string(), told);
+    }
 }
 
 #[test]
