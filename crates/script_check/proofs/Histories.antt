@@ -96,9 +96,9 @@ taken_negotiated reports headline platform rs objects taken =
 
 -- a yes is of objects that were taken
 yes_taken : (platform : PlatformFacts) (rs : List CallFacts) (objects : List Data) (answer : CheckAnswer) → answer ≡ answers.Yes → Answers platform rs objects answer → AreTaken platform rs objects
-yes_taken platform rs objects _ yes (accepts taken) = taken
-yes_taken platform rs objects _ yes (objects_to objection fails) = absurd (cc)
-yes_taken platform rs objects _ yes (has_more taken left object split are) = absurd (cc)
+yes_taken platform rs objects _ is (accepts taken) = taken
+yes_taken platform rs objects _ is (objects_to objection fails) = absurd (cc)
+yes_taken platform rs objects _ is (has_more taken left object split are) = absurd (cc)
 
 pub yes_is_negotiated : ReportsAreLegal → Headline → YesIsNegotiated
-yes_is_negotiated reports headline platform rs objects yes = taken_negotiated reports headline platform rs objects (yes_taken platform rs objects answers.Yes refl yes)
+yes_is_negotiated reports headline platform rs objects accepted = taken_negotiated reports headline platform rs objects (yes_taken platform rs objects answers.Yes refl accepted)
