@@ -15,7 +15,8 @@ use Rattle.script_replay.specs.Report.{Certified, Goes, IsReport, calls, certifi
 use Rattle.script_replay.specs.State.{RunState, first_run_state}
 use Rattle.script_check.specs.declared.checked_file.CheckAnswer.{CheckAnswer}
 use Rattle.script_check.specs.declared.checked_file.CheckAnswer.TheVariants as answers
-use Rattle.script_check.specs.Checked.{Answers, AreTaken, accepts, has_more, objects_to}
+use Rattle.script_check.specs.Checked.{Answers, AreTaken}
+use Rattle.script_check.specs.Checked as checked
 use Rattle.script_check.specs.Headline.{AreNegotiated, HeadlineOfBytes, ReportsAreLegal, YesIsNegotiated, certified_from}
 use Rattle.script_check.proofs.ReadBack.{replied_platform}
 use Rattle.script_check.proofs.Reported.{each_claimed, input_reports}
@@ -96,9 +97,9 @@ taken_negotiated reports headline platform rs objects taken =
 
 -- a yes is of objects that were taken
 yes_taken : (platform : PlatformFacts) (rs : List CallFacts) (objects : List Data) (answer : CheckAnswer) → answer ≡ answers.Yes → Answers platform rs objects answer → AreTaken platform rs objects
-yes_taken platform rs objects _ yes (accepts taken) = taken
-yes_taken platform rs objects _ yes (objects_to objection fails) = absurd (cc)
-yes_taken platform rs objects _ yes (has_more taken left object split are) = absurd (cc)
+yes_taken platform rs objects _ same (checked.accepts taken) = taken
+yes_taken platform rs objects _ same (checked.objects_to objection fails) = absurd (cc)
+yes_taken platform rs objects _ same (checked.has_more taken left object split are) = absurd (cc)
 
 pub yes_is_negotiated : ReportsAreLegal → Headline → YesIsNegotiated
-yes_is_negotiated reports headline platform rs objects yes = taken_negotiated reports headline platform rs objects (yes_taken platform rs objects answers.Yes refl yes)
+yes_is_negotiated reports headline platform rs objects answered = taken_negotiated reports headline platform rs objects (yes_taken platform rs objects answers.Yes refl answered)
