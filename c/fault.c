@@ -73,12 +73,19 @@ static int ask(asking *by, const char *script, size_t script_size, struct text *
     return status;
 }
 
+/* Where the line of a place begins. */
+static const char *line_of(const char *text, const char *at)
+{
+    while (at > text && at[-1] != '\n')
+        at--;
+    return at;
+}
+
 /* Whether nothing but spaces stands before a place in its line. */
 static bool begins_line(const char *text, const char *at)
 {
-    while (at > text && at[-1] == ' ')
-        at--;
-    return at == text || at[-1] == '\n';
+    const char *line = line_of(text, at);
+    return line + strspn(line, " ") == at;
 }
 
 /* The arrow that leads to the fault: behind lines and columns its path is the record's, or one below it. */
@@ -147,9 +154,7 @@ static void put_line(struct text *to, const char *line, const char *end, const s
 /* The lines from the arrow on that are indented as it is: its line of the script begins with a number, and the arrow behind that. */
 static void put_lines(struct text *to, const char *told, const char *arrow, const struct frame *f)
 {
-    const char *line = arrow;
-    while (line > told && line[-1] != '\n')
-        line--;
+    const char *line = line_of(told, arrow);
     size_t indent = (size_t)(arrow - line) - strspn(arrow + strlen(ARROW), "0123456789");
     for (size_t size = strcspn(line, "\n"); size > indent && strspn(line, " ") >= indent; size = strcspn(line, "\n")) {
         put_line(to, line + indent, line + size, f);
