@@ -279,25 +279,9 @@ static void try_long(void)
         NEED(mezulobu_collection_release(&c[i]));
 }
 
-// A record's fault is told by the record's own lines, also where the script around it has one digit more.
-static void try_faults(void)
-{
-    static const size_t lines[] = {0, 7, 8, 9, 10, 97, 98, 99, 100};
-    for (size_t i = 0; i < sizeof lines / sizeof *lines; i++) {
-        char record[256] = "", text[512], at[64], shown[64];
-        memset(record, '\n', lines[i]);
-        size_t size = sizeof text, length = lines[i] + (size_t)sprintf(record + lines[i], "{\"usage\":[],\"x\":1}");
-        NEED(mezulobu_record_fault(MEZULOBU_KIND_PARTICIPANT, record, length, text, &size));
-        sprintf(at, "--> record:%zu:13: x\n", lines[i] + 1);
-        sprintf(shown, "\n%*zu | {\"usage\":[],\"x\":1}\n", lines[i] == 8 ? 2 : lines[i] == 98 ? 3 : 0, lines[i] + 1);
-        expect(&t, memmem(text, size, at, strlen(at)) && memmem(text, size, shown, strlen(shown)), at);
-    }
-}
-
 int main(void)
 {
     try_names();
-    try_faults();
     try_own_names();
     try_waits();
     try_failure();
