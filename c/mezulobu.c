@@ -164,6 +164,16 @@ const char *mezulobu_field_name(uint32_t field)
     return field && field <= sizeof names / sizeof names[0] ? names[field - 1] : "?";
 }
 
+const char *mezulobu_fault_name(uint32_t fault)
+{
+    static const char *const names[] = {
+        "no JSON", "S1 NotAnObject", "S2 UnknownField", "S3 WrongKind", "S4 UnknownName", "S5 BadUsage", "S6 NoColourSpaces",
+        "S7 BadMultiple", "S8 RepeatedPair", "S9 TooMany", "S10 RepeatedHeap", "S11 BadPlatformList", "S12 TiledMisfit",
+        "S13 WantOfMemory",
+    };
+    return fault < sizeof names / sizeof names[0] ? names[fault] : "?";
+}
+
 const char *mezulobu_status_name(int status)
 {
     static const char *const names[] = {

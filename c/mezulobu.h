@@ -349,6 +349,11 @@ int mezulobu_negotiate(const struct mezulobu_platform *platform,
 /* The name of a refusal's field, as "max_size"; "?" of a number that is none. */
 const char *mezulobu_field_name(uint32_t field);
 
+/* The name of a record's fault by its number: its code, as reports have it, and its kind, as
+ * "S4 UnknownName"; of 0 "no JSON", and "?" of a number that is none. REPORT says what each code
+ * means. */
+const char *mezulobu_fault_name(uint32_t fault);
+
 /* The layout of an image with rows of pitch bytes in the first plane, its height in pixels. DONE;
  * REFUSED where there is no such format or modifier here, where tiles don't go with the format, or
  * where the bytes don't fit 64 bits: layout is as it was then. MISUSED.
@@ -424,7 +429,7 @@ struct mezulobu_collection;
  * the platform states nothing that could be meant, and why, which may be null, has kind PLATFORM
  * and says which field. Or from the JSON of a platform as scripts have it: at REFUSED code, which
  * may be null, is the number of its fault, 1 of S1 and so on, and 0 where it is no JSON;
- * mezulobu_record_fault tells it in words. */
+ * mezulobu_fault_name tells its name. */
 int mezulobu_allocator_new(const struct mezulobu_platform *platform,
                            struct mezulobu_allocator **allocator, struct mezulobu_refusal *why);
 int mezulobu_allocator_new_record(const void *record, size_t size,
@@ -464,21 +469,6 @@ int mezulobu_collection_attach_token(struct mezulobu_collection *collection,
                                      struct mezulobu_token **made);
 int mezulobu_collection_release(struct mezulobu_collection **collection);
 int mezulobu_collection_close(struct mezulobu_collection **collection);
-
-/* The fault of a record in words: its name, as reports have it, where it is, and what would be
- * right. A text as above:
- *
- *     S4 pixel_format
- *      --> record:1:62: image_format_constraints[0].pixel_format
- *       |
- *     1 | ...aints":[{"pixel_format":"NV21","color_spaces":["SRGB"]}]}
- *       |                            ^^^^^^ unknown name
- *       = did you mean NV12?
- *
- * kind says whose record it is: MEZULOBU_KIND_PLATFORM or MEZULOBU_KIND_PARTICIPANT. DONE: text. NO:
- * it has no fault, and the size is 0. */
-int mezulobu_record_fault(uint32_t kind, const void *record, size_t size, char *text,
-                          size_t *text_size);
 
 /* What was decided for a collection. DONE: settings, which may be null. Else why there are none, or
  * PENDING; NO_MEMORY: the decision had no memory. The answer stays once it isn't PENDING. Of

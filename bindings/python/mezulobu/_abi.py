@@ -175,6 +175,10 @@ CALLS: Dict[str, Tuple[Any, List[Any]]] = {
         ctypes.c_char_p,
         [ctypes.c_uint32],
     ),
+    "mezulobu_fault_name": (
+        ctypes.c_char_p,
+        [ctypes.c_uint32],
+    ),
     "mezulobu_planes": (
         ctypes.c_int,
         [ctypes.c_uint32, ctypes.c_uint64, ctypes.c_uint32, ctypes.c_uint32,
@@ -265,11 +269,6 @@ CALLS: Dict[str, Tuple[Any, List[Any]]] = {
     "mezulobu_collection_close": (
         ctypes.c_int,
         [ctypes.POINTER(ctypes.c_void_p)],
-    ),
-    "mezulobu_record_fault": (
-        ctypes.c_int,
-        [ctypes.c_uint32, ctypes.c_char_p, ctypes.c_size_t, ctypes.c_void_p,
-         ctypes.POINTER(ctypes.c_size_t)],
     ),
     "mezulobu_collection_check": (
         ctypes.c_int,

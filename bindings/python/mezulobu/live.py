@@ -19,7 +19,7 @@ from typing import Any, Callable, Generic, List, Optional, Set, Tuple, Type, Typ
 from . import _abi
 from ._library import library
 from .chosen import Error, Refusal, Refused, Settings, raise_for, refusal_of, said_of, settings_of
-from .codes import Kind, Status
+from .codes import Status
 from .stated import Participant, Platform, flat_participant, flat_platform
 from .texts import filled, given_bytes
 
@@ -38,11 +38,12 @@ class CallRefused(Error):
 
 
 class RecordRefused(Error):
-    """A record has a fault: `number` is 1 of S1 and so on, and 0 where it is no JSON; `fault` says what it is, where, and what would be right."""
+    """A record has a fault: `number` is 1 of S1 and so on, and 0 where it is no JSON; `fault` is its name, as S5 BadUsage."""
 
-    def __init__(self, number: int, fault: str, call: str, node: Optional[str] = None) -> None:
-        super().__init__(f"{said_of(call, node)}: {fault}")
-        self.number, self.fault, self.call, self.node = number, fault, call, node
+    def __init__(self, number: int, call: str, node: Optional[str] = None) -> None:
+        self.number, self.call, self.node = number, call, node
+        self.fault = str(library.mezulobu_fault_name(number).decode())
+        super().__init__(f"{said_of(call, node)}: {self.fault}")
 
 
 class Spent(Error):
@@ -58,12 +59,6 @@ def _done(status: int, call: str, node: Optional[str] = None) -> None:
         raise MemoryError(f"{said_of(call, node)}: {_meaning(status, call)}")
     if status != Status.DONE:
         raise CallRefused(status, call, node)
-
-
-def _fault_of(kind: Kind, record: bytes, number: int) -> str:
-    """What is wrong with a record, in words; without memory for these its name alone."""
-    status, (text,) = filled(1, lambda *room: library.mezulobu_record_fault(kind, record, len(record), *room))
-    return text.decode().rstrip() if status == Status.DONE else f"S{number}" if number else "no JSON"
 
 
 class _Handle:
@@ -239,7 +234,7 @@ class Collection(_Node):
         code, given, call = ctypes.c_uint32(), given_bytes(record), "set_constraints_record"
         status = self._call(library.mezulobu_collection_set_constraints_record, given, len(given), code)
         if status == Status.REFUSED:
-            raise RecordRefused(code.value, _fault_of(Kind.PARTICIPANT, given, code.value), call, self._own_name())
+            raise RecordRefused(code.value, call, self._own_name())
         self._done(status, call)
 
     def attach_token(self) -> Token:
@@ -379,7 +374,7 @@ class Allocator(_Handle):
             code, given = ctypes.c_uint32(), given_bytes(platform)
             status = library.mezulobu_allocator_new_record(given, len(given), ctypes.byref(self._at), code)
             if status == Status.REFUSED:
-                raise RecordRefused(code.value, _fault_of(Kind.PLATFORM, given, code.value), "Allocator")
+                raise RecordRefused(code.value, "Allocator")
             _done(status, "Allocator")
         else:
             refusal = _abi.mezulobu_refusal(ctypes.sizeof(_abi.mezulobu_refusal))

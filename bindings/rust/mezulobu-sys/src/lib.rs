@@ -440,6 +440,12 @@ extern "C" {
     pub fn mezulobu_field_name(
         field: u32,
     ) -> *const c_char;
+    /// The name of a record's fault by its number: its code, as reports have it, and its kind, as
+    /// "S4 UnknownName"; of 0 "no JSON", and "?" of a number that is none. REPORT says what each code
+    /// means.
+    pub fn mezulobu_fault_name(
+        fault: u32,
+    ) -> *const c_char;
     /// The layout of an image with rows of pitch bytes in the first plane, its height in pixels. DONE;
     /// REFUSED where there is no such format or modifier here, where tiles don't go with the format, or
     /// where the bytes don't fit 64 bits: layout is as it was then. MISUSED.
@@ -474,7 +480,7 @@ extern "C" {
     /// the platform states nothing that could be meant, and why, which may be null, has kind PLATFORM
     /// and says which field. Or from the JSON of a platform as scripts have it: at REFUSED code, which
     /// may be null, is the number of its fault, 1 of S1 and so on, and 0 where it is no JSON;
-    /// mezulobu_record_fault tells it in words.
+    /// mezulobu_fault_name tells its name.
     pub fn mezulobu_allocator_new(
         platform: *const mezulobu_platform,
         allocator: *mut *mut mezulobu_allocator,
@@ -554,27 +560,6 @@ extern "C" {
     ) -> c_int;
     pub fn mezulobu_collection_close(
         collection: *mut *mut mezulobu_collection,
-    ) -> c_int;
-    /// The fault of a record in words: its name, as reports have it, where it is, and what would be
-    /// right. A text as above:
-    ///
-    /// ```c
-    ///     S4 pixel_format
-    ///      --> record:1:62: image_format_constraints[0].pixel_format
-    ///       |
-    ///     1 | ...aints":[{"pixel_format":"NV21","color_spaces":["SRGB"]}]}
-    ///       |                            ^^^^^^ unknown name
-    ///       = did you mean NV12?
-    ///
-    /// ```
-    /// kind says whose record it is: MEZULOBU_KIND_PLATFORM or MEZULOBU_KIND_PARTICIPANT. DONE: text. NO:
-    /// it has no fault, and the size is 0.
-    pub fn mezulobu_record_fault(
-        kind: u32,
-        record: *const c_void,
-        size: usize,
-        text: *mut c_char,
-        text_size: *mut usize,
     ) -> c_int;
     /// What was decided for a collection. DONE: settings, which may be null. Else why there are none, or
     /// PENDING; NO_MEMORY: the decision had no memory. The answer stays once it isn't PENDING. Of
