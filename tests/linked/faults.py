@@ -1,7 +1,9 @@
 #!/usr/bin/env python3
-"""Asks the library for the fault of each record of tests/records, by ctypes: its text begins with the fault that is expected there, and a record without one has no
-text; what is said of the place, and what would be right, are as the program explains a script with that record. Some texts are compared whole: of a record that is no JSON, of one of several lines, of one that would end the script around it. Then what statuses mean: the
-names of E1 to E10 are those that the definitions give to reports. The last line is 'N passed, M failed'.
+"""Asks the library for the fault of each record of tests/records, by ctypes: its text begins with the fault that is
+expected there, and a record without one has no text; what is said of the place, and what would be right, are as the
+program explains a script with that record. Some texts are compared whole: of a record that is no JSON, of one of
+several lines, of one that would end the script around it. Then what statuses mean: the names of E1 to E10 are those
+that the definitions give to reports. The last line is 'N passed, M failed'.
 
 usage: faults.py LIBRARY PROGRAM
 """
@@ -46,14 +48,17 @@ WHOLE = {
   | ^^^^^^^^^^^^^^^^^ unknown key
   = did you mean min_buffer_count?
 """,
-    b'{"usage":["cpu"],"buffer_memory_constraints":{"permitted_heaps":[{"heap_type":"a"},\n\n\n\n\n\n\n\n{"heap_type":"a"}]}}': """S10 permitted_heaps
+    b'{"usage":["cpu"],"buffer_memory_constraints":{"permitted_heaps":[{"heap_type":"a"},'
+    b'\n\n\n\n\n\n\n\n{"heap_type":"a"}]}}': """S10 permitted_heaps
   --> record:9:1: buffer_memory_constraints.permitted_heaps[1]
    |
  9 | {"heap_type":"a"}]}}
    | ^^^^^^^^^^^^^^^^^ given before
    = first at buffer_memory_constraints.permitted_heaps[0]
 """,
-    b'{"usage":["cpu"],' + b"\n" * 100 + b'"min_buffer_count":-1}': """S3 min_buffer_count
+    b'{"usage":["cpu"],'
+    + b"\n" * 100
+    + b'"min_buffer_count":-1}': """S3 min_buffer_count
    --> record:101:20: min_buffer_count
     |
 101 | "min_buffer_count":-1}
@@ -86,7 +91,10 @@ def fault_of(library, kind, record):
         return status, size.value
     text = ctypes.create_string_buffer(b"\1" * (size.value + 1))
     status = library.mezulobu_record_fault(kind, record, len(record), text, ctypes.byref(size))
-    return status, text.raw[: size.value].decode() if text.raw[size.value : -1] == b"\1" else "more than it has room for"
+    return (
+        status,
+        text.raw[: size.value].decode() if text.raw[size.value : -1] == b"\1" else "more than it has room for",
+    )
 
 
 def marks(text, path):
@@ -100,8 +108,13 @@ def by_program(program, kind, record):
     if kind == PLATFORM:
         script, path = f'{{"calls":[],"platform":\n{record}\n}}', "platform"
     else:
-        platform = '{"heaps":[{"heap_type":"a","domains":["cpu"]}],"pairs":[{"pixel_format":"R8"}],"color_spaces":["SRGB"]}'
-        path, calls = "calls[1].constraints", f'[{{"call":"bind","on":"root"}},{{"call":"set_constraints","on":"root","constraints":\n{record}\n}}]'
+        platform = (
+            '{"heaps":[{"heap_type":"a","domains":["cpu"]}],"pairs":[{"pixel_format":"R8"}],"color_spaces":["SRGB"]}'
+        )
+        path, calls = (
+            "calls[1].constraints",
+            f'[{{"call":"bind","on":"root"}},{{"call":"set_constraints","on":"root","constraints":\n{record}\n}}]',
+        )
         script = f'{{"platform":{platform},"calls":{calls}}}'
     done = subprocess.run([program, "explain", "-"], input=script, stdout=subprocess.PIPE, text=True, timeout=60)
     return marks(done.stdout, path)
@@ -113,11 +126,16 @@ def answers(library, program):
     for kind, known in ((PARTICIPANT, records.PARTICIPANTS), (PLATFORM, records.PLATFORMS)):
         for record, fault in known:
             status, text = fault_of(library, kind, record.encode())
-            yield record, (status, text.partition("\n")[0] if fault and text else text), (DONE, fault) if fault else (NO, 0)
+            yield record, (status, text.partition("\n")[0] if fault and text else text), (DONE, fault) if fault else (
+                NO,
+                0,
+            )
             if fault and os.path.exists(program):
                 yield f"what is said of {record}", marks(text, "") or "nothing", by_program(program, kind, record)
             if fault:
-                yield f"the place in {record}", re.search(r"\n +--> record:\d+:\d+: \S.*\n", text) is not None and "calls[1]" not in text, True
+                yield f"the place in {record}", re.search(
+                    r"\n +--> record:\d+:\d+: \S.*\n", text
+                ) is not None and "calls[1]" not in text, True
     for record, text in WHOLE.items():
         yield record, fault_of(library, PARTICIPANT, record), (DONE, text)
     deep = b"[" * 126 + b"]" * 126
@@ -134,7 +152,9 @@ def answers(library, program):
     for status in (-1, 1, 7, 17, 27):
         yield f"status {status}", library.mezulobu_status_text(status, b"set_name"), b"?"
     of_call = [library.mezulobu_status_text(status, b"set_name") for status in (2, 3, 6, 19)]
-    yield "of a call", [text != library.mezulobu_status_text(status, None) for text, status in zip(of_call, (2, 3, 6, 19))], [True, True, True, False]
+    yield "of a call", [
+        text != library.mezulobu_status_text(status, None) for text, status in zip(of_call, (2, 3, 6, 19))
+    ], [True, True, True, False]
 
 
 def main():
