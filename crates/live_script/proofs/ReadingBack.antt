@@ -56,10 +56,11 @@ taken [] (suc k) x is = absurd (cc is)
 taken (y ∷ xs) zero x is = ap (λ z. z ∷ []) (same_Some y x is)
 taken (y ∷ xs) (suc k) x is = ap (λ zs. y ∷ zs) (taken xs k x is)
 
+pub taken_more : {A : Type 0} (xs : List A) (k : ℕ) (x : A) → slice_get xs k ≡ Some x → take (k + 1) xs ≡ take k xs ++ x ∷ []
+taken_more xs k x is = let next : k + 1 ≡ suc k = omega arith in ap (λ j. take j xs) next ∙ taken xs k x is
+
 pub mapped_more : {A B : Type 0} (f : A → B) (xs : List A) (k : ℕ) (x : A) → slice_get xs k ≡ Some x → map f (take (k + 1) xs) ≡ map f (take k xs) ++ f x ∷ []
-mapped_more f xs k x is =
-    let next : k + 1 ≡ suc k = omega arith in
-    ap (λ j. map f (take j xs)) next ∙ (ap (map f) (taken xs k x is) ∙ map-append f (take k xs) (x ∷ []))
+mapped_more f xs k x is = ap (map f) (taken_more xs k x is) ∙ map-append f (take k xs) (x ∷ [])
 
 -- an entry as it is kept, which is a decision
 pub kept_more : (names : List NamedNode) (nodes : List NodeFacts) (es : List BookEntry) (rs : List CallFacts) (e : Entry) (r : ℕ) (claim : _) → e ≡ entries.Decided r claim → AreCallsOf names es rs

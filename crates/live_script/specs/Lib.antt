@@ -1,4 +1,5 @@
 pub mod Laws
 pub mod Recurring
+pub mod Refusing
 pub mod Script
 pub mod Texts

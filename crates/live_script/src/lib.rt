@@ -5,7 +5,6 @@ mod calls;
 mod certificate;
 pub mod laws;
 mod reading_back;
-mod records;
 mod refusal;
 mod script;
 

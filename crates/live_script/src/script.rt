@@ -5,9 +5,10 @@ ghost use Rattle.live_script.specs.Script.{IsScriptOf};
 
 use crate::laws::settled_calls_recur;
 use crate::reading_back::reads_back;
-use crate::records::{put_participant, put_platform};
 use live_book::Snapshot;
 use node_names::Names;
+use record_writing::{write_constraints, write_platform};
+use serde_json::Value;
 use std::alloc::{AllocError, Global};
 use sysmem_alloc::Entry;
 use sysmem_tree::{ActionKind, NodeId, Tree};
@@ -26,15 +27,26 @@ fn word_of(kind: ActionKind) -> &'static str {
     }
 }
 
-fn put_constraints(text: &mut String, tree: &Tree, number: u32) -> Result<(), AllocError> {
+fn put_value(alloc: Global, text: &mut String, value: &Value) -> Result<(), AllocError> {
+    let written = value.to_string(alloc)?;
+    text.push_str(&written)
+}
+
+fn put_constraints(
+    alloc: Global,
+    text: &mut String,
+    tree: &Tree,
+    number: u32,
+) -> Result<(), AllocError> {
     let Some(node) = tree.node(number) else {
         return Ok(());
     };
-    if let Some(asked) = tree.constraints_of(node) {
-        text.push_str(",\"constraints\":")?;
-        put_participant(text, asked)?;
-    }
-    Ok(())
+    let Some(asked) = tree.constraints_of(node) else {
+        return Ok(());
+    };
+    let record = write_constraints(alloc, asked)?;
+    text.push_str(",\"constraints\":")?;
+    put_value(alloc, text, &record)
 }
 
 /// As many actors as a script may have, but for `main`.
@@ -56,6 +68,7 @@ fn put_actor(text: &mut String, names: &Names, number: u32) -> Result<(), AllocE
 
 /// Puts a call, and tells how many nodes there are behind it.
 fn put_call(
+    alloc: Global,
     text: &mut String,
     snapshot: &Snapshot,
     number: u32,
@@ -76,7 +89,7 @@ fn put_call(
         nodes = nodes.saturating_add(1);
     }
     if kind == ActionKind::SetConstraints {
-        put_constraints(text, snapshot.tree(), number)?;
+        put_constraints(alloc, text, snapshot.tree(), number)?;
     }
     text.push_str("}")?;
     Ok(nodes)
@@ -86,7 +99,8 @@ fn put_call(
 fn written(alloc: Global, snapshot: &Snapshot) -> Result<Vec<u8>, AllocError> {
     let mut text = String::from_str(alloc, "{\"platform\":")?;
     let tree = snapshot.tree();
-    put_platform(&mut text, snapshot.platform())?;
+    let platform = write_platform(alloc, snapshot.platform())?;
+    put_value(alloc, &mut text, &platform)?;
     text.push_str(",\n\"calls\":[")?;
     let mut nodes = 1;
     let mut first = true;
@@ -94,7 +108,7 @@ fn written(alloc: Global, snapshot: &Snapshot) -> Result<Vec<u8>, AllocError> {
         if let Entry::Acted(node, kind) = entry {
             text.push_str(if first { "\n" } else { ",\n" })?;
             let number = number_of(tree, *node);
-            nodes = put_call(&mut text, snapshot, number, *kind, nodes)?;
+            nodes = put_call(alloc, &mut text, snapshot, number, *kind, nodes)?;
             first = false;
         }
     }

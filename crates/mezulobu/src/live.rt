@@ -14,6 +14,7 @@ ghost use Rattle.live_calls.specs.Naming.{SetsName, TellsName};
 ghost use Rattle.live_calls.specs.Numbers.{action_at};
 ghost use Rattle.live_calls.specs.Opening.{Copies, Opens};
 ghost use Rattle.live_calls.specs.Reading.{ReadsConstraints, ReadsPlatform};
+ghost use Rattle.live_script.specs.Refusing.{TellsRefusal};
 ghost use Rattle.live_script.specs.Script.{IsScriptOf};
 ghost use Rattle.live_script.specs.Texts.{IsCertificateOf, Writes};
 ghost use Rattle.sysmem_tree.specs.ActionKind.{sets};
@@ -240,7 +241,10 @@ pub extern "C" fn mezulobu_rt_live_refusal(
     held: &mut Held,
     node: u32,
     why: &mut FlatRefusal,
-) -> u32 {
+) -> u32
+    ensures tells { TellsRefusal node held.old.value why.old why.new result }
+    ensures unchanged { held.new.value ≡ held.old.value }
+{
     refusal_on(alloc, held, node, why)
 }
 
