@@ -1,5 +1,7 @@
 -- A report is of a legal history.
-use Rattle.std.proofs.Common.{◌≡◌, ℕ, ◌+◌, List, [], ◌∷◌, IsOk, refl, sym, ◌∙◌, ap, subst}
+use Rattle.std.proofs.Common.{◌≡◌, ℕ, ◌+◌, List, [], ◌∷◌, false, IsOk, refl, sym, ◌∙◌, ap, subst}
+use Rattle.std.specs.List.{AllByRecursion}
+use Rattle.serde_json.specs.Data.{Data}
 use Rattle.sysmem_alloc.specs.Decision.{answer_of}
 use Rattle.sysmem_alloc.specs.Entry.{BookEntry, Acted, Decided}
 use Rattle.sysmem_alloc.specs.Headline.{Headline}
@@ -11,7 +13,10 @@ use Rattle.script_replay.specs.declared.reply.Reply.{Reply}
 use Rattle.script_replay.specs.Answer.{Replies, skips, misreads, starves, lacks, refuses, accepts, tells}
 use Rattle.script_replay.specs.Report.{Certified, Goes, IsReport, calls, certified, decides, stays, with_decision}
 use Rattle.script_replay.specs.State.{RunState, first_run_state}
-use Rattle.script_check.specs.Headline.{HeadlineOfBytes, ReportsAreLegal, certified_from}
+use Rattle.script_check.specs.declared.checked_file.CheckAnswer.{CheckAnswer}
+use Rattle.script_check.specs.declared.checked_file.CheckAnswer.TheVariants as answers
+use Rattle.script_check.specs.Checked.{Answers, AreTaken, accepts, has_more, objects_to}
+use Rattle.script_check.specs.Headline.{AreNegotiated, HeadlineOfBytes, ReportsAreLegal, YesIsNegotiated, certified_from}
 use Rattle.script_check.proofs.ReadBack.{replied_platform}
 use Rattle.script_check.proofs.Reported.{each_claimed, input_reports}
 
@@ -74,3 +79,26 @@ headline_of_bytes reports headline input c certifies =
       claimed = λ fed. each_claimed 1 (first_run_state platform) report.last r.script.calls report.lines r.report.decisions report.goes (sym report.memory ∙ fed);
       negotiated = λ before domain claim after split. headline platform before domain claim after (subst (IsLegal platform) split is.legal);
     }
+
+-- what was taken
+taken_negotiated : ReportsAreLegal → Headline → (platform : PlatformFacts) (rs : List CallFacts) (objects : List Data) → AreTaken platform rs objects → AreNegotiated platform rs objects
+taken_negotiated reports headline platform rs objects taken =
+    let (es, is) = reports platform rs taken.text taken.report.decisions false taken.report.report in
+    record {
+      text = taken.text;
+      decisions = taken.report.decisions;
+      report = taken.report.report;
+      are_of = taken.report.gave;
+      history = es;
+      leads = is;
+      negotiated = λ before domain claim after split. headline platform before domain claim after (subst (IsLegal platform) split is.legal);
+    }
+
+-- a yes is of objects that were taken
+yes_taken : (platform : PlatformFacts) (rs : List CallFacts) (objects : List Data) (answer : CheckAnswer) → answer ≡ answers.Yes → Answers platform rs objects answer → AreTaken platform rs objects
+yes_taken platform rs objects _ is (accepts taken) = taken
+yes_taken platform rs objects _ is (objects_to objection fails) = absurd (cc)
+yes_taken platform rs objects _ is (has_more taken left object split are) = absurd (cc)
+
+pub yes_is_negotiated : ReportsAreLegal → Headline → YesIsNegotiated
+yes_is_negotiated reports headline platform rs objects accepted = taken_negotiated reports headline platform rs objects (yes_taken platform rs objects answers.Yes refl accepted)

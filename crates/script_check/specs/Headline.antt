@@ -1,6 +1,7 @@
 -- The history that a report is of, and what the headline says of its decisions.
 use Rattle.std.specs.Prelude.{◌≡◌, ℕ, List, [], ◌∷◌, Bool, false, Result, Ok, is_none}
-use Rattle.std.specs.List.{AllByRecursion}
+use Rattle.std.specs.List.{AllByRecursion, AllZip}
+use Rattle.serde_json.specs.Data.{Data}
 use Rattle.sysmem_alloc.specs.Entry.{BookEntry, Acted, Decided}
 use Rattle.sysmem_alloc.specs.Headline.{IsNegotiated, history_with}
 use Rattle.sysmem_alloc.specs.History.{IsLegal, after_entry, replay}
@@ -11,7 +12,9 @@ use Rattle.verdict_claims.specs.declared.certificate.Claim.{Claim}
 use Rattle.script_reading.specs.Script.{CallFacts, ScriptFacts}
 use Rattle.script_replay.specs.Report.{Certified, IsReport}
 use Rattle.script_run.specs.Certificate.{AreProved, CertifiedFacts, CertifiesTo, certificate_of}
+use Rattle.script_check.specs.Checked.{Answers, IsOf}
 use Rattle.script_check.specs.CheckedFile.{IsScriptOf}
+use Rattle.script_check.specs.declared.checked_file.CheckAnswer.TheVariants as answers
 
 -- what is certified of the decisions among entries, from a state on: of each the path of its
 -- domain's root, and its claim
@@ -64,3 +67,22 @@ pub record HasHistory (input : List ℕ) (c : CertifiedFacts) : Type 0 where
 abbrev pub HeadlineOfBytes : Type 0
 HeadlineOfBytes = (input : List ℕ) (c : CertifiedFacts) → CertifiesTo input (Ok c)
     → HasHistory input c
+
+-- the objects of a certificate are the claims of the decisions of a report in which memory was not
+-- refused; a legal history has these decisions, and leads to the collection as the calls and they
+-- leave it; and each is negotiated as the headline says
+pub record AreNegotiated (platform : PlatformFacts) (rs : List CallFacts) (objects : List Data)
+    : Type 0 where
+  pub text : List ℕ
+  pub decisions : List Certified
+  pub report : IsReport platform rs text decisions false
+  pub are_of : AllZip (IsOf platform) objects decisions
+  pub history : List BookEntry
+  pub leads : IsHistoryOf platform decisions report.last.book history
+  pub negotiated : (es : List BookEntry) (r : ℕ) (claim : Claim) (fs : List BookEntry)
+      → history ≡ history_with es r claim fs → IsNegotiated platform es r claim fs
+
+-- what a check of a file says yes to, whoever wrote it, is so negotiated
+abbrev pub YesIsNegotiated : Type 0
+YesIsNegotiated = (platform : PlatformFacts) (rs : List CallFacts) (objects : List Data)
+    → Answers platform rs objects answers.Yes → AreNegotiated platform rs objects

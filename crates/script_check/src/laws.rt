@@ -1,6 +1,6 @@
 //! What is true of reports, whoever writes them.
 
-ghost use Rattle.script_check.specs.Headline.{HeadlineOfBytes, ReportsAreLegal};
+ghost use Rattle.script_check.specs.Headline.{HeadlineOfBytes, ReportsAreLegal, YesIsNegotiated};
 ghost use Rattle.script_check.specs.Laws.{CertificatesAreAccepted, CertificatesReadBack, CertifiedIsReport, FaultIsAlone, OneAnswer, OneCheck, OneReport};
 
 use certificate_text::laws::{
@@ -81,6 +81,15 @@ pub fn reports_are_legal()
 /// the decisions of a legal history, and each of these is as `headline` of `sysmem_alloc` says.
 pub fn headline_of_bytes()
     ensures { HeadlineOfBytes }
+{
+    reports_are_legal();
+    headline();
+}
+
+/// What a check of a file says yes to, whoever wrote it, are the claims of the decisions of a legal
+/// history of the script's calls, and each of these is as `headline` of `sysmem_alloc` says.
+pub fn yes_is_negotiated()
+    ensures { YesIsNegotiated }
 {
     reports_are_legal();
     headline();
