@@ -23,6 +23,7 @@ def names_of(file):
     loader = importlib.machinery.SourceFileLoader("records", file)
     module = importlib.util.module_from_spec(importlib.util.spec_from_loader("records", loader))
     sys.dont_write_bytecode = True
+    sys.path.insert(0, os.path.dirname(file))
     loader.exec_module(module)
     return module
 
