@@ -1,6 +1,6 @@
 -- What is kept of the offers of a pair, of which there is one for each colour space.
 use Rattle.std.specs.Prelude.{◌≡◌, ◌==◌, ◌++◌, ◌∷◌, [], ℕ, List, length, Bool, true}
-use Rattle.std.specs.Prelude.{false, Some, slice_get}
+use Rattle.std.specs.Prelude.{false, IsTrue, Some, slice_get}
 use Rattle.std.specs.Int.{bit_at}
 use Rattle.sysmem_counts.specs.declared.field.Field.TheVariants.{ColorSpaces}
 use Rattle.sysmem_formats.specs.declared.colour_space.ColourSpace.{ColourSpace}
@@ -89,3 +89,10 @@ pub record ArePairsKept (pairs : List Pair) (ds : List OfferDemand)
   pub many : length kept ≡ length pairs
   pub each : (k : ℕ) (pair : Pair) (one : KeptPair) → slice_get pairs k ≡ Some pair
       → slice_get kept k ≡ Some one → IsPairKept pair ds one
+
+-- what is kept of pairs stands for some participants: for both of these lists together, where that
+-- is wished
+pub record AreJoinedWhere (pairs : List Pair) (ds es : List OfferDemand) (wished : Bool)
+    (kept : List KeptPair) : Type 0 where
+  pub of_some : (any : List OfferDemand) × ArePairsKept pairs any kept
+  pub joined : IsTrue wished → ArePairsKept pairs (ds ++ es) kept
