@@ -1,6 +1,6 @@
 //! Refutations, and lists of paths and of lines, as text.
 
-ghost use Rattle.std.specs.Prelude.{◌≡◌, ◌++◌, ◌<◌, ◌+◌, [], ◌∷◌, List, ℕ, codes, false, map, IfOk, IfSome, OnOk};
+ghost use Rattle.std.specs.Prelude.{◌≡◌, ◌++◌, ◌<◌, ◌+◌, [], ◌∷◌, List, ℕ, codes, false, map, Contains, IfOk, IfSome, IsTrue, OnOk};
 ghost use Rattle.certificate_text.specs.Out.{IsTold};
 ghost use Rattle.certificate_text.specs.Paths.{path_text, steps_text};
 ghost use Rattle.certificate_text.specs.Told.{conflict_data, item_data, line_data, lines_data, named_data, path_data, paths_data, refutation_data};
@@ -105,7 +105,7 @@ fn push_lines(out: &mut Vec<u8>, kind: &str, lines: &Lines) -> Result<(), AllocE
     out.extend_from_slice(b"{\"")?;
     out.extend_from_slice(kind.as_bytes())?;
     out.extend_from_slice(b"\":[")?;
-    push_line_items(out, lines.as_slice())?;
+    push_line_items(out, lines)?;
     out.extend_from_slice(b"]}")?;
     Ok(())
 }
@@ -151,42 +151,63 @@ impl Told {
     }
 }
 
-/// Puts the lines of a list after bytes, with a comma between two. A line with few paths takes over
-/// what it has in common with the last such line, and one with many what it has in common with the
-/// last of those: a line that names one participant stands between lines that name all.
-pub(crate) fn push_line_items(out: &mut Vec<u8>, lines: &[Line]) -> Result<(), AllocError>
+/// Puts lines after bytes, with a comma between two. A line with few paths takes over what it has
+/// in common with the last such line, and one with many what it has in common with the last of
+/// those: a line that names one participant stands between lines that name all. Where a line is
+/// known to be the one before once more, nothing is compared.
+pub(crate) fn push_line_items(out: &mut Vec<u8>, lines: &Lines) -> Result<(), AllocError>
     ensures { OnOk result (out.new.items ++ codes "]"
         ≡ out.old.items ++ items_text false (items_of (map line_data lines.now))) }
 {
+    let again = lines.again();
+    let mut next = 0;
     let mut few = None;
     let mut many = None;
-    let mut later = false;
-    for line in lines {
-        push_comma(out, later)?;
-        if line.nodes().is_small() {
-            push_told(out, &mut few, line)?;
-        } else {
-            push_told(out, &mut many, line)?;
+    for (index, line) in lines.as_slice().iter().enumerate() {
+        push_comma(out, index > 0)?;
+        let is_again = is_next(again, next, index);
+        if is_again {
+            next += 1;
         }
-        later = true;
+        if line.nodes().is_small() {
+            push_told(out, &mut few, line, is_again)?;
+        } else {
+            push_told(out, &mut many, line, is_again)?;
+        }
     }
     Ok(())
 }
 
+/// Whether the place of a line is the one that comes next among those of lines that are the one
+/// before once more.
+fn is_next(again: &[u8], next: usize, index: usize) -> bool
+    ensures { IsTrue result → Contains again.now index }
+{
+    match again.get(next) {
+        Some(place) => usize::from(*place) == index,
+        None => false,
+    }
+}
+
 /// Puts a line after bytes. It takes over what it has in common with the line that is kept, and is
-/// then kept in its place.
+/// then kept in its place; if it is that line once more, it takes over all.
 fn push_told(
     out: &mut Vec<u8>,
     kept: &mut Option<Told>,
     line: &Line,
+    is_again: bool,
 ) -> Result<(), AllocError>
-    requires { IfSome kept.old IsTold }
-    ensures kept { OnOk result (IfSome kept.new IsTold) }
+    requires told { IfSome kept.old IsTold }
+    requires again { IsTrue is_again → IfSome kept.old (λ told. told.line ≡ line.now) }
+    ensures told { OnOk result (IfSome kept.new IsTold) }
+    ensures line { OnOk result (IfSome kept.new (λ told. told.line ≡ line.now)) }
     ensures text { OnOk result (out.new.items
         ≡ out.old.items ++ compact_text (line_data line.now)) }
 {
     if let Some(told) = kept {
-        told.tell(line)?;
+        if !is_again {
+            told.tell(line)?;
+        }
         return out.extend_from_slice(told.text.as_slice());
     }
     let told = Told::of(*out.allocator(), line)?;
