@@ -139,6 +139,7 @@ bench: prove
 	$(ALONE) bench/library
 	bench/trees
 	bench/certificates
+	bench/costly
 
 # ---- What is installed beside the program and the library: bindings for Rust, Python and C++, manual
 # pages, completions; and what is packed. With UNPROVED=1 of what `make build` makes.
