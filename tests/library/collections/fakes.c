@@ -1,6 +1,6 @@
 // fakes: the room of a collection over exports that are made up here. Whatever they answer, a call that leaves nobody
 // awaited comes to its end, since each round enters a decision or is the last. The last line is 'N passed, M failed'.
-#include "../../c/room.c"
+#include "../../../c/room.c"
 #include <stdio.h>
 
 enum { DECISIONS = 3 };
