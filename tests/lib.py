@@ -16,6 +16,12 @@ PROGRAM = os.path.abspath(
     os.environ.get("SYSMEM_REPLAY") or os.path.join(TOP, "crates/sysmem_replay/out/sysmem_replay")
 )
 WORKBENCH = os.path.abspath(os.environ.get("WORKBENCH") or os.path.join(TOP, "crates/workbench/out/workbench"))
+# The letters of DRM's codes, by its header.
+FOURCC = {
+    "R8G8B8A8": "AB24", "B8G8R8A8": "AR24", "R8G8B8X8": "XB24", "B8G8R8X8": "XR24", "R8G8B8": "BG24", "B8G8R8": "RG24",
+    "R5G6B5": "RG16", "R8G8": "GR88", "YUY2": "YUYV", "R8": "R8  ", "L8": None, "I420": "YU12", "YV12": "YV12",
+    "NV12": "NV12", "P010": "P010",
+}
 EXAMPLES, ROWS, RANDOM, EXPLAINED = "examples", "tests/data/rows", "tests/data/random", "tests/data/explained"
 
 
