@@ -57,6 +57,18 @@ def load(name, path=None):
     return made
 
 
+def call(*words, program=PROGRAM, **how):
+    """A call of the program, once it has come to its end. It prints bytes where `text` isn't asked for."""
+    streams = {"stdout": subprocess.PIPE, "stderr": subprocess.PIPE}
+    return subprocess.run([program, *words], **(streams | {"timeout": 300} | how))
+
+
+def answer_of(*words, **how):
+    """The same as what it prints, what it reports, and its status."""
+    done = call(*words, **how)
+    return done.stdout or done.stderr[:0], done.stderr, done.returncode
+
+
 def output(*words, timeout=3000, **how):
     """What a command prints and reports, as one text, and its status."""
     streams = {"stdout": subprocess.PIPE, "stderr": subprocess.STDOUT}
