@@ -44,6 +44,7 @@ fn put_answer(items: &mut Items, fault: ScriptFault) {
         Ok(text) => items.add(Item {
             label: "",
             text,
+            mentions: Vec::new(alloc),
             depth: 0,
             kind: Kind::Answer,
         }),
