@@ -429,7 +429,7 @@ struct mezulobu_collection;
  * the platform states nothing that could be meant, and why, which may be null, has kind PLATFORM
  * and says which field. Or from the JSON of a platform as scripts have it: at REFUSED code, which
  * may be null, is the number of its fault, 1 of S1 and so on, and 0 where it is no JSON;
- * mezulobu_fault_name tells its name. */
+ * mezulobu_fault_name tells its name, and mezulobu_record_fault where it is. */
 int mezulobu_allocator_new(const struct mezulobu_platform *platform,
                            struct mezulobu_allocator **allocator, struct mezulobu_refusal *why);
 int mezulobu_allocator_new_record(const void *record, size_t size,
@@ -469,6 +469,23 @@ int mezulobu_collection_attach_token(struct mezulobu_collection *collection,
                                      struct mezulobu_token **made);
 int mezulobu_collection_release(struct mezulobu_collection **collection);
 int mezulobu_collection_close(struct mezulobu_collection **collection);
+
+/* What is wrong with a record, in words: the name of its first fault, as reports have it, or
+ * "no JSON"; where it is, and what would be right. A text as above, whose lines end with a newline:
+ *
+ *     S4 pixel_format
+ *      --> record:1:62: image_format_constraints[0].pixel_format
+ *       |
+ *     1 | ...aints":[{"pixel_format":"NV21","color_spaces":["SRGB"]}]}
+ *       |                            ^^^^^^ unknown name
+ *       = did you mean NV12?
+ *
+ * kind says whose record it is: MEZULOBU_KIND_PLATFORM or MEZULOBU_KIND_PARTICIPANT; another is
+ * MISUSED. DONE: text. NO: nothing is wrong, and the size is 0. So the status is DONE exactly where
+ * mezulobu_allocator_new_record or mezulobu_collection_set_constraints_record would be REFUSED for
+ * the record. */
+int mezulobu_record_fault(uint32_t kind, const void *record, size_t size, char *text,
+                          size_t *text_size);
 
 /* What was decided for a collection. DONE: settings, which may be null. Else why there are none, or
  * PENDING; NO_MEMORY: the decision had no memory. The answer stays once it isn't PENDING. Of

@@ -270,6 +270,11 @@ CALLS: Dict[str, Tuple[Any, List[Any]]] = {
         ctypes.c_int,
         [ctypes.POINTER(ctypes.c_void_p)],
     ),
+    "mezulobu_record_fault": (
+        ctypes.c_int,
+        [ctypes.c_uint32, ctypes.c_char_p, ctypes.c_size_t, ctypes.c_void_p,
+         ctypes.POINTER(ctypes.c_size_t)],
+    ),
     "mezulobu_collection_check": (
         ctypes.c_int,
         [ctypes.c_void_p, ctypes.POINTER(mezulobu_settings)],

@@ -6,7 +6,7 @@ use crate::lines::with_lines;
 use domain_reasons::answer_of;
 use explanation_text::{Item, Items, Kind, Span, Words, column_of, line_of, repeated_keys};
 use other_outcomes::tell_moved;
-use script_faults::{Document, tell_fault, tell_no_json};
+use script_faults::{Document, Whole, tell_fault, tell_no_json};
 use script_reading::{ParseFault, Script, ScriptFault, parse_script, read_script};
 use script_story::{Effort, Setting, Story, refused_calls, story_of, tell_refused};
 use serde_json::Value;
@@ -51,6 +51,7 @@ pub fn explain(alloc: Global, file: &str, bytes: &[u8]) -> Result<Explanation, A
                 file,
                 bytes,
                 value: &Value::Null,
+                whole: Whole::Script,
             };
             let mut items = Items::new(alloc);
             tell_fault(&mut items, &document, fault)?;
@@ -73,7 +74,12 @@ fn explain_value(
     bytes: &[u8],
     value: &Value,
 ) -> Result<Explanation, AllocError> {
-    let document = Document { file, bytes, value };
+    let document = Document {
+        file,
+        bytes,
+        value,
+        whole: Whole::Script,
+    };
     match read_script(alloc, value) {
         Ok(script) => explain_script(alloc, &document, &script),
         Err(ParseFault::NoMemory) => Err(AllocError),

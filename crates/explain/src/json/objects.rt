@@ -10,7 +10,7 @@ use crate::json::scene::{Played, Scene};
 use crate::json::telling::Telling;
 use crate::json::values::count_value;
 use explanation_text::Item;
-use script_faults::Document;
+use script_faults::{Document, Whole};
 use script_reading::{ParseFault, Script, parse_script, read_script};
 use script_story::{Effort, Setting, story_of};
 use serde_json::Value;
@@ -36,6 +36,7 @@ pub fn objects_of(
         file,
         bytes,
         value: &value,
+        whole: Whole::Script,
     };
     match read_script(alloc, &value) {
         Ok(script) => played_objects(alloc, document, &script, explanation),
