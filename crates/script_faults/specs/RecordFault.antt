@@ -20,6 +20,11 @@ abbrev pub first_fault : RecordKind → Data → Option Fault
 first_fault Platform value = fault_in (platform_of value)
 first_fault Participant value = fault_in (participant_of value)
 
+-- the value that bytes spell, or that they are no JSON
+abbrev pub Spells : List ℕ → Option Data → Type 0
+Spells bytes (Some value) = IsJson bytes value
+Spells bytes None = (value : Data) → ¬ IsJson bytes value
+
 -- what is wrong with bytes that are read as a record of a kind: they are no JSON, or their value has
 -- this first fault; or nothing is
 abbrev pub HasFault : RecordKind → List ℕ → Option RecordFault → Type 0

@@ -4,7 +4,7 @@ ghost use Rattle.std.specs.Prelude.{◌≡◌, ◌++◌, IfOk, Some, codes, opti
 ghost use Rattle.serde_json.specs.View.{view};
 ghost use Rattle.script_reading.specs.Text.{IsJson};
 ghost use Rattle.record_reading.specs.Reading.{participant_of, platform_of};
-ghost use Rattle.script_faults.specs.RecordFault.{TellsRecord, fault_in, fault_name, first_fault};
+ghost use Rattle.script_faults.specs.RecordFault.{Spells, TellsRecord, fault_in, fault_name, first_fault};
 
 use crate::no_json::{Broken, is_blank, tell_break};
 use crate::record::{Document, Whole, tell_record_fault};
@@ -45,6 +45,7 @@ impl fmt::Display for RecordFault {
 /// What is wrong with a record, in words: the name of its first fault in a line, and below it where
 /// that stands and what would be right. `None` where nothing is wrong. The file's name stands before
 /// lines and columns. `AllocError` where memory is refused.
+#[tactic(auto, using(crate::proofs::RecordSayings::tells_no_json))]
 pub fn record_fault(
     alloc: Global,
     kind: RecordKind,
@@ -54,20 +55,33 @@ pub fn record_fault(
     ensures { IfOk result (λ words.
         TellsRecord kind bytes.now (option_map (λ text. string_bytes text) words)) }
 {
+    match value_of(alloc, bytes)? {
+        Some(value) => value_fault(alloc, kind, bytes, file, &value),
+        None => {
+            let told = break_words(alloc, bytes, file)?;
+            Ok(Some(named(alloc, RecordFault::NotJson, &told)?))
+        }
+    }
+}
+
+/// The value that bytes spell; `None` where they are no JSON.
+fn value_of(alloc: Global, bytes: &[u8]) -> Result<Option<Value>, AllocError>
+    ensures { IfOk result (λ value. Spells bytes.now (option_map (λ one. view one) value)) }
+{
     match Value::from_slice(alloc, bytes) {
-        Ok(value) => value_fault(alloc, kind, bytes, file, &value),
+        Ok(value) => Ok(Some(value)),
         Err(error) => {
             if error.is_memory() {
                 Err(AllocError)
             } else {
-                let told = break_words(alloc, bytes, file)?;
-                Ok(Some(named(alloc, RecordFault::NotJson, &told)?))
+                Ok(None)
             }
         }
     }
 }
 
 /// The same of a record whose bytes spell a value.
+#[tactic(auto, using(crate::proofs::RecordSayings::tells_fault, crate::proofs::RecordSayings::tells_none))]
 fn value_fault(
     alloc: Global,
     kind: RecordKind,
