@@ -8,6 +8,7 @@ uint32_t mezulobu_rt_run_with_proof(const uint8_t *, size_t, uint8_t *, size_t, 
 uint32_t mezulobu_rt_check(const uint8_t *, size_t, const uint8_t *, size_t, uint8_t *, size_t, size_t *);
 uint32_t mezulobu_rt_check_status(const uint8_t *, size_t, const uint8_t *, size_t);
 uint32_t mezulobu_rt_explain(const uint8_t *, size_t, const uint8_t *, size_t, bool, bool, uint8_t *, size_t, size_t *);
+uint32_t mezulobu_rt_record_fault(uint32_t, const uint8_t *, size_t, uint8_t *, size_t, size_t *);
 uint32_t mezulobu_rt_planes(uint32_t, uint64_t, uint32_t, uint32_t, struct mezulobu_layout *);
 uint32_t mezulobu_rt_negotiate(const struct mezulobu_platform *, const struct mezulobu_participant *, size_t,
                                struct mezulobu_settings *, struct mezulobu_refusal *);
@@ -63,6 +64,16 @@ int mezulobu_explain(const void *script, size_t script_size, const char *file, b
 int mezulobu_explain_json(const void *script, size_t script_size, const char *file, bool is_strict, char *text, size_t *text_size)
 {
     return explain_as(script, script_size, file, true, is_strict, text, text_size);
+}
+
+int mezulobu_record_fault(uint32_t kind, const void *record, size_t size, char *text, size_t *text_size)
+{
+    uint8_t none[2];
+    if (lacks(record, size) || !text_size || lacks_room(text, text_size))
+        return MEZULOBU_MISUSED;
+    const uint8_t *in = record ? record : &none[0];
+    uint8_t *out = text ? (uint8_t *)text : &none[1];
+    return (int)mezulobu_rt_record_fault(kind, in, size, out, *text_size, text_size);
 }
 
 int mezulobu_planes(uint32_t format, uint64_t modifier, uint32_t pitch, uint32_t height, struct mezulobu_layout *layout)

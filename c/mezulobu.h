@@ -21,7 +21,7 @@
 extern "C" {
 #endif
 
-#define MEZULOBU_VERSION 0x00010004u /* major 16 bits, minor 16 bits */
+#define MEZULOBU_VERSION 0x00010005u /* major 16 bits, minor 16 bits */
 
 /* What a call answers: the exit status that the program has of the same, and 2 and 5 for what only
  * a caller can get wrong. */
@@ -33,8 +33,8 @@ enum mezulobu_status {
     MEZULOBU_NO_MEMORY = 4, /* memory was refused, to all of it or to a decision */
     MEZULOBU_TOO_SMALL = 5, /* a buffer is too small; each size says what is needed */
     MEZULOBU_NO = 6,        /* a check: no; a strict explanation: not all went well; a negotiation:
-                             * no settings meet everybody; a wait: nothing was decided in that
-                             * time */
+                             * no settings meet everybody; a record: it has no fault; a wait:
+                             * nothing was decided in that time */
 
     /* Of live collections alone: why a call is refused, 16 and the number that reports have. E1 is
      * NO_MEMORY. */
@@ -429,7 +429,7 @@ struct mezulobu_collection;
  * the platform states nothing that could be meant, and why, which may be null, has kind PLATFORM
  * and says which field. Or from the JSON of a platform as scripts have it: at REFUSED code, which
  * may be null, is the number of its fault, 1 of S1 and so on, and 0 where it is no JSON;
- * mezulobu_fault_name tells its name. */
+ * mezulobu_fault_name tells its name, and mezulobu_record_fault where it is. */
 int mezulobu_allocator_new(const struct mezulobu_platform *platform,
                            struct mezulobu_allocator **allocator, struct mezulobu_refusal *why);
 int mezulobu_allocator_new_record(const void *record, size_t size,
@@ -469,6 +469,23 @@ int mezulobu_collection_attach_token(struct mezulobu_collection *collection,
                                      struct mezulobu_token **made);
 int mezulobu_collection_release(struct mezulobu_collection **collection);
 int mezulobu_collection_close(struct mezulobu_collection **collection);
+
+/* What is wrong with a record, in words: the name of its first fault, as reports have it, or
+ * "no JSON"; where it is, and what would be right. A text, as a script's report is one:
+ *
+ *     S4 pixel_format
+ *      --> record:1:62: image_format_constraints[0].pixel_format
+ *       |
+ *     1 | ...aints":[{"pixel_format":"NV21","color_spaces":["SRGB"]}]}
+ *       |                            ^^^^^^ unknown name
+ *       = did you mean NV12?
+ *
+ * kind says whose record it is, MEZULOBU_KIND_PLATFORM or MEZULOBU_KIND_PARTICIPANT; another number
+ * is MISUSED, and nothing is written. DONE: text. NO: nothing is wrong with the record, and the size
+ * is 0. mezulobu_allocator_new_record and mezulobu_collection_set_constraints_record refuse exactly
+ * the records of which this has a text. */
+int mezulobu_record_fault(uint32_t kind, const void *record, size_t size,
+                          char *text, size_t *text_size);
 
 /* What was decided for a collection. DONE: settings, which may be null. Else why there are none, or
  * PENDING; NO_MEMORY: the decision had no memory. The answer stays once it isn't PENDING. Of

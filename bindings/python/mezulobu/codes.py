@@ -18,8 +18,8 @@ doesn't know."""
     """A buffer is too small; each size says what is needed."""
     NO = 6
     """A check: no; a strict explanation: not all went well; a negotiation:
-no settings meet everybody; a wait: nothing was decided in that
-time."""
+no settings meet everybody; a record: it has no fault; a wait:
+nothing was decided in that time."""
     WRONG_STATE = 18
     """E2: the handle isn't in a state that allows the call."""
     TOO_MANY_NODES = 19

@@ -19,7 +19,7 @@ from typing import Any, Callable, Generic, List, Optional, Set, Tuple, Type, Typ
 from . import _abi
 from ._library import library
 from .chosen import Error, Refusal, Refused, Settings, raise_for, refusal_of, said_of, settings_of
-from .codes import Status
+from .codes import Kind, Status
 from .stated import Participant, Platform, flat_participant, flat_platform
 from .texts import filled, given_bytes
 
@@ -38,12 +38,12 @@ class CallRefused(Error):
 
 
 class RecordRefused(Error):
-    """A record has a fault: `number` is 1 of S1 and so on, and 0 where it is no JSON; `fault` is its name, as S5 BadUsage."""
+    """A record has a fault: `number` is 1 of S1 and so on, and 0 where it is no JSON; `fault` is its name, as S5 BadUsage; `text` says what it is, where, and what would be right."""
 
-    def __init__(self, number: int, call: str, node: Optional[str] = None) -> None:
-        self.number, self.call, self.node = number, call, node
+    def __init__(self, number: int, text: str, call: str, node: Optional[str] = None) -> None:
+        super().__init__(f"{said_of(call, node)}: {text}")
+        self.number, self.text, self.call, self.node = number, text, call, node
         self.fault = str(library.mezulobu_fault_name(number).decode())
-        super().__init__(f"{said_of(call, node)}: {self.fault}")
 
 
 class Spent(Error):
@@ -59,6 +59,13 @@ def _done(status: int, call: str, node: Optional[str] = None) -> None:
         raise MemoryError(f"{said_of(call, node)}: {_meaning(status, call)}")
     if status != Status.DONE:
         raise CallRefused(status, call, node)
+
+
+def _words_of(kind: Kind, record: bytes, number: int) -> str:
+    """What is wrong with a record, in words; without memory for these its name alone."""
+    status, (text,) = filled(1, lambda *room: library.mezulobu_record_fault(kind, record, len(record), *room))
+    words = text if status == Status.DONE else library.mezulobu_fault_name(number)
+    return str(words.decode()).rstrip()
 
 
 class _Handle:
@@ -234,7 +241,7 @@ class Collection(_Node):
         code, given, call = ctypes.c_uint32(), given_bytes(record), "set_constraints_record"
         status = self._call(library.mezulobu_collection_set_constraints_record, given, len(given), code)
         if status == Status.REFUSED:
-            raise RecordRefused(code.value, call, self._own_name())
+            raise RecordRefused(code.value, _words_of(Kind.PARTICIPANT, given, code.value), call, self._own_name())
         self._done(status, call)
 
     def attach_token(self) -> Token:
@@ -374,7 +381,7 @@ class Allocator(_Handle):
             code, given = ctypes.c_uint32(), given_bytes(platform)
             status = library.mezulobu_allocator_new_record(given, len(given), ctypes.byref(self._at), code)
             if status == Status.REFUSED:
-                raise RecordRefused(code.value, "Allocator")
+                raise RecordRefused(code.value, _words_of(Kind.PLATFORM, given, code.value), "Allocator")
             _done(status, "Allocator")
         else:
             refusal = _abi.mezulobu_refusal(ctypes.sizeof(_abi.mezulobu_refusal))

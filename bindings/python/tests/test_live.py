@@ -12,6 +12,19 @@ from mezulobu import Color, Entry, Field, Heap, Kind, Pair, Participant, Platfor
 PLATFORM = Platform([Heap(cpu=True, ram=True)], [Pair("NV12")], [Color.REC709])
 RECORD = b'{"heaps":[{"heap_type":"ram","domains":["cpu"]}],"pairs":[{"pixel_format":"NV12"}],"color_spaces":["REC709"]}'
 
+NO_JSON = """no JSON
+ --> record:1:2
+  |
+1 | {
+  |  ^ expected a key, found the end
+  = the text ends here; still open: the { of line 1, column 1"""
+NO_USAGE = """S5 usage
+ --> record:1:10: usage
+  |
+1 | {"usage":[]}
+  |          ^^ the list is empty
+  = allowed: a list of none alone, or of one or more of cpu, vulkan, display and video"""
+
 
 def asked(camping: int, max_size: Size = Size(), min_count: int = 0) -> Participant:
     entry = Entry("NV12", Color.REC709, min_size=Size(64, 64), max_size=max_size)
@@ -146,18 +159,18 @@ class Live(unittest.TestCase):
             self.assertEqual((caught.exception.refusal.field, caught.exception.node), (Field.USAGE, "n1"))
             self.assertEqual(str(caught.exception), "set_constraints of n1: the participant: usage")
             camera.set_name("camera")
-            for record, number, told in ((b"{", 0, "no JSON"), (b'{"usage":[]}', 5, "S5 BadUsage")):
+            for record, number, name, told in ((b"{", 0, "no JSON", NO_JSON), (b'{"usage":[]}', 5, "S5 BadUsage", NO_USAGE)):
                 with self.assertRaises(live.RecordRefused) as fault:
                     camera.set_constraints_record(record)
                 known = fault.exception
                 self.assertEqual((known.number, known.call, known.node), (number, "set_constraints_record", "camera"))
-                self.assertEqual((str(known), known.fault), (f"set_constraints_record of camera: {told}", told))
+                self.assertEqual((str(known), known.fault, known.text), (f"set_constraints_record of camera: {told}", name, told))
             camera.set_constraints_record(b'{"usage":["cpu"]}')
             self.refused(Status.WRONG_STATE, camera.set_constraints, None)
             encoder.set_constraints(None)
             self.assertEqual(camera.wait().count, 1)
             self.assertIsNone(camera.refusal())
-        with self.assertRaisesRegex(live.RecordRefused, r"^Allocator: S3 WrongKind$"):
+        with self.assertRaisesRegex(live.RecordRefused, r"^Allocator: S3 heaps\n --> record:1:1: the record\n"):
             live.Allocator(b"{}")
         with self.assertRaises(mezulobu.Refused):
             live.Allocator(Platform([], [], []))

@@ -183,6 +183,7 @@ fn tell_bytes(
                 file: document.file,
                 bytes,
                 value: &value,
+                whole: document.whole,
             };
             tell_answer(items, &other)
         }

@@ -14,7 +14,7 @@ use explanation_text::{
     Item, Items, Kind, Span, Words, column_of, line_of, repeated_keys, text_of,
 };
 use other_outcomes::tell_moved;
-use script_faults::{Document, tell_fault, tell_no_json};
+use script_faults::{Document, Whole, tell_fault, tell_no_json};
 use script_reading::{ParseFault, Script, ScriptFault, parse_script, read_script};
 use script_story::{Effort, Setting, Story, refused_calls, story_of, tell_refused};
 use serde_json::Value;
@@ -75,6 +75,7 @@ pub fn explain(
                 file,
                 bytes,
                 value: &Value::Null,
+                whole: Whole::Script,
             };
             let mut items = Items::new(alloc);
             if fault == ScriptFault::NotJson {
@@ -151,7 +152,12 @@ fn explain_value(
     ensures { IfOk result (λ told. IfSome told.objects
         (λ text. IsToldBy (item_texts told.items.items) (string_bytes text))) }
 {
-    let document = Document { file, bytes, value };
+    let document = Document {
+        file,
+        bytes,
+        value,
+        whole: Whole::Script,
+    };
     match read_script(alloc, value) {
         Ok(script) => explain_script(alloc, document, &script, wanted),
         Err(ParseFault::NoMemory) => Err(AllocError),

@@ -1,7 +1,7 @@
 //! Where the fields stand in the script's text that the section of an empty domain names.
 
 use explanation_text::{Item, Kind, Step, Text, Thing, Words, line_of};
-use script_faults::{Document, Part};
+use script_faults::{Document, Part, Whole};
 use script_story::{Deed, Story};
 use std::alloc::{AllocError, Global};
 use sysmem_counts::Field;
@@ -183,6 +183,7 @@ fn lines_of(
         file: document.file,
         bytes: span.within(document.bytes),
         value,
+        whole: Whole::Record,
     };
     let begin = line_of(document.bytes, span.start.min(document.bytes.len()));
     let mut words = Words::new(alloc);

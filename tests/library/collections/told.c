@@ -339,16 +339,28 @@ static int by_record(const char *record, uint32_t *code)
     return status;
 }
 
+static bool is_told(uint32_t kind, const char *record, const char *words)
+{
+    char text[512];
+    size_t size = sizeof text;
+    int status = mezulobu_record_fault(kind, record, strlen(record), text, &size);
+    return status == (*words ? MEZULOBU_DONE : MEZULOBU_NO) && size == strlen(words) && !memcmp(text, words, size);
+}
+
 // A platform may be stated as in a script, and the number of what is amiss is that of docs/SCRIPT.md.
 static void try_records(void)
 {
     static const char good[] = "{\"heaps\": [{\"heap_type\": \"SYSTEM_RAM\", \"domains\": [\"cpu\", \"ram\"]}], "
                                "\"color_spaces\": [\"REC709\"],"
                                " \"pairs\": [{\"pixel_format\": \"NV12\", \"pixel_format_modifier\": \"LINEAR\"}]}";
+    static const char no_usage[] = "S5 usage\n --> record:2:10: usage\n  |\n2 | \"usage\": []}\n  |          ^^ the list is empty\n"
+                                   "  = allowed: a list of none alone, or of one or more of cpu, vulkan, display and video\n";
     uint32_t code = 99;
     expect(&t, by_record(good, &code) == MEZULOBU_DONE && code == 99, "the record of a platform");
     expect(&t, by_record("{\"heap\": []}", &code) == MEZULOBU_REFUSED && code == 2, "S2: there is no such field");
     expect(&t, by_record("{", &code) == MEZULOBU_REFUSED && code == 0, "a record that is no JSON");
+    expect(&t, is_told(MEZULOBU_KIND_PLATFORM, good, ""), "no words of a record without a fault");
+    expect(&t, is_told(MEZULOBU_KIND_PARTICIPANT, "{\n\"usage\": []}", no_usage), "the words of a record's fault");
 }
 
 int main(void)

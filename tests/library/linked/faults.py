@@ -1,22 +1,120 @@
 #!/usr/bin/env python3
 """Gives the library each record of tests/program/records, by ctypes: the number of its fault has a name, which begins
 with the code that is expected there, and a record without a fault is taken. Records that are no JSON have the name that
-says so, and a further number has none. Then what statuses mean: the names of E1 to E10 are those that the definitions
-give to reports. The last line is 'N passed, M failed'.
+says so, and a further number has none. The words of each fault begin with the fault that is expected there, and a
+record without one has none; what is said of the place, and what would be right, are as the program explains a script
+with that record. Some texts are compared whole, which were written by hand. Then what statuses mean: the names of E1 to
+E10 are those that the definitions give to reports. The last line is 'N passed, M failed'.
 
-usage: faults.py LIBRARY
+usage: faults.py LIBRARY PROGRAM
 """
 import ctypes
 import os
 import re
+import subprocess
 import sys
 
 sys.path.append(os.path.join(sys.path[0], "..", ".."))
-from lib import load, text_of  # noqa: E402
+from lib import TOP, load, text_of  # noqa: E402
 
-DONE, REFUSED = 0, 3
+DONE, MISUSED, REFUSED, TOO_SMALL, NO = 0, 2, 3, 5, 6
+OF_PLATFORM, OF_PARTICIPANT = 1, 2
 PLATFORM = b'{"heaps":[{"heap_type":"a","domains":["cpu"]}],"pairs":[{"pixel_format":"R8"}],"color_spaces":["SRGB"]}'
 NO_JSON = [b"", b"{", b'{"usage":["cpu"]}}]}', b'{"usage":"cpu']
+
+# By whose record and by its bytes: the whole of its text.
+WHOLE = {
+    (OF_PARTICIPANT, b""): """no JSON
+the record is empty, where an object is due
+""",
+    (OF_PARTICIPANT, b"{"): """no JSON
+ --> record:1:2
+  |
+1 | {
+  |  ^ expected a key, found the end
+  = the text ends here; still open: the { of line 1, column 1
+""",
+    (OF_PARTICIPANT, b'{"usage":["cpu"]}}]}'): """no JSON
+ --> record:1:18
+  |
+1 | {"usage":["cpu"]}}]}
+  |                  ^ expected the end
+  = one JSON value is complete before this
+""",
+    (OF_PARTICIPANT, b'{"a":\xff}'): """no JSON
+ --> record:1:6
+  |
+1 | {"a":\N{REPLACEMENT CHARACTER}}
+  |      ^ the byte 0xff isn't UTF-8
+""",
+    (OF_PARTICIPANT, b"7"): """S1 whole
+ --> record:1:1: the record
+  |
+1 | 7
+  | ^ a number, where an object is due
+""",
+    (OF_PARTICIPANT, b"[" * 126 + b"]" * 126): f"""S1 whole
+ --> record:1:1: the record
+  |
+1 | {'[' * 84}...
+  | {'^' * 84} a list, where an object is due
+""",
+    (OF_PARTICIPANT, b"[" * 128 + b"]" * 128): f"""no JSON
+ --> record:1:128
+  |
+1 | ...{'[' * 25}{']' * 59}...
+  |    {' ' * 24}^ expected no more than 127 lists and objects within each other
+""",
+    (OF_PLATFORM, b"{}"): """S3 heaps
+ --> record:1:1: the record
+  |
+1 | {}
+  | ^ heaps is missing
+  = needed: a list of 1 to 64 heaps, no two of one heap_type and id
+""",
+    (OF_PARTICIPANT, b'{"usage":["cpu"],\n"min_buffer_cont":2}'): """S2 whole
+ --> record:2:1: min_buffer_cont
+  |
+2 | "min_buffer_cont":2}
+  | ^^^^^^^^^^^^^^^^^ unknown key
+  = did you mean min_buffer_count?
+""",
+    (
+        OF_PARTICIPANT,
+        b'{"usage":["cpu"],"image_format_constraints":[{"pixel_format":"NV21","color_spaces":["SRGB"]}]}',
+    ): """S4 pixel_format
+ --> record:1:62: image_format_constraints[0].pixel_format
+  |
+1 | ...aints":[{"pixel_format":"NV21","color_spaces":["SRGB"]}]}
+  |                            ^^^^^^ unknown name
+  = did you mean NV12?
+""",
+    (
+        OF_PARTICIPANT,
+        b'{"usage":["cpu"],"buffer_memory_constraints":{"permitted_heaps":[{"heap_type":"a"},'
+        + b"\n" * 8
+        + b'{"heap_type":"a"}]}}',
+    ): """S10 permitted_heaps
+ --> record:9:1: buffer_memory_constraints.permitted_heaps[1]
+  |
+9 | {"heap_type":"a"}]}}
+  | ^^^^^^^^^^^^^^^^^ given before
+  = first at buffer_memory_constraints.permitted_heaps[0]
+""",
+    (OF_PARTICIPANT, b'{"usage":["cpu"],' + b"\n" * 100 + b'"min_buffer_count":-1}'): """S3 min_buffer_count
+   --> record:101:20: min_buffer_count
+    |
+101 | "min_buffer_count":-1}
+    |                    ^^ below 0
+    = allowed: a whole number of buffers, 0 to 4294967295
+""",
+    (OF_PARTICIPANT, b'{"calls[1].constraints":7,"--> record:1:1: calls[1].constraints":8}'): """S2 whole
+ --> record:1:2: calls[1].constraints
+  |
+1 | {"calls[1].constraints":7,"--> record:1:1: calls[1].constraints":8}
+  |  ^^^^^^^^^^^^^^^^^^^^^^ unknown key
+""",
+}
 
 
 def told(library, status, code):
@@ -67,6 +165,73 @@ def of_records(library):
     library.mezulobu_allocator_free(allocator)
 
 
+def words_of(library, kind, record):
+    """The status of what is wrong with a record and its text, or its size where there is none; the size is asked for
+    first."""
+    size = ctypes.c_size_t()
+    status = library.mezulobu_record_fault(kind, record, ctypes.c_size_t(len(record)), None, ctypes.byref(size))
+    if status != TOO_SMALL:
+        return status, size.value
+    text = ctypes.create_string_buffer(b"\1" * (size.value + 1))
+    status = library.mezulobu_record_fault(kind, record, ctypes.c_size_t(len(record)), text, ctypes.byref(size))
+    is_within = text.raw[size.value : -1] == b"\1"
+    return status, text.raw[: size.value].decode() if is_within else "more than it has room for"
+
+
+def marks(text, path):
+    """What explanations say of a place, and what would be right there: the lines with marks, and those behind them."""
+    lines = [line.strip().replace(f"first at {path}.", "first at ") for line in text.split("\n")]
+    return [re.sub(r" +", " ", line) for line in lines if line.startswith("= ") or re.match(r"\| *\^", line)]
+
+
+def by_program(program, kind, record):
+    """The same by the program, of a script that has the record."""
+    if kind == OF_PLATFORM:
+        script, path = f'{{"calls":[],"platform":\n{record}\n}}', "platform"
+    else:
+        path, call = "calls[1].constraints", f'{{"call":"set_constraints","on":"root","constraints":\n{record}\n}}'
+        script = f'{{"platform":{PLATFORM.decode()},"calls":[{{"call":"bind","on":"root"}},{call}]}}'
+    done = subprocess.run([program, "explain", "-"], input=script, stdout=subprocess.PIPE, text=True, timeout=60)
+    return marks(done.stdout, path)
+
+
+def of_words(library, program):
+    """What is told of each record in words, and what it is to be."""
+    records = load("records")
+    for kind, known in ((OF_PARTICIPANT, records.PARTICIPANTS), (OF_PLATFORM, records.PLATFORMS)):
+        for record, fault in known:
+            status, text = words_of(library, kind, record.encode())
+            first = text.partition("\n")[0] if fault and text else text
+            yield f"words of {record}", (status, first), (DONE, fault) if fault else (NO, 0)
+            if fault and os.path.exists(program):
+                yield f"what is said of {record}", marks(text, "") or "nothing", by_program(program, kind, record)
+            if fault:
+                yield f"the place in {record}", re.search(r"^ +--> record:\d+:\d+: \S", text, re.M) is not None, True
+    for (kind, record), text in WHOLE.items():
+        yield f"words of {record!r}", words_of(library, kind, record), (DONE, text)
+
+
+def of_rooms(library):
+    """How the call ends that tells words, and what it is to."""
+    size, text = ctypes.c_size_t(8), ctypes.create_string_buffer(b"\1" * 8)
+    status = library.mezulobu_record_fault(OF_PARTICIPANT, b"7", ctypes.c_size_t(1), text, ctypes.byref(size))
+    yield "no room", (status, size.value, text.raw), (TOO_SMALL, len(WHOLE[OF_PARTICIPANT, b"7"]), b"\1" * 8 + b"\0")
+    status = library.mezulobu_record_fault(
+        OF_PLATFORM, PLATFORM, ctypes.c_size_t(len(PLATFORM)), text, ctypes.byref(size)
+    )
+    yield "no fault", (status, size.value, text.raw), (NO, 0, b"\1" * 8 + b"\0")
+    yield "the other kind", words_of(library, OF_PARTICIPANT, PLATFORM)[1].partition("\n")[0], "S2 whole"
+    for kind in (0, 3, 0xFFFFFFFF):
+        size = ctypes.c_size_t(8)
+        status = library.mezulobu_record_fault(
+            ctypes.c_uint32(kind), b"7", ctypes.c_size_t(1), text, ctypes.byref(size)
+        )
+        yield f"kind {kind}", (status, size.value, text.raw), (MISUSED, 8, b"\1" * 8 + b"\0")
+    for record, room in ((None, ctypes.byref(size)), (b"7", None)):
+        status = library.mezulobu_record_fault(OF_PARTICIPANT, record, ctypes.c_size_t(1), text, room)
+        yield f"null for {record}", status, MISUSED
+
+
 def of_statuses(library):
     """What is told of each status, and what it is to be."""
     library.mezulobu_status_text.restype = ctypes.c_char_p
@@ -83,10 +248,12 @@ def of_statuses(library):
     ], [True, True, True, False]
 
 
-def answers(library):
+def answers(library, program):
     """What is compared, what it is, and what it is to be."""
     library.mezulobu_fault_name.restype = ctypes.c_char_p
     yield from of_records(library)
+    yield from of_words(library, program)
+    yield from of_rooms(library)
     codes = [library.mezulobu_fault_name(number).decode().partition(" ")[0] for number in range(1, 14)]
     yield "numbers", codes, [f"S{number}" for number in range(1, 14)]
     for number in (14, 99, 0xFFFFFFFF):
@@ -96,7 +263,7 @@ def answers(library):
 
 def main():
     passed = failed = 0
-    for name, had, wanted in answers(ctypes.CDLL(sys.argv[1])):
+    for name, had, wanted in answers(ctypes.CDLL(sys.argv[1]), sys.argv[2]):
         passed, failed = passed + (had == wanted), failed + (had != wanted)
         if had != wanted:
             print(f"library: the fault of {name}: {had!r}, not {wanted!r}")

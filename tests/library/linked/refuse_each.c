@@ -1,7 +1,7 @@
-// refuse_each NAME ..: runs each NAME.json with its certificate, checks that, negotiates two lists, and explains the
-// first scripts, while one allocation after the other is refused: the status is NO_MEMORY, no text and no settings are
-// written, and nothing stays allocated. An explanation can do without some room: then its text is whole. The last line
-// is 'N passed, M failed'.
+// refuse_each NAME ..: runs each NAME.json with its certificate, checks that, negotiates two lists, tells a record's
+// fault, and explains the first scripts, while one allocation after the other is refused: the status is NO_MEMORY, no
+// text and no settings are written, and nothing stays allocated. An explanation can do without some room: then its text
+// is whole. The last line is 'N passed, M failed'.
 #include "mezulobu.h"
 #include <stdio.h>
 #include <stdlib.h>
@@ -127,9 +127,42 @@ static int negotiate(size_t n, int wanted)
                                                                                                                  : -1;
 }
 
+// The same of what is told of a record's fault.
+static int find_fault(void)
+{
+    static const char record[] = "{\"usage\":[\"cpu\"],\"min_buffer_cont\":2}";
+    size_t size = sizeof text;
+    memset(text, 0, sizeof text);
+    met = held = 0;
+    counts = 1;
+    int status = mezulobu_record_fault(MEZULOBU_KIND_PARTICIPANT, record, sizeof record - 1, text, &size);
+    counts = 0;
+    if (held)
+        return -1;
+    if (met < refused)
+        return status == MEZULOBU_DONE ? 0 : -1;
+    if (status == MEZULOBU_DONE)
+        return size == whole_size && !memcmp(text, whole, size) ? 1 : -1;
+    return status == MEZULOBU_NO_MEMORY && !size && is_empty(text, sizeof text) ? 1 : -1;
+}
+
+// Whether that ends as it ought to, whichever allocation is refused.
+static bool is_fault_found(void)
+{
+    int came = 1;
+    refused = 1L << 40;
+    find_fault();
+    memcpy(whole, text, whole_size = strlen(text));
+    for (refused = 1; came == 1; refused++)
+        came = find_fault();
+    if (came)
+        printf("library: another answer: a record's fault: allocation %ld refused\n", refused - 1);
+    return !came && refused > 10;
+}
+
 int main(int count, char **names)
 {
-    long passed = 0, failed = 0;
+    long passed = is_fault_found(), failed = !passed;
     for (size_t n = 2; n <= 3; n++) {
         int came = 1;
         for (refused = 1; came == 1; refused++)

@@ -4,7 +4,7 @@
 use std::os::raw::{c_char, c_int, c_void};
 
 /// major 16 bits, minor 16 bits
-pub const MEZULOBU_VERSION: u32 = 0x00010004;
+pub const MEZULOBU_VERSION: u32 = 0x00010005;
 
 /// done; of a check: yes
 pub const MEZULOBU_DONE: c_int = 0;
@@ -18,8 +18,8 @@ pub const MEZULOBU_NO_MEMORY: c_int = 4;
 /// a buffer is too small; each size says what is needed
 pub const MEZULOBU_TOO_SMALL: c_int = 5;
 /// a check: no; a strict explanation: not all went well; a negotiation:
-/// no settings meet everybody; a wait: nothing was decided in that
-/// time
+/// no settings meet everybody; a record: it has no fault; a wait:
+/// nothing was decided in that time
 pub const MEZULOBU_NO: c_int = 6;
 /// E2: the handle isn't in a state that allows the call
 pub const MEZULOBU_WRONG_STATE: c_int = 18;
@@ -480,7 +480,7 @@ extern "C" {
     /// the platform states nothing that could be meant, and why, which may be null, has kind PLATFORM
     /// and says which field. Or from the JSON of a platform as scripts have it: at REFUSED code, which
     /// may be null, is the number of its fault, 1 of S1 and so on, and 0 where it is no JSON;
-    /// mezulobu_fault_name tells its name.
+    /// mezulobu_fault_name tells its name, and mezulobu_record_fault where it is.
     pub fn mezulobu_allocator_new(
         platform: *const mezulobu_platform,
         allocator: *mut *mut mezulobu_allocator,
@@ -560,6 +560,29 @@ extern "C" {
     ) -> c_int;
     pub fn mezulobu_collection_close(
         collection: *mut *mut mezulobu_collection,
+    ) -> c_int;
+    /// What is wrong with a record, in words: the name of its first fault, as reports have it, or
+    /// "no JSON"; where it is, and what would be right. A text, as a script's report is one:
+    ///
+    /// ```text
+    /// S4 pixel_format
+    ///  --> record:1:62: image_format_constraints[0].pixel_format
+    ///   |
+    /// 1 | ...aints":[{"pixel_format":"NV21","color_spaces":["SRGB"]}]}
+    ///   |                            ^^^^^^ unknown name
+    ///   = did you mean NV12?
+    /// ```
+    ///
+    /// kind says whose record it is, MEZULOBU_KIND_PLATFORM or MEZULOBU_KIND_PARTICIPANT; another number
+    /// is MISUSED, and nothing is written. DONE: text. NO: nothing is wrong with the record, and the size
+    /// is 0. mezulobu_allocator_new_record and mezulobu_collection_set_constraints_record refuse exactly
+    /// the records of which this has a text.
+    pub fn mezulobu_record_fault(
+        kind: u32,
+        record: *const c_void,
+        size: usize,
+        text: *mut c_char,
+        text_size: *mut usize,
     ) -> c_int;
     /// What was decided for a collection. DONE: settings, which may be null. Else why there are none, or
     /// PENDING; NO_MEMORY: the decision had no memory. The answer stays once it isn't PENDING. Of

@@ -17,8 +17,8 @@ codes! {
         /// a buffer is too small; each size says what is needed
         TOO_SMALL = sys::MEZULOBU_TOO_SMALL,
         /// a check: no; a strict explanation: not all went well; a negotiation:
-        /// no settings meet everybody; a wait: nothing was decided in that
-        /// time
+        /// no settings meet everybody; a record: it has no fault; a wait:
+        /// nothing was decided in that time
         NO = sys::MEZULOBU_NO,
         /// E2: the handle isn't in a state that allows the call
         WRONG_STATE = sys::MEZULOBU_WRONG_STATE,

@@ -9,6 +9,12 @@ use std::thread;
 use std::time::Duration;
 
 const NV12: Format = Format::new(*b"NV12");
+const NO_USAGE: &str = "S5 usage
+ --> record:1:10: usage
+  |
+1 | {\"usage\":[]}
+  |          ^^ the list is empty
+  = allowed: a list of none alone, or of one or more of cpu, vulkan, display and video";
 
 fn platform() -> Platform {
     let heap = Heap {
@@ -172,15 +178,22 @@ fn what_cannot_be_meant_leaves_the_handle_as_it_was() {
         .unwrap_err();
     assert_eq!(
         refused.to_string(),
-        "set_constraints_record of n1: S5 BadUsage"
+        format!("set_constraints_record of n1: {NO_USAGE}")
     );
+    let fault = Fault {
+        number: 5,
+        text: NO_USAGE.to_owned(),
+    };
     assert_eq!(
         (refused.error.status(), refused.error.why),
-        (Status::REFUSED, Why::Record(Fault { number: 5 }))
+        (Status::REFUSED, Why::Record(fault.clone()))
     );
+    assert_eq!(fault.name(), "S5 BadUsage");
     let refused = refused.handle.set_constraints_record(b"{").unwrap_err();
-    assert_eq!(refused.to_string(), "set_constraints_record of n1: no JSON");
-    assert_eq!(refused.error.why, Why::Record(Fault { number: 0 }));
+    assert!(
+        matches!(&refused.error.why, Why::Record(fault) if fault.number == 0 && fault.text.starts_with("no JSON\n --> record:1:2\n")),
+        "{refused}"
+    );
     let camera = refused
         .handle
         .set_constraints_record(b"{\"usage\":[\"cpu\"]}")
