@@ -481,9 +481,9 @@ int mezulobu_collection_close(struct mezulobu_collection **collection);
  *       = did you mean NV12?
  *
  * kind says whose record it is, MEZULOBU_KIND_PLATFORM or MEZULOBU_KIND_PARTICIPANT; another number
- * is MISUSED, and nothing is written. DONE: text. NO: nothing is wrong with the record, and the size
- * is 0. mezulobu_allocator_new_record and mezulobu_collection_set_constraints_record refuse exactly
- * the records of which this has a text. */
+ * is MISUSED, and nothing is written. DONE: text. NO: nothing is wrong with the record, and the
+ * size is 0. mezulobu_allocator_new_record and mezulobu_collection_set_constraints_record refuse
+ * exactly the records of which this has a text. */
 int mezulobu_record_fault(uint32_t kind, const void *record, size_t size,
                           char *text, size_t *text_size);
 

@@ -574,9 +574,9 @@ extern "C" {
     /// ```
     ///
     /// kind says whose record it is, MEZULOBU_KIND_PLATFORM or MEZULOBU_KIND_PARTICIPANT; another number
-    /// is MISUSED, and nothing is written. DONE: text. NO: nothing is wrong with the record, and the size
-    /// is 0. mezulobu_allocator_new_record and mezulobu_collection_set_constraints_record refuse exactly
-    /// the records of which this has a text.
+    /// is MISUSED, and nothing is written. DONE: text. NO: nothing is wrong with the record, and the
+    /// size is 0. mezulobu_allocator_new_record and mezulobu_collection_set_constraints_record refuse
+    /// exactly the records of which this has a text.
     pub fn mezulobu_record_fault(
         kind: u32,
         record: *const c_void,
