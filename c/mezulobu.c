@@ -209,6 +209,8 @@ static const struct meaning meanings[] = {
     {MEZULOBU_MISUSED, "name_of", "misused: there is no node of that number"},
     {MEZULOBU_REFUSED, "set_name", "refused: a name is 1 to 32 letters, digits, _ or -, and not root, nor n with digits"},
     {MEZULOBU_NO, "set_name", "no: another node of the collection has this name"},
+    {MEZULOBU_MISUSED, "record_fault", "misused: a null pointer, or a kind that is neither a platform's nor a participant's"},
+    {MEZULOBU_NO, "record_fault", "no: nothing is wrong with the record"},
     {MEZULOBU_WRONG_STATE, "set_constraints", "E2 WrongState: a collection says once what it asks for"},
     {MEZULOBU_WRONG_STATE, "set_constraints_record", "E2 WrongState: a collection says once what it asks for"},
     {MEZULOBU_WRONG_STATE, "create_child", "E2 WrongState: a child comes before all_children_present"},

@@ -27,8 +27,8 @@ extern "C" {
  * a caller can get wrong. */
 enum mezulobu_status {
     MEZULOBU_DONE = 0,      /* done; of a check: yes */
-    MEZULOBU_MISUSED = 2,   /* a null pointer where none may be, or a struct_size that this library
-                             * doesn't know */
+    MEZULOBU_MISUSED = 2,   /* a null pointer where none may be, a struct_size that this library
+                             * doesn't know, or a number that says no record's kind */
     MEZULOBU_REFUSED = 3,   /* the script or the certificate is refused, or a struct */
     MEZULOBU_NO_MEMORY = 4, /* memory was refused, to all of it or to a decision */
     MEZULOBU_TOO_SMALL = 5, /* a buffer is too small; each size says what is needed */
@@ -471,7 +471,8 @@ int mezulobu_collection_release(struct mezulobu_collection **collection);
 int mezulobu_collection_close(struct mezulobu_collection **collection);
 
 /* What is wrong with a record, in words: the name of its first fault, as reports have it, or
- * "no JSON"; where it is, and what would be right. A text, as a script's report is one:
+ * "no JSON"; where it is, and what would be right. A text, with its size, TOO_SMALL and NO_MEMORY
+ * as of a script's report:
  *
  *     S4 pixel_format
  *      --> record:1:62: image_format_constraints[0].pixel_format
@@ -481,9 +482,9 @@ int mezulobu_collection_close(struct mezulobu_collection **collection);
  *       = did you mean NV12?
  *
  * kind says whose record it is, MEZULOBU_KIND_PLATFORM or MEZULOBU_KIND_PARTICIPANT; another number
- * is MISUSED, and nothing is written. DONE: text. NO: nothing is wrong with the record, and the size
- * is 0. mezulobu_allocator_new_record and mezulobu_collection_set_constraints_record refuse exactly
- * the records of which this has a text. */
+ * is MISUSED, and nothing is written. DONE: text. NO: nothing is wrong with the record, and the
+ * size is 0. mezulobu_allocator_new_record and mezulobu_collection_set_constraints_record refuse
+ * exactly the records of which this has a text. */
 int mezulobu_record_fault(uint32_t kind, const void *record, size_t size,
                           char *text, size_t *text_size);
 

@@ -348,7 +348,7 @@ struct RecordFault {
     const char *call = "";
     std::string node = {};
     /// What it is, where in the record, and what would be right.
-    std::string fault = {};
+    std::string words = {};
 
     /// The name of the fault, as "S5 BadUsage".
     std::string_view fault_name() const { return mezulobu_fault_name(number); }
@@ -356,14 +356,14 @@ struct RecordFault {
     /// What people read, as "set_constraints_record of camera: S5 usage" and the lines that show it.
     std::string text() const
     {
-        return said_of(call, node) + ": " + (status == MEZULOBU_REFUSED ? fault : mezulobu_status_text(status, call));
+        return said_of(call, node) + ": " + (status == MEZULOBU_REFUSED ? words : mezulobu_status_text(status, call));
     }
 };
 
 namespace detail {
 
 /// What is wrong with a record, in words; without memory for these its name alone.
-inline std::string fault_of(mezulobu_kind kind, std::string_view record, std::uint32_t number)
+inline std::string words_of(mezulobu_kind kind, std::string_view record, std::uint32_t number)
 {
     Text told = filled([&](char *text, std::size_t *size) { return mezulobu_record_fault(kind, record.data(), record.size(), text, size); });
     if (told.status != MEZULOBU_DONE)
@@ -503,7 +503,7 @@ class Collection : public detail::Handle<mezulobu_collection, mezulobu_collectio
             return Done{};
         why.node = name();
         if (why.status == MEZULOBU_REFUSED)
-            why.fault = detail::fault_of(MEZULOBU_KIND_PARTICIPANT, record, why.number);
+            why.words = detail::words_of(MEZULOBU_KIND_PARTICIPANT, record, why.number);
         return unexpected{why};
     }
 
@@ -659,7 +659,7 @@ class Allocator {
         if (why.status == MEZULOBU_DONE)
             return Allocator(made);
         if (why.status == MEZULOBU_REFUSED)
-            why.fault = detail::fault_of(MEZULOBU_KIND_PLATFORM, record, why.number);
+            why.words = detail::words_of(MEZULOBU_KIND_PLATFORM, record, why.number);
         return unexpected{why};
     }
 

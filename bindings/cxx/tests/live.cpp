@@ -121,7 +121,7 @@ void what_cannot_be_meant_is_refused()
     expect(camera.set_constraints_record("{").error().number == 0, "no JSON");
     expect(camera.set_constraints_record("").error().text() == "set_constraints_record of n1: no JSON", "nothing in a record");
     const auto fault = camera.set_constraints_record("{\"usage\":[]}").error();
-    expect(fault.number == 5 && fault.fault_name() == "S5 BadUsage" && fault.fault == NO_USAGE && fault.text() == "set_constraints_record of n1: " + fault.fault, "no usage in a record");
+    expect(fault.number == 5 && fault.fault_name() == "S5 BadUsage" && fault.words == NO_USAGE && fault.text() == "set_constraints_record of n1: " + fault.words, "no usage in a record");
     expect(camera.set_constraints_record("{\"usage\":[\"cpu\"]}").has_value(), "a record");
     expect(camera.set_no_constraints().error().status == MEZULOBU_WRONG_STATE, "set once");
     expect(encoder.set_no_constraints().has_value() && camera.wait().value()->count == 1, "decided");

@@ -8,8 +8,8 @@ class Status(enum.IntEnum):
     DONE = 0
     """Done; of a check: yes."""
     MISUSED = 2
-    """A null pointer where none may be, or a struct_size that this library
-doesn't know."""
+    """A null pointer where none may be, a struct_size that this library
+doesn't know, or a number that says no record's kind."""
     REFUSED = 3
     """The script or the certificate is refused, or a struct."""
     NO_MEMORY = 4

@@ -81,7 +81,7 @@ fn value_of(alloc: Global, bytes: &[u8]) -> Result<Option<Value>, AllocError>
 }
 
 /// The same of a record whose bytes spell a value.
-#[tactic(auto, using(crate::proofs::RecordSayings::tells_fault, crate::proofs::RecordSayings::tells_none))]
+#[tactic(auto, using(crate::proofs::RecordSayings::tells_none))]
 fn value_fault(
     alloc: Global,
     kind: RecordKind,

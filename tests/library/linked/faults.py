@@ -242,10 +242,15 @@ def of_statuses(library):
     yield "names of refusals", len(named), 10
     for status in (-1, 1, 7, 17, 27):
         yield f"status {status}", library.mezulobu_status_text(status, b"set_name"), b"?"
-    of_call = [library.mezulobu_status_text(status, b"set_name") for status in (2, 3, 6, 19)]
-    yield "of a call", [
-        text != library.mezulobu_status_text(status, None) for text, status in zip(of_call, (2, 3, 6, 19))
-    ], [True, True, True, False]
+    for call, statuses, wanted in (
+        (b"set_name", (2, 3, 6, 19), [True, True, True, False]),
+        (b"record_fault", (2, 6, 5), [True, True, False]),
+    ):
+        of_call = [
+            library.mezulobu_status_text(status, call) != library.mezulobu_status_text(status, None)
+            for status in statuses
+        ]
+        yield f"of {call.decode()}", of_call, wanted
 
 
 def answers(library, program):

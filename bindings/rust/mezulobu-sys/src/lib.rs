@@ -8,8 +8,8 @@ pub const MEZULOBU_VERSION: u32 = 0x00010005;
 
 /// done; of a check: yes
 pub const MEZULOBU_DONE: c_int = 0;
-/// a null pointer where none may be, or a struct_size that this library
-/// doesn't know
+/// a null pointer where none may be, a struct_size that this library
+/// doesn't know, or a number that says no record's kind
 pub const MEZULOBU_MISUSED: c_int = 2;
 /// the script or the certificate is refused, or a struct
 pub const MEZULOBU_REFUSED: c_int = 3;
@@ -562,7 +562,8 @@ extern "C" {
         collection: *mut *mut mezulobu_collection,
     ) -> c_int;
     /// What is wrong with a record, in words: the name of its first fault, as reports have it, or
-    /// "no JSON"; where it is, and what would be right. A text, as a script's report is one:
+    /// "no JSON"; where it is, and what would be right. A text, with its size, TOO_SMALL and NO_MEMORY
+    /// as of a script's report:
     ///
     /// ```text
     /// S4 pixel_format
@@ -574,9 +575,9 @@ extern "C" {
     /// ```
     ///
     /// kind says whose record it is, MEZULOBU_KIND_PLATFORM or MEZULOBU_KIND_PARTICIPANT; another number
-    /// is MISUSED, and nothing is written. DONE: text. NO: nothing is wrong with the record, and the size
-    /// is 0. mezulobu_allocator_new_record and mezulobu_collection_set_constraints_record refuse exactly
-    /// the records of which this has a text.
+    /// is MISUSED, and nothing is written. DONE: text. NO: nothing is wrong with the record, and the
+    /// size is 0. mezulobu_allocator_new_record and mezulobu_collection_set_constraints_record refuse
+    /// exactly the records of which this has a text.
     pub fn mezulobu_record_fault(
         kind: u32,
         record: *const c_void,

@@ -7,8 +7,8 @@ codes! {
     Status(i32) {
         /// done; of a check: yes
         DONE = sys::MEZULOBU_DONE,
-        /// a null pointer where none may be, or a struct_size that this library
-        /// doesn't know
+        /// a null pointer where none may be, a struct_size that this library
+        /// doesn't know, or a number that says no record's kind
         MISUSED = sys::MEZULOBU_MISUSED,
         /// the script or the certificate is refused, or a struct
         REFUSED = sys::MEZULOBU_REFUSED,
