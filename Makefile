@@ -60,7 +60,7 @@ OF_PAGES := docs/columns docs/definitions docs/schema
 OF_TEXT := names shown pages claims crates
 OF_PROGRAM := schema reports json_reports refusals records values every_selection orders launcher certificates \
 	checks failing_files want_of_memory threads explanations json_explanations
-OF_WORKBENCH := handles written_records
+OF_WORKBENCH := handles handle_scripts written_records
 
 OF_LIBRARY := live bindings installed
 OF_DEVICES := devices real_drivers
