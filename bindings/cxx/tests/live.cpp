@@ -119,7 +119,7 @@ void what_cannot_be_meant_is_refused()
     auto [camera, encoder] = both();
     expect(camera.set_constraints(mezulobu::Participant(0)).error().text() == "set_constraints of n1: the participant: usage", "no usage");
     expect(camera.set_constraints_record("{").error().number == 0, "no JSON");
-    expect(camera.set_constraints_record("").error().text() == "set_constraints_record of n1: no JSON", "nothing in a record");
+    expect(camera.set_constraints_record("").error().text() == "set_constraints_record of n1: no JSON\nthe record is empty, where an object is due", "nothing in a record");
     const auto fault = camera.set_constraints_record("{\"usage\":[]}").error();
     expect(fault.number == 5 && fault.fault_name() == "S5 BadUsage" && fault.words == NO_USAGE && fault.text() == "set_constraints_record of n1: " + fault.words, "no usage in a record");
     expect(camera.set_constraints_record("{\"usage\":[\"cpu\"]}").has_value(), "a record");

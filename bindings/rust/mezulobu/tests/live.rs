@@ -235,7 +235,7 @@ fn a_late_participant_accepts_the_settings() {
     let allocator = Allocator::from_record(record.as_bytes()).unwrap();
     assert_eq!(
         Allocator::from_record(b"").unwrap_err().to_string(),
-        "from_record: no JSON"
+        "from_record: no JSON\nthe record is empty, where an object is due"
     );
     let camera = allocator.allocate_shared().unwrap().bind().unwrap();
     drop(allocator);
