@@ -117,12 +117,12 @@ lib-test: | lib
 # Wrong bodies beyond those of the gate, each of which the prover must refuse. Of a crate the
 # functions that they change are checked, and the crates below it are built.
 wrong-bodies:
-	$(ALONE) tests/wrong_bodies
+	$(ALONE) tests/mutants/wrong_bodies
 
 # Wrong bodies that no clause refuses, each of which the test that its file names must show. Each is
 # built without proof, for a minute or more.
 shown-by-test:
-	$(ALONE) tests/shown_by_test
+	$(ALONE) tests/mutants/shown_by_test
 
 # Scripts on threads, each row a thousand times, and two thousand random ones. With `--oracle FILE`
 # these are compared with another implementation, and `--valgrind` plays rows under its tools.

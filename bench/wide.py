@@ -2,11 +2,13 @@
 selection fails. `scripts` gives each by its name."""
 import json
 import os
+import sys
 
-COLOURS = ["SRGB", "REC601_NTSC", "REC601_NTSC_FULL_RANGE", "REC601_PAL", "REC601_PAL_FULL_RANGE", "REC709", "REC2020", "REC2100"]
-FORMATS_OF_4_BYTES = ["R8G8B8A8", "B8G8R8A8", "R8G8B8X8", "B8G8R8X8"]
-FORMATS = ["R8G8B8", "B8G8R8", "R5G6B5", "R8G8", "YUY2", "R8", "L8", "I420", "YV12", "NV12", "P010"]
-MODIFIERS = ["LINEAR", "INTEL_I915_X_TILED", "INTEL_I915_Y_TILED"]
+sys.path.append(os.path.join(os.path.dirname(os.path.abspath(__file__)), "..", "tests"))
+import definitions as of  # noqa: E402
+
+COLOURS, FORMATS_OF_4_BYTES, MODIFIERS = list(of.COLOURS.values()), of.OF_4_BYTES, list(of.MODIFIERS.values())
+FORMATS = [name for name in of.FORMATS.values() if name not in FORMATS_OF_4_BYTES]
 PAIRS = [(form, modifier) for form in FORMATS_OF_4_BYTES for modifier in MODIFIERS] + [(form, "LINEAR") for form in FORMATS]
 # Each pair that an entry may name: 42.
 LEFT_OPEN = [(form, "DO_NOT_CARE") for form in FORMATS_OF_4_BYTES + FORMATS] + [("DO_NOT_CARE", it) for it in [*MODIFIERS, "DO_NOT_CARE"]]

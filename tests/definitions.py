@@ -25,8 +25,8 @@ def listed(text, word, known):
 
 
 def array(text, word):
-    """What a constant of code or of a script has: names in quotes, or else variants."""
-    body = re.search(rf"^(?:pub(?:\(crate\))? )?(?:const )?{word}\b[^=]*= ?(.*?)(?:\];|\]\n)", text, re.M | re.S)[1]
+    """What a constant of code has: names in quotes, or else variants."""
+    body = re.search(rf"^(?:pub(?:\(crate\))? )?const {word}\b[^=]*= ?(.*?)\];", text, re.M | re.S)[1]
     return re.findall(r'"(\w+)"', body) or re.findall(r"::(\w+)", body)
 
 
