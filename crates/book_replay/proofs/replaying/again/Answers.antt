@@ -23,11 +23,12 @@ returns-then-not-branch-clause-eager c =
     let i = c.loop-entry.entry-index in
     let e = c.entry-item.result in
     let here : slice_get raw i ≡ Some e = slice_get-get_or raw i e c.loop-entry-test.true ∙ ap Some (sym c.entry-item.is) in
-    let there = stands b.state.tree c.tree-tree.result.now raw b.history i e c.tree-tree.ensures c.history-history.ensures.entries here in
-    (λ t. absurd (cc t),
-    λ eager.
-    let did = c.in_ok-enter.ensures.prompt.1 (not_eager b c.loop-entry.copy i (entry_in c.tree-tree.result.now.nodes e) c.recall_legal.ensures c.loop-entry.invariant there eager) in
-    absurd (cc (did, c.if-not-branch.true)))
+    let there = stands b.state.tree c.tree-tree.result.now raw b.history i e c.tree-tree.ensures c.history-history.ensures.entries here in (
+      λ t. absurd (cc t),
+      λ eager.
+          let did = c.in_ok-enter.ensures.prompt.1 (not_eager b c.loop-entry.copy i (entry_in c.tree-tree.result.now.nodes e) c.recall_legal.ensures c.loop-entry.invariant there eager) in
+          absurd (cc (did, c.if-not-branch.true)),
+    )
 
 pub loop-entry-preserved : goal.loop-entry-preserved
 loop-entry-preserved c =
