@@ -71,7 +71,7 @@ static int write_script(const char *path)
     struct mezulobu_token *root = NULL;
     struct mezulobu_settings s = {.struct_size = sizeof s};
     int bad = mezulobu_allocate_shared(allocator, &root);
-    bad |= calls(root, made, &s) | mezulobu_collection_script(made[0], text, &size);
+    bad |= calls(root, made, &s) | mezulobu_collection_script(made[0], text, &size, NULL, NULL);
     for (int i = 0; i < PARTICIPANTS; i++)
         bad |= mezulobu_collection_release(&made[i]);
     FILE *file = bad ? NULL : fopen(path, "wb");

@@ -5,7 +5,7 @@ ghost use Rattle.sysmem_room.specs.Counting.{all_parts};
 
 use super::ending::end;
 use super::hand::Hand;
-use super::playing::{keep, make};
+use super::playing::{keep, play_calls};
 use super::script::{Asked, all_stated};
 use crate::failure::Failure;
 use book_replay::replayed;
@@ -70,11 +70,11 @@ fn collection_after<L: Ledger, R: Threads + Wait + Sync>(
     let mut hands = Vec::new(alloc);
     let _room = hands.reserve(129);
     keep(rt, &mut hands, Hand::Token(root));
-    for (call, asked) in calls.iter().zip(asked) {
-        let _reply = make(rt, &mut hands, call, asked);
-    }
+    let mut told = String::new(alloc);
+    let played = play_calls(rt, &mut hands, calls, asked, &mut told);
     let made = read_again(rt, alloc, reader);
     let _left = end(rt, hands, Vec::new(alloc));
+    played?;
     Ok(made?)
 }
 

@@ -3,6 +3,7 @@
 
 ghost use Rattle.std.specs.Prelude.{◌≡◌, IfOk, Some};
 ghost use Rattle.sysmem_alloc.specs.Claims.{IsRightClaim};
+ghost use Rattle.sysmem_alloc.specs.Sound.{MayWait};
 ghost use Rattle.sysmem_alloc.specs.State.{base_of, next_ready};
 
 use super::repeating::apply;
@@ -12,12 +13,14 @@ use script_reading::{Act, Call};
 use std::alloc::{AllocError, Global};
 use std::sync::Arc;
 use sysmem_alloc::Book;
+use sysmem_merge::Settings;
 use sysmem_proof::{Claim, Verdict};
 use sysmem_sanitise::Platform;
 use sysmem_search::{NoGate, prove, search};
-use sysmem_tree::{DomainId, MOST_NODES, NodeId};
+use sysmem_tree::{DomainId, MOST_NODES};
 
-/// Plays the calls on so many books, one after the other, and decides each domain that waits.
+/// Plays the calls on so many books, one after the other, and decides each domain that waits. A
+/// `check` or a `wait` asks what the root is told.
 pub(crate) fn repeat_decided(
     alloc: Global,
     platform: &Platform,
@@ -41,7 +44,7 @@ fn decide_once(
     let mut names = vec![in alloc; Some(book.tree().root())]?;
     for (call, asked) in calls.iter().zip(asked) {
         if matches!(call.act, Act::Check | Act::Wait) {
-            tell(&book, &names, call.place)?;
+            let _settings = tell(&book)?;
             continue;
         }
         let made = apply(&mut book, &names, call, asked)?;
@@ -53,17 +56,11 @@ fn decide_once(
     Ok(())
 }
 
-/// What a node is told of its domain, which is to have settings.
-fn tell(book: &Book, names: &[Option<NodeId>], place: usize) -> Result<(), Failure> {
-    let Some(Some(node)) = names.get(place).copied() else {
-        return Err(Failure::NotReady);
-    };
+/// What the root is told of its domain, which is to have settings.
+fn tell(book: &Book) -> Result<Settings, Failure> {
     let tree = book.tree();
-    match book.verdict_of(tree.domain_of(node)) {
-        Some(Verdict::Chosen(chosen)) => {
-            let _settings = chosen.settings();
-            Ok(())
-        }
+    match book.verdict_of(tree.domain_of(tree.root())) {
+        Some(Verdict::Chosen(chosen)) => Ok(chosen.settings()),
         _ => Err(Failure::NotReady),
     }
 }
@@ -82,14 +79,16 @@ fn decide_all(alloc: Global, book: &mut Book) -> Result<(), AllocError> {
 
 /// What a search finds for the domain that is to be decided next, with what proves it.
 fn claim_on(alloc: Global, book: &Book, domain: DomainId) -> Result<Claim, AllocError>
-    requires { next_ready book.now.state ≡ Some domain }
+    requires next { next_ready book.now.state ≡ Some domain }
+    requires waits { MayWait book.now.state.tree domain }
     ensures { IfOk result (IsRightClaim book.now.platform book.now.state.tree.nodes domain
         (base_of book.now.state domain)) }
 {
     let base = book.base(domain)?;
+    let given = base.as_ref();
     let (platform, tree) = (book.platform(), book.tree());
-    let found = search(alloc, platform, tree, domain, base.as_ref(), &NoGate)?;
-    let proof = prove(alloc, platform, tree, domain, base.as_ref(), &found.verdict)?;
+    let found = search(alloc, platform, tree, domain, given, &NoGate)?;
+    let proof = prove(alloc, platform, tree, domain, given, &found.verdict)?;
     Ok(Claim {
         verdict: found.verdict,
         proof,
