@@ -27,14 +27,17 @@ extern "C" {
  * a caller can get wrong. */
 enum mezulobu_status {
     MEZULOBU_DONE = 0,      /* done; of a check: yes */
-    MEZULOBU_MISUSED = 2,   /* a null pointer where none may be, a struct_size that this library
-                             * doesn't know, or a number that says no record's kind */
-    MEZULOBU_REFUSED = 3,   /* the script or the certificate is refused, or a struct */
+    MEZULOBU_MISUSED = 2,   /* a null pointer where none may be, a handle that is spent or of
+                             * another kind, a struct_size that this library doesn't know, or a
+                             * number that says no record's kind */
+    MEZULOBU_REFUSED = 3,   /* the script, the certificate, a struct, a record or a name is refused;
+                             * of a text of a collection: its script would be too long */
     MEZULOBU_NO_MEMORY = 4, /* memory was refused, to all of it or to a decision */
     MEZULOBU_TOO_SMALL = 5, /* a buffer is too small; each size says what is needed */
     MEZULOBU_NO = 6,        /* a check: no; a strict explanation: not all went well; a negotiation:
-                             * no settings meet everybody; a record: it has no fault; a wait:
-                             * nothing was decided in that time */
+                             * no settings meet everybody; a record: it has no fault; a name: it is
+                             * another node's; a refusal: there is none to tell; a wait: nothing was
+                             * decided in that time */
 
     /* Of live collections alone: why a call is refused, 16 and the number that reports have. E1 is
      * NO_MEMORY. */
@@ -43,8 +46,9 @@ enum mezulobu_status {
                                         * included */
     MEZULOBU_NO_CHILDREN = 20,         /* E4: of all_children_present, of a group without a child */
     MEZULOBU_NOT_SELECTED = 21,        /* E5: another alternative was chosen */
-    MEZULOBU_DOMAIN_FAILED = 22,       /* E6: somebody closed too early, or what it was attached to
-                                        * has no settings */
+    MEZULOBU_DOMAIN_FAILED = 22,       /* E6: the domain failed (somebody closed too early, or what
+                                        * it was attached to has no settings), or no settings were
+                                        * chosen; explain says which */
     MEZULOBU_INTERSECTION_EMPTY = 23,  /* E7: no settings meet everybody:
                                         * mezulobu_collection_explain says who is in the way */
     MEZULOBU_TOO_MANY_SELECTIONS = 24, /* E8: more than 4,096 selections of alternatives */
@@ -370,8 +374,8 @@ int mezulobu_planes(uint32_t format, uint64_t modifier, uint32_t pitch, uint32_t
 const char *mezulobu_status_name(int status);
 
 /* What a status means, in one line for people, as "E9 Pending: nothing is decided yet; explain says
- * who is awaited"; of the call of this name, as "set_name", what would be right there. call may be
- * null. "?" of a number that is none. */
+ * who is awaited"; of the call of this name, as "mezulobu_token_set_name" or "set_name", what would
+ * be right there. call may be null. "?" of a number that is none. */
 const char *mezulobu_status_text(int status, const char *call);
 
 /* The version of the library, as MEZULOBU_VERSION is that of the header. */

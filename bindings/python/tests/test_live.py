@@ -146,6 +146,8 @@ class Live(unittest.TestCase):
             encoder.set_constraints(asked(1, Size(32, 32)))
             empty = self.refused(Status.INTERSECTION_EMPTY, camera.check)
             self.assertEqual(str(empty), "check of n1: E7 ConstraintsIntersectionEmpty: no settings meet everybody; explain says who is in the way")
+            undecided = self.refused(Status.DOMAIN_FAILED, camera.attach_token)
+            self.assertTrue(str(undecided).endswith(", or no settings were chosen; explain says which"))
             why = encoder.refusal()
             assert why is not None
             self.assertEqual((why.who, why.field, why.kind, why.alone), (encoder.node, Field.MAX_SIZE, Kind.OFFERS, True))

@@ -8,18 +8,21 @@ pub const MEZULOBU_VERSION: u32 = 0x00010005;
 
 /// done; of a check: yes
 pub const MEZULOBU_DONE: c_int = 0;
-/// a null pointer where none may be, a struct_size that this library
-/// doesn't know, or a number that says no record's kind
+/// a null pointer where none may be, a handle that is spent or of
+/// another kind, a struct_size that this library doesn't know, or a
+/// number that says no record's kind
 pub const MEZULOBU_MISUSED: c_int = 2;
-/// the script or the certificate is refused, or a struct
+/// the script, the certificate, a struct, a record or a name is refused;
+/// of a text of a collection: its script would be too long
 pub const MEZULOBU_REFUSED: c_int = 3;
 /// memory was refused, to all of it or to a decision
 pub const MEZULOBU_NO_MEMORY: c_int = 4;
 /// a buffer is too small; each size says what is needed
 pub const MEZULOBU_TOO_SMALL: c_int = 5;
 /// a check: no; a strict explanation: not all went well; a negotiation:
-/// no settings meet everybody; a record: it has no fault; a wait:
-/// nothing was decided in that time
+/// no settings meet everybody; a record: it has no fault; a name: it is
+/// another node's; a refusal: there is none to tell; a wait: nothing was
+/// decided in that time
 pub const MEZULOBU_NO: c_int = 6;
 /// E2: the handle isn't in a state that allows the call
 pub const MEZULOBU_WRONG_STATE: c_int = 18;
@@ -30,8 +33,9 @@ pub const MEZULOBU_TOO_MANY_NODES: c_int = 19;
 pub const MEZULOBU_NO_CHILDREN: c_int = 20;
 /// E5: another alternative was chosen
 pub const MEZULOBU_NOT_SELECTED: c_int = 21;
-/// E6: somebody closed too early, or what it was attached to
-/// has no settings
+/// E6: the domain failed (somebody closed too early, or what
+/// it was attached to has no settings), or no settings were
+/// chosen; explain says which
 pub const MEZULOBU_DOMAIN_FAILED: c_int = 22;
 /// E7: no settings meet everybody:
 /// mezulobu_collection_explain says who is in the way
@@ -467,8 +471,8 @@ extern "C" {
         status: c_int,
     ) -> *const c_char;
     /// What a status means, in one line for people, as "E9 Pending: nothing is decided yet; explain says
-    /// who is awaited"; of the call of this name, as "set_name", what would be right there. call may be
-    /// null. "?" of a number that is none.
+    /// who is awaited"; of the call of this name, as "mezulobu_token_set_name" or "set_name", what would
+    /// be right there. call may be null. "?" of a number that is none.
     pub fn mezulobu_status_text(
         status: c_int,
         call: *const c_char,
