@@ -129,7 +129,8 @@ NO_PARTICIPANT = b"refused: the participant can't be meant; the refusal says whi
 FAULTY = b"refused: the record has a fault; record_fault says what and where"
 LONG = b"refused: the collection's script would be longer than a script may be"
 MISNAMED = b"refused: a name is 1 to 32 letters, digits, _ or -, and not root, nor n with digits"
-UNMEANT, LACKING = b"refused: what is given can't be meant", b"E1 NoMemory: memory was refused; the call changed nothing"
+UNMEANT = b"refused: what is given can't be meant"
+LACKING = b"E1 NoMemory: memory was refused; the call changed nothing"
 MEANT = [
     (22, "mezulobu_token_duplicate attach_token mezulobu_collection_set_constraints", FAILED),
     (
