@@ -1,10 +1,13 @@
 """Collections that live, beside what a run of the script that they write decides."""
 import asyncio
+import fractions
 import gc
+import math
 import select
 import threading
 import unittest
 import warnings
+from typing import Any
 
 import mezulobu
 from mezulobu import Color, Entry, Field, Heap, Kind, Pair, Participant, Platform, Size, Status, Usage, live
@@ -176,6 +179,50 @@ class Live(unittest.TestCase):
             live.Allocator(b"{}")
         with self.assertRaises(mezulobu.Refused):
             live.Allocator(Platform([], [], []))
+
+    def test_what_is_of_another_kind_is_told(self) -> None:
+        camera, encoder = both()
+        wrong: Any
+        with camera, encoder:
+            for wrong, told in (({"usage": ["video"]}, "{'usage': ['video']}"), (5, "5"), (None, "None"), ([123], "[123]"), ({1: "a" * 40}, "a dict")):
+                with self.assertRaises(TypeError) as caught:
+                    camera.set_constraints_record(wrong)
+                self.assertEqual(str(caught.exception), f"set_constraints_record: the record: {told} is no str or bytes (json.dumps makes one)")
+                with self.assertRaises(TypeError) as caught:
+                    live.Allocator(wrong)
+                self.assertEqual(str(caught.exception), f"Allocator: the platform: {told} is no Platform, str or bytes (json.dumps makes one)")
+            for wrong in ("1", b"1", [1], math.nan):
+                with self.assertRaises(TypeError) as caught:
+                    camera.wait(wrong)
+                self.assertEqual(str(caught.exception), f"wait: timeout: {wrong!r} is no number")
+            self.assertIsNone(camera.check())
+            for timeout in (0, 0.0, fractions.Fraction(1, 1000)):
+                with self.assertRaises(TimeoutError):
+                    camera.wait(timeout)  # type: ignore[arg-type]
+            camera.set_constraints_record(bytearray(b'{"usage":["cpu"]}'))
+            encoder.set_constraints(None)
+            self.assertEqual(camera.wait(math.inf).count, 1)
+
+    def test_a_handle_is_shown_by_its_name(self) -> None:
+        with live.Allocator(PLATFORM) as allocator, allocator.allocate_shared() as root, root.duplicate() as token, root.create_group() as group:
+            token.set_name("camera")
+            self.assertEqual([repr(it) for it in (allocator, root, token, group)], ["<Allocator>", "<Token root>", "<Token camera>", "<Group n2>"])
+            with token.bind() as camera:
+                self.assertEqual([repr(token), repr(camera)], ["<Token (spent)>", "<Collection camera>"])
+
+    def test_an_exception_that_leaves_fails_the_others_unless_it_was_released(self) -> None:
+        for is_released, status in ((False, Status.DOMAIN_FAILED), (True, None)):
+            camera, encoder = both()
+            with camera:
+                with self.assertRaises(KeyError), encoder:
+                    if is_released:
+                        encoder.release()
+                    raise KeyError
+                if status:
+                    self.refused(status, camera.check)
+                else:
+                    camera.set_constraints(asked(2))
+                    self.assertEqual(camera.wait(10).count, 2)
 
     def test_the_first_alternative_that_can_be_had_is_selected(self) -> None:
         with live.Allocator(PLATFORM) as allocator, allocator.allocate_shared() as root:
