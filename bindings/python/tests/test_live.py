@@ -1,7 +1,9 @@
 """Collections that live, beside what a run of the script that they write decides."""
 import asyncio
+import dataclasses
 import fractions
 import gc
+import json
 import math
 import select
 import threading
@@ -240,6 +242,49 @@ class Live(unittest.TestCase):
             second.set_constraints(asked(1))
             self.assertEqual((second.wait().count, second.selection()), (1, (1,)))
             self.refused(Status.NOT_SELECTED, first.check)
+
+    def test_the_token_of_a_group_is_awaited_too(self) -> None:
+        for is_bound, stated, count in ((False, None, 2), (True, None, 2), (True, asked(0, min_count=7), 7)):
+            with live.Allocator(PLATFORM) as allocator:
+                camera = allocator.allocate_shared()
+            with camera.create_group() as group:
+                children = [group.create_child().bind() for _ in range(2)]
+                group.all_children_present()
+                group.release()
+            for child in children:
+                child.set_constraints(asked(2))
+            self.assertIsNone(children[0].check())
+            self.assertIn("awaits root /, a token", children[0].explain())
+            if is_bound:
+                bound = camera.bind()
+                bound.set_constraints(stated)
+                settings = bound.check()
+                assert settings is not None
+                self.assertEqual(settings.count, count)
+                bound.release()
+            else:
+                camera.release()
+            self.assertEqual((children[0].wait(10).count, children[0].selection()), (count, (0,)))
+            self.refused(Status.NOT_SELECTED, children[1].check)
+            for child in children:
+                child.release()
+
+    def test_a_struct_platform_has_its_heaps_by_their_index_in_records(self) -> None:
+        heaps = [Heap(cpu=True), Heap(contiguous=True, cpu=True)]
+        with live.Allocator(Platform(heaps, PLATFORM.pairs, PLATFORM.colors)) as allocator:
+            for index in range(2):
+                with allocator.allocate_shared().bind() as camera:
+                    permitted = {"heap_type": "heap", "id": index}
+                    camera.set_constraints_record(json.dumps({"usage": ["cpu"], "buffer_memory_constraints": {"permitted_heaps": [permitted]}}))
+                    self.assertEqual(camera.wait(10).heap, index)
+
+    def test_no_two_entries_have_one_pair(self) -> None:
+        entry = Entry("NV12", Color.REC709)
+        for either in (entry, dataclasses.replace(entry, format=None), dataclasses.replace(entry, modifier=None)):
+            camera, encoder = both()
+            with camera, encoder, self.assertRaises(mezulobu.Refused) as caught:
+                camera.set_constraints(Participant(Usage.VIDEO, entries=[either, either]))
+            self.assertEqual(caught.exception.refusal.field, Field.IMAGE_FORMAT_CONSTRAINTS)
 
     def test_a_late_participant_accepts_the_settings(self) -> None:
         with live.Allocator(RECORD) as allocator:

@@ -236,8 +236,8 @@ class Texts(unittest.TestCase):
             with self.assertRaises(TypeError) as caught:
                 mezulobu.check(script, certificate)  # type: ignore[arg-type]
             self.assertEqual(str(caught.exception), f"check: {said}")
-        script, proof = content("secure_video.json"), content("secure_video.proof")
-        self.assertTrue(mezulobu.check(bytearray(script), memoryview(proof)).is_right)
+        given, proof = content("secure_video.json"), content("secure_video.proof")
+        self.assertTrue(mezulobu.check(bytearray(given), memoryview(proof)).is_right)
 
     def test_a_long_report_is_whole(self) -> None:
         checks = ',{"call":"check","on":"root"}' * 4094
