@@ -251,7 +251,7 @@ static const struct meaning meanings[] = {
 static bool strip(const char **text, const char *begins)
 {
     size_t n = strlen(begins);
-    bool good = !strncmp(*text, begins, n);
+    bool good = strlen(*text) >= n && !memcmp(*text, begins, n);
     *text += good ? n : 0;
     return good;
 }
