@@ -88,7 +88,7 @@ void who_ends_too_early_fails_the_domain()
     expect(camera.check().error() == Status{MEZULOBU_DOMAIN_FAILED} && camera.check().error().name() == "DOMAIN_FAILED", "a failed domain");
     expect(camera.set_no_constraints().error().status == MEZULOBU_DOMAIN_FAILED, "nothing more is set");
     expect(camera.set_no_constraints().error().text()
-               == "set_constraints of n1: E6 DomainFailed: somebody closed too early, or what it was attached to has no settings",
+               == "set_constraints of n1: E6 DomainFailed: the domain failed (somebody closed too early, or what it was attached to has no settings), or no settings were chosen; explain says which",
            "why nothing more is set");
 }
 

@@ -4,7 +4,8 @@ with the code that is expected there, and a record without a fault is taken. Rec
 says so, and a further number has none. The words of each fault begin with the fault that is expected there, and a
 record without one has none; what is said of the place, and what would be right, are as the program explains a script
 with that record. Some texts are compared whole, which were written by hand. Then what statuses mean: the names of E1 to
-E10 are those that the definitions give to reports. The last line is 'N passed, M failed'.
+E10 are those that the definitions give to reports, and a call is known by its name with and without what the header has
+before it. The last line is 'N passed, M failed'.
 
 usage: faults.py LIBRARY PROGRAM
 """
@@ -115,6 +116,47 @@ the record is empty, where an object is due
   |  ^^^^^^^^^^^^^^^^^^^^^^ unknown key
 """,
 }
+
+
+# By a status and the names of calls: what it means there.
+DECISION = b"E1 NoMemory: the decision had no memory, and stays so"
+FAILED = (
+    b"E6 DomainFailed: the domain failed (somebody closed too early, or what it was attached to has no settings), "
+    b"or no settings were chosen; explain says which"
+)
+NO_PLATFORM = b"refused: the platform can't be meant; the refusal says which field"
+NO_PARTICIPANT = b"refused: the participant can't be meant; the refusal says which field"
+FAULTY = b"refused: the record has a fault; record_fault says what and where"
+LONG = b"refused: the collection's script would be longer than a script may be"
+MISNAMED = b"refused: a name is 1 to 32 letters, digits, _ or -, and not root, nor n with digits"
+UNMEANT = b"refused: what is given can't be meant"
+LACKING = b"E1 NoMemory: memory was refused; the call changed nothing"
+MEANT = [
+    (22, "mezulobu_token_duplicate attach_token mezulobu_collection_set_constraints", FAILED),
+    (
+        6,
+        "wait collection_wait mezulobu_collection_wait",
+        b"no: nothing was decided in that time; explain says who is awaited",
+    ),
+    (
+        6,
+        "refusal mezulobu_collection_refusal",
+        b"no: check isn't E7, or the domain has groups or is attached; explain tells more",
+    ),
+    (6, "set_name mezulobu_group_set_name", b"no: another node of the collection has this name"),
+    (6, "record_fault mezulobu_record_fault", b"no: nothing is wrong with the record"),
+    (6, "mezulobu_check mezulobu_negotiate token_wait_not mezulobu_wait group_ mezulobu_", b"no"),
+    (4, "check wait selection mezulobu_collection_check mezulobu_collection_wait collection_selection", DECISION),
+    (4, "mezulobu_check mezulobu_collection_set_constraints script", LACKING),
+    (3, "allocator_new mezulobu_allocator_new", NO_PLATFORM),
+    (3, "set_constraints mezulobu_collection_set_constraints", NO_PARTICIPANT),
+    (3, "set_constraints_record mezulobu_collection_set_constraints_record", FAULTY),
+    (3, "allocator_new_record mezulobu_allocator_new_record", FAULTY),
+    (3, "script mezulobu_collection_script", b"refused: it would be longer than a script may be"),
+    (3, "explain explain_json mezulobu_collection_explain mezulobu_collection_explain_json", LONG),
+    (3, "mezulobu_explain mezulobu_explain_json mezulobu_run mezulobu_check mezulobu_planes", UNMEANT),
+    (3, "set_name mezulobu_token_set_name mezulobu_group_set_name collection_set_name", MISNAMED),
+]
 
 
 def told(library, status, code):
@@ -251,6 +293,9 @@ def of_statuses(library):
             for status in statuses
         ]
         yield f"of {call.decode()}", of_call, wanted
+    for status, calls, wanted in MEANT:
+        for call in calls.split():
+            yield f"{status} of {call}", library.mezulobu_status_text(status, call.encode()), wanted
 
 
 def answers(library, program):

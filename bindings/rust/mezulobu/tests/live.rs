@@ -113,7 +113,7 @@ fn who_is_dropped_too_early_fails_the_domain() {
         why: Why::Status(Status::DOMAIN_FAILED),
     };
     assert_eq!(refused.error, wanted);
-    let told = "set_constraints of n1: E6 DomainFailed: somebody closed too early, or what it was attached to has no settings";
+    let told = "set_constraints of n1: E6 DomainFailed: the domain failed (somebody closed too early, or what it was attached to has no settings), or no settings were chosen; explain says which";
     assert_eq!(refused.to_string(), told);
     refused.handle.close();
 }
