@@ -78,8 +78,7 @@ fn explained_of(
     };
     let told = explain(alloc, file.as_str(), script, wanted)?;
     let is_faulty = told.outcome == Outcome::Faulty;
-    let text = if is_json { told.objects } else { told.text };
-    match text {
+    match told.objects.or(told.text) {
         Some(text) => Ok(Explained {
             is_faulty,
             text: text.into_bytes(),
