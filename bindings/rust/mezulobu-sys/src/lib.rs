@@ -323,10 +323,11 @@ pub const MEZULOBU_FIELD_CONTIGUOUS: u32 = 41;
 pub const MEZULOBU_FIELD_SECURE: u32 = 42;
 pub const MEZULOBU_FIELD_DOMAINS: u32 = 43;
 
-/// Why there are no settings. At REFUSED (the first three kinds) field is what is amiss in a struct,
-/// and index the item of its list. At MISUSED (kind PLATFORM or PARTICIPANT, or 0 of settings) it is
-/// whose struct is misused, and of an entry index is its own; of the participant's struct itself
-/// index is NOBODY; field is 0.
+/// Why there are no settings. At REFUSED (the first three kinds) field is what is amiss in a struct.
+/// index is the item of its list where that has a format, a modifier or a color that isn't known, or
+/// a pitch_divisor above 65536; whatever else is amiss, index is 0, of whichever item it is. At
+/// MISUSED (kind PLATFORM or PARTICIPANT, or 0 of settings) it is whose struct is misused, and of an
+/// entry index is its own; of the participant's struct itself index is NOBODY; field is 0.
 ///
 /// At NO the participants before who can share settings, and those up to who can't: who is the first
 /// with whom there are none. So the order of the participants is a ranking: those that can be done
