@@ -5,16 +5,11 @@ ghost use Rattle.serde_json.specs.View.{view};
 ghost use Rattle.mezulobu.specs.Explains.{ExplanationSays, HasFault, IsFaultOf};
 
 use crate::told::Told;
+use crate::{DONE, NO, REFUSED};
 use explain::{Outcome, Outputs, explain};
 use script_reading::{ParseFault, ScriptFault, parse_script, read_script};
 use serde_json::Value;
 use std::alloc::{AllocError, Global};
-
-const DONE: u32 = 0;
-
-const REFUSED: u32 = 3;
-
-const NO: u32 = 6;
 
 /// An explanation's text, and whether it tells of a call that was refused or of a domain that isn't
 /// chosen.

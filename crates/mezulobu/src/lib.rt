@@ -27,15 +27,18 @@ use flat_negotiation::{
 };
 use std::alloc::Global;
 
-const DONE: u32 = 0;
+// Statuses, as `mezulobu.h` has them.
+pub(crate) const DONE: u32 = 0;
 
-const REFUSED: u32 = 3;
+pub(crate) const MISUSED: u32 = 2;
 
-const NO_MEMORY: u32 = 4;
+pub(crate) const REFUSED: u32 = 3;
 
-const TOO_SMALL: u32 = 5;
+pub(crate) const NO_MEMORY: u32 = 4;
 
-const NO: u32 = 6;
+pub(crate) const TOO_SMALL: u32 = 5;
+
+pub(crate) const NO: u32 = 6;
 
 /// Replays a script: the text is its report, or the words of its first fault.
 #[unsafe(no_mangle)]

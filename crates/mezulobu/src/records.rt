@@ -5,19 +5,10 @@ ghost use Rattle.mezulobu.specs.Ends.{Ends};
 ghost use Rattle.mezulobu.specs.RecordFaults.{FaultSays, kind_at};
 
 use crate::told::Told;
+use crate::{DONE, MISUSED, NO, NO_MEMORY, TOO_SMALL};
 use caller_buffers::hand_out;
 use script_faults::{RecordKind, record_fault};
 use std::alloc::{AllocError, Global};
-
-const DONE: u32 = 0;
-
-const MISUSED: u32 = 2;
-
-const NO_MEMORY: u32 = 4;
-
-const TOO_SMALL: u32 = 5;
-
-const NO: u32 = 6;
 
 /// What stands before lines and columns, as a record has no file.
 const FILE: &str = "record";

@@ -8,17 +8,12 @@ ghost use Rattle.mezulobu.specs.Says.{CheckSays, ProvedRunSays, RunSays};
 ghost use Rattle.mezulobu.specs.Words.{refusal_words};
 
 use crate::words::refusal_words;
+use crate::{DONE, NO, REFUSED};
 use byte_transfer::Counted;
 use script_check::check_file;
 use script_reading::ScriptFault;
 use script_run::{Ended, RunFault, run, run_with_proof};
 use std::alloc::{AllocError, Global};
-
-const DONE: u32 = 0;
-
-const REFUSED: u32 = 3;
-
-const NO: u32 = 6;
 
 /// A status, and the text for the caller.
 #[derive(Drop)]
