@@ -1,5 +1,6 @@
 -- The text of a line.
-use Rattle.std.proofs.Common.{◌≡◌, ℕ, ◌++◌, List, [], ◌∷◌, codes, decimal, false, map, Result, OnOk, refl, sym, subst, ap, ap₂, ◌∙◌, append_assoc}
+use Rattle.std.proofs.Common.{arith, ◌≡◌, ℕ, suc, ◌++◌, List, [], ◌∷◌, All, Contains, Some, codes, decimal, false, map, slice_get, Result, OnOk, refl, sym, subst, ap, ap₂, ◌∙◌, append_assoc}
+use Rattle.std.proofs.lemmas.Option.{same_Some}
 use Rattle.json.specs.Print.{escape, escape_byte}
 use Rattle.serde_json.specs.Data.{Data, object, member, no_members}
 use Rattle.serde_json.specs.View.{items_of}
@@ -7,7 +8,7 @@ use Rattle.serde_json.specs.Written.{compact_text, items_text}
 use Rattle.sysmem_counts.specs.Field.{field_name}
 use Rattle.sysmem_counts.specs.declared.field.Field.{Field}
 use Rattle.verdict_claims.specs.declared.refutation.Item.TheVariants.{Split}
-use Rattle.verdict_claims.specs.Line.{LineFacts}
+use Rattle.verdict_claims.specs.Line.{IsAgain, LineFacts}
 use Rattle.certificate_text.specs.Out.{IsLineText}
 use Rattle.certificate_text.specs.Told.{item_data, line_data, lines_data, named_data, paths_data}
 
@@ -97,3 +98,11 @@ offers_plain = refl
 -- what is put of data is put of the same data
 pub told_as : {T E : Type 0} (r : Result T E) (old new : List ℕ) (d e : Data) → d ≡ e → OnOk r (new ≡ old ++ compact_text d) → OnOk r (new ≡ old ++ compact_text e)
 told_as r old new d e same h = subst (λ x. OnOk r (new ≡ old ++ compact_text x)) same h
+
+-- where a line is the one before once more, both are one
+pub same_again : (lines : List LineFacts) (again : List ℕ) (at before : ℕ) (line last : LineFacts) → All (IsAgain lines) again → Contains again at → at ≡ suc before
+    → slice_get lines before ≡ Some last → slice_get lines at ≡ Some line → last ≡ line
+same_again lines again at before line last all (k, below, is) next first here =
+    let known : IsAgain lines at = subst (IsAgain lines) is (all k at below) in
+    let same : known.before ≡ before = omega (arith, known.next, next) in
+    same_Some last known.line (sym first ∙ ap (slice_get lines) (sym same) ∙ known.first) ∙ same_Some known.line line (sym known.same ∙ here)

@@ -8,6 +8,7 @@ use Rattle.serde_json.specs.Written.{compact_text}
 use Rattle.verdict_claims.specs.Line.{LineFacts}
 use Rattle.certificate_text.specs.Told.{line_data, paths_data}
 use Rattle.certificate_text.specs.declared.json_writer.Writer.TheInside.{Inside}
+use Rattle.certificate_text.specs.declared.text.Told.{Told}
 
 -- the tokens are those that a reader finds in the whole text
 abbrev pub out_view : Inside → Written
@@ -26,3 +27,7 @@ pub record IsOut (w : Inside) : Type 0 where
 pub record IsLineText (paths text : List ℕ) (line : LineFacts) : Type 0 where
   pub nodes_told : paths ≡ compact_text (paths_data line.nodes)
   pub line_told : text ≡ compact_text (line_data line)
+
+-- what is kept of a line that was put: its text, and that of its paths
+abbrev pub IsTold : Told → Type 0
+IsTold told = IsLineText told.paths.items told.text.items told.line
