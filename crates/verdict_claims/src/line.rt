@@ -1,6 +1,6 @@
 //! Lines of the conflict table: a field, and for whom it fails.
 
-ghost use Rattle.std.specs.Prelude.{◌≡◌, ◌-◌, ◌++◌, [], ◌∷◌, length, slice_get, All, Some, IfOk, OnOk};
+ghost use Rattle.std.specs.Prelude.{◌≡◌, ◌-◌, ◌++◌, [], ◌∷◌, length, slice_get, All, Some, IfOk, IsOk, OnErr, OnOk};
 ghost use Rattle.verdict_claims.specs.Line.{IsAgain, LineFacts};
 
 use crate::path_list::PathList;
@@ -150,28 +150,32 @@ impl Lines {
         Ok(Lines { lines, again })
     }
 
-    /// Puts a line behind them. `AllocError` where memory is refused.
+    /// Puts a line behind them. `AllocError` where memory is refused: then they stay as they were.
     pub fn push(&mut self, line: Line) -> Result<(), AllocError>
-        ensures { OnOk result (self.new ≡ self.old ++ line ∷ []) }
+        ensures more { OnOk result (self.new ≡ self.old ++ line ∷ []) }
+        ensures refused { OnErr result (self.new ≡ self.old) }
     {
         self.lines.push(line)?;
         Ok(())
     }
 
     /// Puts the last line behind them once more, if there is one. `AllocError` where memory is
-    /// refused.
+    /// refused: then they stay as they were.
     pub fn push_again(&mut self) -> Result<(), AllocError>
-        ensures { (last : LineFacts) → slice_get self.old (length self.old - 1) ≡ Some last
+        ensures more { (last : LineFacts) → slice_get self.old (length self.old - 1) ≡ Some last
             → OnOk result (self.new ≡ self.old ++ last ∷ []) }
+        ensures none { self.old ≡ [] → (self.new ≡ []) × IsOk result }
+        ensures refused { OnErr result (self.new ≡ self.old) }
     {
         let Some(last) = self.lines.last() else {
             return Ok(());
         };
         let line = last.again()?;
+        self.again.reserve(1)?;
         let at = self.lines.len();
         self.lines.push(line)?;
         if at <= usize::from(u8::MAX) {
-            self.again.push(at as u8)?;
+            self.again.push_reserved(at as u8);
         }
         Ok(())
     }
