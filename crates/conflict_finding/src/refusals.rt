@@ -1,6 +1,6 @@
 //! Lines that refuse the offers of a platform, or its places, one after another.
 
-ghost use Rattle.std.specs.Prelude.{◌≡◌, ◌⊎◌, ◌+◌, true, false, List, ◌∷◌, All, Some, IfOk, IfSome, IfNone, IsTrue, filter, length, slice_get};
+ghost use Rattle.std.specs.Prelude.{◌≡◌, ◌<◌, ◌⊎◌, ◌+◌, true, false, List, ◌∷◌, All, Some, IfOk, IfSome, IfNone, IsTrue, filter, length, slice_get};
 ghost use Rattle.sysmem_counts.specs.declared.field.Field.TheVariants.{ColorSpaces, PixelFormat};
 ghost use Rattle.sysmem_formats.specs.declared.offer.Offer.{Offer as Offered};
 ghost use Rattle.sysmem_memory.specs.Domain.{has_domain};
@@ -90,6 +90,7 @@ fn is_line_again(
         → RefusesLast (IsOfferLineGiven whole ms) earlier.now before.now
         → IfOk result (λ again. IsTrue again
         → HasLast (IsOfferLineGiven whole ms offer.now) before.now) }
+    ensures some { IfOk result (λ again. IsTrue again → 0 < length before.now) }
 {
     let Some(last) = before.last() else {
         return Ok(false);

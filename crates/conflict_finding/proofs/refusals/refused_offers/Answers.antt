@@ -1,5 +1,5 @@
 -- One offer more is refused, or the lines end.
-use Rattle.std.proofs.Common.{◌≡◌, ◌≢◌, ◌<◌, length, Some, inl, inr, sym, ◌∙◌, ap, subst, arith}
+use Rattle.std.proofs.Common.{◌≡◌, ◌≢◌, ◌<◌, length, Some, inl, inr, sym, ap, subst, arith}
 use Rattle.std.specs.List.{AllZip}
 use Rattle.std.proofs.lemmas.Option.{slice_get_within}
 use Rattle.sysmem_formats.specs.declared.offer.Offer.{Offer}
@@ -13,14 +13,14 @@ use Rattle.conflict_finding.proofs.refusals.refused_offers.Goals as goal
 
 pub returns-then-eq-clause-lines : goal.returns-then-eq-clause-lines
 returns-then-eq-clause-lines c = λ ms stand.
-    let here = offer_read c.args.platform.now _ _ c.pairs.ensures.pairs c.colours.ensures.colours _ c.loop-offer.lines _ (c.len.ensures ∙ ap length c.as_slice.ensures) c.in-Some.ensures in
+    let here = offer_read c.args.platform.now _ _ c.pairs.ensures.pairs c.colours.ensures.colours _ c.loop-offer.lines _ (ap length c.as_slice.ensures) c.in-Some.ensures in
     let same : c.args.until ≡ Some c.in-Some.offer = is_until c.args.until c.in-Some.offer c.if-eq.ensures in
     ends_at_offer (IsOfferLineGiven c.args.whole ms) (Ends c.args.until (λ (o : Offer). o) (ShareOffer c.args.whole ms)) (offers_of c.args.platform.now) c.loop-offer.lines c.in-Some.offer
     (sym here) (c.loop-offer.invariant.so_far ms stand) (inl same)
 
 pub returns-then-not-branch-clause-lines : goal.returns-then-not-branch-clause-lines
 returns-then-not-branch-clause-lines c = λ ms stand.
-    let here = offer_read c.args.platform.now _ _ c.pairs.ensures.pairs c.colours.ensures.colours _ c.loop-offer.lines _ (c.len.ensures ∙ ap length c.as_slice.ensures) c.in-Some.ensures in
+    let here = offer_read c.args.platform.now _ _ c.pairs.ensures.pairs c.colours.ensures.colours _ c.loop-offer.lines _ (ap length c.as_slice.ensures) c.in-Some.ensures in
     let other : c.args.until ≢ Some c.in-Some.offer = is_before c.args.until c.in-Some.offer c.if-eq.ensures in
     let end = c.in_ok-push_offer.ensures.share ms stand c.if-not-branch.true in
     subst (EndsAt (IsOfferLineGiven c.args.whole ms) (Ends c.args.until (λ (o : Offer). o) (ShareOffer c.args.whole ms)) (offers_of c.args.platform.now)) (sym end.0)
@@ -35,14 +35,14 @@ push_offer-requires-clause-last c = c.loop-offer.invariant.last
 
 pub loop-offer-smaller : goal.loop-offer-smaller
 loop-offer-smaller c =
-    let here = offer_read c.args.platform.now _ _ c.pairs.ensures.pairs c.colours.ensures.colours _ c.loop-offer.lines _ (c.len.ensures ∙ ap length c.as_slice.ensures) c.in-Some.ensures in
+    let here = offer_read c.args.platform.now _ _ c.pairs.ensures.pairs c.colours.ensures.colours _ c.loop-offer.lines _ (ap length c.as_slice.ensures) c.in-Some.ensures in
     let more : length c.loop-offer.lines < length (offers_of c.args.platform.now) = slice_get_within (offers_of c.args.platform.now) (length c.loop-offer.lines) c.in-Some.offer (sym here) in
     omega (arith, more, c.in_ok-push_offer.ensures.longer c.if-not-branch.false)
 
 pub loop-offer-preserved : goal.loop-offer-preserved
 loop-offer-preserved c = record {
   so_far = λ ms stand.
-      let here = offer_read c.args.platform.now _ _ c.pairs.ensures.pairs c.colours.ensures.colours _ c.loop-offer.lines _ (c.len.ensures ∙ ap length c.as_slice.ensures) c.in-Some.ensures in
+      let here = offer_read c.args.platform.now _ _ c.pairs.ensures.pairs c.colours.ensures.colours _ c.loop-offer.lines _ (ap length c.as_slice.ensures) c.in-Some.ensures in
       let one = c.in_ok-push_offer.ensures.more ms stand c.if-not-branch.false in
       one_offer (IsOfferLineGiven c.args.whole ms) (offers_of c.args.platform.now) c.loop-offer.lines _ c.in-Some.offer one.line (sym here) one.added (c.loop-offer.invariant.so_far ms stand) one.is;
   alone = c.push_offer.ensures.alone;
@@ -55,6 +55,6 @@ loop-offer-preserved c = record {
 
 pub returns-clause-lines : goal.returns-clause-lines
 returns-clause-lines c = λ ms stand.
-    let past = offer_read c.args.platform.now _ _ c.pairs.ensures.pairs c.colours.ensures.colours _ c.loop-offer.lines _ (c.len.ensures ∙ ap length c.as_slice.ensures) c.in_default.ensures in
+    let past = offer_read c.args.platform.now _ _ c.pairs.ensures.pairs c.colours.ensures.colours _ c.loop-offer.lines _ (ap length c.as_slice.ensures) c.in_default.ensures in
     subst (AllZip (IsOfferLineGiven c.args.whole ms) (offers_of c.args.platform.now)) (sym c.in_ok-fitted.ensures)
     (all_offers (IsOfferLineGiven c.args.whole ms) (offers_of c.args.platform.now) c.loop-offer.lines (sym past) (c.loop-offer.invariant.so_far ms stand))
