@@ -1,6 +1,5 @@
 -- The text of a line.
-use Rattle.std.proofs.Common.{arith, ◌≡◌, ℕ, suc, ◌++◌, List, [], ◌∷◌, All, Contains, Some, codes, decimal, false, map, slice_get, Result, OnOk, refl, sym, subst, ap, ap₂, ◌∙◌, append_assoc}
-use Rattle.std.proofs.lemmas.Option.{same_Some}
+use Rattle.std.proofs.Common.{◌≡◌, ℕ, ◌++◌, List, [], ◌∷◌, codes, decimal, false, map, Result, OnOk, refl, sym, subst, ap, ap₂, ◌∙◌, append_assoc}
 use Rattle.json.specs.Print.{escape, escape_byte}
 use Rattle.serde_json.specs.Data.{Data, object, member, no_members}
 use Rattle.serde_json.specs.View.{items_of}
@@ -8,8 +7,7 @@ use Rattle.serde_json.specs.Written.{compact_text, items_text}
 use Rattle.sysmem_counts.specs.Field.{field_name}
 use Rattle.sysmem_counts.specs.declared.field.Field.{Field}
 use Rattle.verdict_claims.specs.declared.refutation.Item.TheVariants.{Split}
-use Rattle.verdict_claims.specs.Line.{IsAgain, LineFacts}
-use Rattle.certificate_text.specs.Out.{IsLineText}
+use Rattle.verdict_claims.specs.Line.{LineFacts}
 use Rattle.certificate_text.specs.Told.{item_data, line_data, lines_data, named_data, paths_data}
 
 -- `{"field":"`
@@ -34,13 +32,6 @@ line_put old field nodes plain =
     regroup old line_front name line_middle paths (125 ∷ [])
     ∙ ap (λ s. old ++ (line_front ++ s)) (sym (append_assoc name (34 ∷ []) behind))
     ∙ ap (λ s. old ++ (line_front ++ ((s ++ 34 ∷ []) ++ behind))) (sym plain)
-
--- lines with one field and the same paths have one text
-pub same_text : (paths text : List ℕ) (a b : LineFacts) → a.field ≡ b.field → a.nodes ≡ b.nodes → IsLineText paths text a → IsLineText paths text b
-same_text paths text a b field nodes is = record {
-  nodes_told = is.nodes_told ∙ ap (λ ns. compact_text (paths_data ns)) nodes;
-  line_told = is.line_told ∙ ap₂ (λ f ns. compact_text (named_data (codes "field") f ns)) field nodes;
-}
 
 kind_regroup : (o a k b n m p e : List ℕ) → ((((((o ++ a) ++ k) ++ b) ++ n) ++ m) ++ p) ++ e ≡ o ++ (a ++ (k ++ (b ++ (n ++ (m ++ (p ++ e))))))
 kind_regroup o a k b n m p e = simp append_assoc
@@ -99,10 +90,6 @@ offers_plain = refl
 pub told_as : {T E : Type 0} (r : Result T E) (old new : List ℕ) (d e : Data) → d ≡ e → OnOk r (new ≡ old ++ compact_text d) → OnOk r (new ≡ old ++ compact_text e)
 told_as r old new d e same h = subst (λ x. OnOk r (new ≡ old ++ compact_text x)) same h
 
--- where a line is the one before once more, both are one
-pub same_again : (lines : List LineFacts) (again : List ℕ) (at before : ℕ) (line last : LineFacts) → All (IsAgain lines) again → Contains again at → at ≡ suc before
-    → slice_get lines before ≡ Some last → slice_get lines at ≡ Some line → last ≡ line
-same_again lines again at before line last all (k, below, is) next first here =
-    let known : IsAgain lines at = subst (IsAgain lines) is (all k at below) in
-    let same : known.before ≡ before = omega (arith, known.next, next) in
-    same_Some last known.line (sym first ∙ ap (slice_get lines) (sym same) ∙ known.first) ∙ same_Some known.line line (sym known.same ∙ here)
+-- lines with one field and the same paths are one
+pub same_line : (a b : LineFacts) → a.field ≡ b.field → a.nodes ≡ b.nodes → a ≡ b
+same_line a b field nodes = λ i. record { field = field i; nodes = nodes i }

@@ -1,7 +1,7 @@
 //! Refutations, and lists of paths and of lines, as text.
 
 ghost use Rattle.std.specs.Prelude.{◌≡◌, ◌++◌, ◌<◌, ◌+◌, [], ◌∷◌, List, ℕ, codes, false, map, Contains, IfOk, IfSome, IsTrue, OnOk};
-ghost use Rattle.certificate_text.specs.Out.{IsTold};
+ghost use Rattle.certificate_text.specs.Out.{IsKept, IsTold};
 ghost use Rattle.certificate_text.specs.Paths.{path_text, steps_text};
 ghost use Rattle.certificate_text.specs.Told.{conflict_data, item_data, line_data, lines_data, named_data, path_data, paths_data, refutation_data};
 ghost use Rattle.serde_json.specs.View.{items_of};
@@ -166,16 +166,35 @@ pub(crate) fn push_line_items(out: &mut Vec<u8>, lines: &Lines) -> Result<(), Al
     for (index, line) in lines.as_slice().iter().enumerate() {
         push_comma(out, index > 0)?;
         let is_again = is_next(again, next, index);
-        if is_again {
-            next += 1;
-        }
-        if line.nodes().is_small() {
-            push_told(out, &mut few, line, is_again)?;
-        } else {
-            push_told(out, &mut many, line, is_again)?;
-        }
+        next += usize::from(is_again);
+        push_kept(out, &mut few, &mut many, line, is_again)?;
     }
     Ok(())
+}
+
+/// Puts a line after bytes, which takes over from the last line with few paths that is kept, or
+/// from the last with many, and is then kept in its place.
+fn push_kept(
+    out: &mut Vec<u8>,
+    few: &mut Option<Told>,
+    many: &mut Option<Told>,
+    line: &Line,
+    is_again: bool,
+) -> Result<(), AllocError>
+    requires few { IfSome few.old IsTold }
+    requires many { IfSome many.old IsTold }
+    requires again { IsTrue is_again → IsKept few.old many.old line.now }
+    ensures few { OnOk result (IfSome few.new IsTold) }
+    ensures many { OnOk result (IfSome many.new IsTold) }
+    ensures kept { OnOk result (IsKept few.new many.new line.now) }
+    ensures text { OnOk result (out.new.items
+        ≡ out.old.items ++ compact_text (line_data line.now)) }
+{
+    if line.nodes().is_small() {
+        push_told(out, few, line, is_again)
+    } else {
+        push_told(out, many, line, is_again)
+    }
 }
 
 /// Whether the place of a line is the one that comes next among those of lines that are the one
