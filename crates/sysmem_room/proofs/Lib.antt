@@ -5,8 +5,10 @@ mod Fewer
 mod Foreseeing
 mod Lacking
 mod Logs
+mod Offspring
 mod Owning
 mod Placing
 pub mod Reading
 mod Still
+mod TreeRefusing
 pub mod CallerLemmas

@@ -2,6 +2,7 @@ pub mod Agreeing
 pub mod Counting
 pub mod Entering
 pub mod Lacking
+pub mod Limits
 pub mod Log
 pub mod Places
 pub mod Refusals
