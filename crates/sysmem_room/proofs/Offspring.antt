@@ -1,6 +1,6 @@
 -- How many nodes are below each child of the root, as nodes are made.
 use Rattle.std.proofs.Common.{◌≡◌, ◌≢◌, ◌<◌, ◌≤◌, ◌+◌, ◌==◌, ℕ, zero, suc, Bool, true, false, ◌&&◌, List, [], ◌∷◌, ◌++◌, Option, None, Some, Ok, get_or, length, replicate, slice_get, slice_set, refl, sym, ◌∙◌, ap, subst, arith, rules, tests}
-use Rattle.std.specs.Prelude.{IfSome, is_some, option_and_then, position, if◌then◌else◌}
+use Rattle.std.specs.Prelude.{IfSome, is_some, nat_le, option_and_then, option_map, position, unwrap_or, if◌then◌else◌}
 use Rattle.std.proofs.lemmas.List.{get_or-set_other, get_or-set_same, length-replicate, length-set}
 use Rattle.std.proofs.lemmas.List.Quantifiers.{position-Some}
 use Rattle.std.proofs.lemmas.Option.{option_and_then_some, same_Some, slice_get-get_or, slice_get_within}
@@ -17,7 +17,8 @@ use Rattle.sysmem_tree.specs.Table.{makes}
 use Rattle.sysmem_tree.specs.Tree.{Applied, applied, first_tree, new_node, node_after, nodes_made}
 use Rattle.sysmem_tree.proofs.CallerLemmas.{accepted, led_kid, node_within}
 use Rattle.sysmem_room.specs.Counting.{nodes_by}
-use Rattle.sysmem_room.specs.Limits.{AreCounted, below_among, counts_after, is_below, offspring}
+use Rattle.sysmem_room.specs.declared.limits.Limits.{Limits}
+use Rattle.sysmem_room.specs.Limits.{AreCounted, below_among, counts_after, is_below, is_full, is_spent, offspring}
 use Rattle.sysmem_room.proofs.Counting.{grows}
 use Rattle.sysmem_room.proofs.Fewer.{few_children}
 use Rattle.sysmem_room.proofs.Placing.{none_yet}
@@ -58,7 +59,7 @@ still_counted old new counts still many are = record { room = are.room; each = �
 -- the ordinals of a node's children are fewer than these
 kid_few : (p : ℕ) (xs : List NodeFacts) (a many o k : ℕ) (y : NodeFacts) → ordinals p xs ≡ count_from a many → slice_get xs k ≡ Some y → ordinal_under p y.birth ≡ Some o → o < a + many
 kid_few p [] a many o k y is here under = absurd (cc)
-kid_few p (x ∷ xs) a many o k y is here under = at k here (ordinal_under p x.birth) refl where
+kid_few p (x ∷ xs) a many o k y is here under = at k here (ordinal_under p x.birth) refl (λ j b m r there. kid_few p xs b m o j y r there under) where
   skip : ordinal_under p x.birth ≡ None → ordinals p (x ∷ xs) ≡ ordinals p xs
   skip e = rw e refl
 
@@ -69,19 +70,18 @@ kid_few p (x ∷ xs) a many o k y is here under = at k here (ordinal_under p x.b
   first_is u zero e = absurd (cc)
   first_is u (suc m) e = (m, refl, cc, cc)
 
-  at : (k : ℕ) → slice_get (x ∷ xs) k ≡ Some y → (ox : Option ℕ) → ordinal_under p x.birth ≡ ox → o < a + many
-  at zero here None e =
-      let same : x ≡ y = same_Some x y here in
-      let none : ordinal_under p y.birth ≡ None = subst (λ (z : NodeFacts). ordinal_under p z.birth ≡ None) same e in
-      absurd (cc)
-  at zero here (Some u) e =
+  at : (k : ℕ) → slice_get (x ∷ xs) k ≡ Some y → (ox : Option ℕ) → ordinal_under p x.birth ≡ ox
+      → ((j b m : ℕ) → ordinals p xs ≡ count_from b m → slice_get xs j ≡ Some y → o < b + m) → o < a + many
+  at zero here None e ih =
+      absurd (let same : x ≡ y = same_Some x y here in let none : ordinal_under p y.birth ≡ None = subst (λ (z : NodeFacts). ordinal_under p z.birth ≡ None) same e in cc)
+  at zero here (Some u) e ih =
       let (m, all, first, _) = first_is u many (sym (take_one u e) ∙ is) in
       let same : u ≡ o = same_Some u o (sym (subst (λ (z : NodeFacts). ordinal_under p z.birth ≡ Some u) (same_Some x y here) e) ∙ under) in
       omega (arith, first, same, all)
-  at (suc k) here None e = kid_few p xs a many o k y (sym (skip e) ∙ is) here under
-  at (suc k) here (Some u) e =
+  at (suc k) here None e ih = ih k a many (sym (skip e) ∙ is) here
+  at (suc k) here (Some u) e ih =
       let (m, all, _, rest) = first_is u many (sym (take_one u e) ∙ is) in
-      let less = kid_few p xs (a + 1) m o k y rest here under in
+      let less = ih k (a + 1) m rest here in
       omega (arith, less, all)
 
 -- what was born as this child has its ordinal
@@ -96,7 +96,7 @@ born_under p o (Some b) is = by (b.parent == p) (b.ordinal == o) refl is where
 -- a path that leads to a node begins with one of the root's children, of which there are fewer than 128
 pub few_tops : (nodes : List NodeFacts) → IsTree nodes → (path : List ℕ) → is_some (node_at nodes path) ≡ true → IfSome (slice_get path 0) (λ top. top < 128)
 few_tops nodes tree [] leads = tt
-few_tops [] tree (top ∷ rest) leads = absurd (cc (tree.root))
+few_tops [] tree (top ∷ rest) leads = absurd tree.root
 few_tops (d ∷ nodes) tree (top ∷ rest) leads = by (child_of (d ∷ nodes) 0 top) refl leads where
   by : (c : Option ℕ) → child_of (d ∷ nodes) 0 top ≡ c → is_some (option_and_then (λ child. led_to (d ∷ nodes) child rest) c) ≡ true → top < 128
   by None found on = absurd (cc)
@@ -145,35 +145,35 @@ goes_on top first o [] = refl
 goes_on top first o (next ∷ rest) = refl
 
 unmade : (counts path : List ℕ) (kind : ActionKind) → is_some (makes kind) ≡ false → counts_after counts path kind ≡ counts
-unmade counts [] kind is = refl
-unmade counts (top ∷ rest) kind is = ap (λ b. if b then slice_set counts top (get_or counts top 0 + 1) else counts) is
+unmade counts [] _ is = refl
+unmade counts (top ∷ rest) _ is = ap (λ b. if b then slice_set counts top (get_or counts top 0 + 1) else counts) is
 
 -- the counts with one more node, at the end of a path that goes on from this one
 one_more : (old new : List NodeFacts) (counts path : List ℕ) (kind : ActionKind) (o : ℕ) → AreStill old new → length new ≡ suc (length old) → path_of new (length old) ≡ path ++ o ∷ []
     → IfSome (slice_get path 0) (λ top. top < 128) → is_some (makes kind) ≡ true → AreCounted old counts → AreCounted new (counts_after counts path kind)
-one_more old new counts [] kind o still many at few made are = record {
+one_more old new counts [] _ o still many at few made are = record {
   room = are.room;
   each = λ top small. are.each top small ∙ sym (let grown : offspring new top ≡ offspring old top + 0 = grown_offspring old new top (o ∷ []) still many at in omega (arith, grown));
 }
-one_more old new counts (first ∷ rest) kind o still many at few made are =
+one_more old new counts (first ∷ rest) _ o still many at few made are =
     subst (λ (b : Bool). AreCounted new (if b then slice_set counts first (get_or counts first 0 + 1) else counts)) (sym made)
     (record { room = length-set counts first (get_or counts first 0 + 1) ∙ are.room; each = λ top small. by top small (first == top) refl }) where
-  grown : (top : ℕ) (b : Bool) → (first == top) ≡ b → offspring new top ≡ offspring old top + (if b then 1 else 0)
-  grown top b is = grown_offspring old new top ((first ∷ rest) ++ o ∷ []) still many at ∙ ap (λ x. offspring old top + (if x then 1 else 0)) (goes_on top first o rest ∙ is)
+      grown : (top : ℕ) (b : Bool) → (first == top) ≡ b → offspring new top ≡ offspring old top + (if b then 1 else 0)
+      grown top b is = grown_offspring old new top ((first ∷ rest) ++ o ∷ []) still many at ∙ ap (λ x. offspring old top + (if x then 1 else 0)) (goes_on top first o rest ∙ is)
 
-  apart : (top : ℕ) → (first == top) ≡ false → top ≡ first → ⊥
-  apart top is same = let t : (first == top) ≡ true = search (rules, tests, sym same) in absurd (cc)
+      apart : (top : ℕ) → (first == top) ≡ false → top ≡ first → ⊥
+      apart top is same = let t : (first == top) ≡ true = search (rules, tests, sym same) in absurd (cc)
 
-  by : (top : ℕ) → top < 128 → (b : Bool) → (first == top) ≡ b → get_or (slice_set counts first (get_or counts first 0 + 1)) top 0 ≡ offspring new top
-  by top small true is =
-      let same : first ≡ top = search (rules, tests, is) in
-      let here : get_or (slice_set counts first (get_or counts first 0 + 1)) first 0 ≡ get_or counts first 0 + 1 =
-      get_or-set_same counts first (get_or counts first 0 + 1) 0 (omega (arith, few, are.room)) in
-      let was : get_or counts first 0 ≡ offspring old top = ap (λ x. get_or counts x 0) same ∙ are.each top small in
-      ap (λ x. get_or (slice_set counts first (get_or counts first 0 + 1)) x 0) (sym same) ∙ (here ∙ (ap (λ n. n + 1) was ∙ sym (grown top true is)))
-  by top small false is =
-      let more : offspring new top ≡ offspring old top + 0 = grown top false is in
-      get_or-set_other counts first top (get_or counts first 0 + 1) 0 (apart top is) ∙ (are.each top small ∙ omega (arith, more))
+      by : (top : ℕ) → top < 128 → (b : Bool) → (first == top) ≡ b → get_or (slice_set counts first (get_or counts first 0 + 1)) top 0 ≡ offspring new top
+      by top small true is =
+          let same : first ≡ top = search (rules, tests, is) in
+          let here : get_or (slice_set counts first (get_or counts first 0 + 1)) first 0 ≡ get_or counts first 0 + 1 =
+          get_or-set_same counts first (get_or counts first 0 + 1) 0 (omega (arith, few, are.room)) in
+          let was : get_or counts first 0 ≡ offspring old top = ap (λ x. get_or counts x 0) same ∙ are.each top small in
+          ap (λ x. get_or (slice_set counts first (get_or counts first 0 + 1)) x 0) (sym same) ∙ (here ∙ (ap (λ n. n + 1) was ∙ sym (grown top true is)))
+      by top small false is =
+          let more : offspring new top ≡ offspring old top + 0 = grown top false is in
+          get_or-set_other counts first top (get_or counts first 0 + 1) 0 (apart top is) ∙ (are.each top small ∙ omega (arith, more))
 
 -- after an accepted action on the node at a path the counts are those of the root's children
 pub acted_counted : OnePath → (t : TreeFacts) (i : ℕ) (deed : Deed) (after : Applied) (path counts : List ℕ) → IsTree t.nodes → IsTree after.tree.nodes → AreStill t.nodes after.tree.nodes
@@ -195,3 +195,13 @@ acted_counted one t i deed after path counts tree grown still leads is are = by 
 -- nothing is below a child of a root alone
 pub first_counted : AreCounted first_tree.nodes (replicate 128 0)
 first_counted = record { room = length-replicate {A = ℕ} 128 0; each = λ top few. none_yet 128 top }
+
+-- the limits are spent where the count says so
+pub spent_by_count : (limits : Limits) (nodes : List NodeFacts) (counts path : List ℕ) (kind : ActionKind) (most top : ℕ) → AreCounted nodes counts → top < 128 → slice_get path 0 ≡ Some top
+    → limits.offspring ≡ Some most → is_some (makes kind) ≡ true → nat_le most (get_or counts top 0) ≡ is_spent limits nodes path kind
+spent_by_count limits nodes counts [] _ most top are few first limit made = absurd (cc)
+spent_by_count limits nodes counts (t ∷ rest) _ most top are few first limit made =
+    ap (nat_le most) (are.each top few)
+    ∙ (ap (λ x. nat_le most (offspring nodes x)) (sym (same_Some t top first))
+    ∙ (sym (ap (λ o. unwrap_or (option_map (λ m. nat_le m (offspring nodes t)) o) false) limit)
+    ∙ sym (ap (λ b. b && is_full limits nodes t) made)))

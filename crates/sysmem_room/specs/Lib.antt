@@ -7,3 +7,4 @@ pub mod Log
 pub mod Places
 pub mod Refusals
 pub mod Ruling
+pub mod TreeRefusals

@@ -28,6 +28,7 @@ mod places;
 mod refusing;
 mod room;
 mod seen;
+mod tree_refusing;
 mod verdicts;
 
 pub use agreeing::has_actions;

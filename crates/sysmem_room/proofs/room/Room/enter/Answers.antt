@@ -44,14 +44,14 @@ add-requires-clause-duplicates g c =
     let held : ArePlaces c.self.inside.book.history c.deref_mut.result.now = subst (λ p. ArePlaces c.self.inside.book.history p) (sym c.deref_mut.ensures.value) places in
     omega (arith, (held.end c.number_of.result c.number_of.ensures.few).few, many)
 
-pub add-2-requires-clause-few : goal.add-2-requires-clause-few
-add-2-requires-clause-few g c =
+pub add-requires-2-clause-few : goal.add-requires-2-clause-few
+add-requires-2-clause-few g c =
     let leads : node_at c.self.inside.book.state.tree.nodes c.args.path.now ≡ Some c.args.event.node = subst (λ (b : BookFacts). node_at b.state.tree.nodes c.args.path.now ≡ Some c.args.event.node) (sym c.self.view_is) c.requires.path in
     let tree : IsTree c.self.inside.book.state.tree.nodes = subst (λ (t : TreeFacts). IsTree t.nodes) c.tree.ensures c.recall_sound.ensures.tree in
     few_tops c.self.inside.book.state.tree.nodes tree c.args.path.now (ap is_some leads)
 
-pub add-2-requires-clause-room : goal.add-2-requires-clause-room
-add-2-requires-clause-room g c =
+pub add-requires-2-clause-room : goal.add-requires-2-clause-room
+add-requires-2-clause-room g c =
     let (_, _, _, _, _, _, _, counted) = c.self.invariant in
     let leads : node_at c.self.inside.book.state.tree.nodes c.args.path.now ≡ Some c.args.event.node = subst (λ (b : BookFacts). node_at b.state.tree.nodes c.args.path.now ≡ Some c.args.event.node) (sym c.self.view_is) c.requires.path in
     let tree : IsTree c.self.inside.book.state.tree.nodes = subst (λ (t : TreeFacts). IsTree t.nodes) c.tree.ensures c.recall_sound.ensures.tree in
@@ -96,10 +96,10 @@ invariant_of-self-2 g c =
     let few = c.few_entries.ensures c.self.inside.book.platform c.self.inside.book.history c.history-entries.ensures.book.legal in
     let history = ap (λ (b : BookFacts). actions_in b.history) c.in_ok-done.ensures.entered in
     let held = subst (λ p. ArePlaces c.self.inside.book.history p) (sym c.deref_mut.ensures.value) places in
-    let after = c.tree-tree.result.now in
+    let after = c.apply.new.self.state.tree in
     let leads : node_at c.self.inside.book.state.tree.nodes c.args.path.now ≡ Some c.args.event.node = subst (λ (b : BookFacts). node_at b.state.tree.nodes c.args.path.now ≡ Some c.args.event.node) (sym c.self.view_is) c.requires.path in
     let was_tree : IsTree c.self.inside.book.state.tree.nodes = subst (λ (t : TreeFacts). IsTree t.nodes) c.tree.ensures c.recall_sound.ensures.tree in
-    let tree : IsTree after.nodes = c.node_count.ensures.sound.tree in (
+    let tree : IsTree after.nodes = subst (λ (t : TreeFacts). IsTree t.nodes) c.tree-tree.ensures c.node_count.ensures.sound.tree in (
       history ∙ omega (arith, push, actions, c.add-3.ensures.total),
       omega (arith, amount, c.split_off-share.ensures.amount_left),
       omega (arith, parts, more, c.split_off-share.ensures.parts_left, c.parts_of-parts.ensures, ap nodes_by c.kind-kind.ensures),
