@@ -1,4 +1,5 @@
 mod Asking
+mod Bounding
 mod Counting
 mod Disputing
 mod Fewer

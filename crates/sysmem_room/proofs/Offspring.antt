@@ -1,9 +1,9 @@
 -- How many nodes are below each child of the root, as nodes are made.
-use Rattle.std.proofs.Common.{◌≡◌, ◌≢◌, ◌<◌, ◌≤◌, ◌+◌, ◌==◌, ℕ, zero, suc, Bool, true, false, ◌&&◌, List, [], ◌∷◌, ◌++◌, Option, None, Some, Ok, get_or, length, replicate, slice_get, slice_set, refl, sym, ◌∙◌, ap, subst, arith, rules, tests}
-use Rattle.std.specs.Prelude.{IfSome, is_some, nat_le, option_and_then, option_map, position, unwrap_or, if◌then◌else◌}
+use Rattle.std.proofs.Common.{◌≡◌, ◌<◌, ◌≤◌, ◌+◌, ◌==◌, ℕ, zero, suc, Bool, true, false, ◌&&◌, List, [], ◌∷◌, ◌++◌, Option, None, Some, Ok, get_or, length, replicate, slice_get, slice_set, refl, sym, ◌∙◌, ap, subst, arith, rules, tests}
+use Rattle.std.specs.Prelude.{IfSome, is_some, nat_le, option_and_then, option_map, unwrap_or, if◌then◌else◌}
 use Rattle.std.proofs.lemmas.List.{get_or-set_other, get_or-set_same, length-replicate, length-set}
 use Rattle.std.proofs.lemmas.List.Quantifiers.{position-Some}
-use Rattle.std.proofs.lemmas.Option.{option_and_then_some, same_Some, slice_get-get_or, slice_get_within}
+use Rattle.std.proofs.lemmas.Option.{same_Some, slice_get-get_or}
 use Rattle.sysmem_tree.specs.declared.action.ActionKind.{ActionKind}
 use Rattle.sysmem_tree.specs.declared.node.Birth.{Birth}
 use Rattle.sysmem_tree.specs.declared.state.NodeState.{NodeState}
@@ -41,11 +41,11 @@ few_below nodes top (suc i) = by (is_below top (path_of nodes i)) (few_below nod
 pub few_offspring : (nodes : List NodeFacts) (top : ℕ) → offspring nodes top ≤ length nodes
 few_offspring nodes top = few_below nodes top (length nodes)
 
-still_offspring : (old new : List NodeFacts) (top : ℕ) → AreStill old new → length new ≡ length old → offspring new top ≡ offspring old top
+pub still_offspring : (old new : List NodeFacts) (top : ℕ) → AreStill old new → length new ≡ length old → offspring new top ≡ offspring old top
 still_offspring old new top still many = ap (below_among new top) many ∙ same_below old new top (length old) still.path
 
 -- one more node is below the child through which its path goes on
-grown_offspring : (old new : List NodeFacts) (top : ℕ) (path : List ℕ) → AreStill old new → length new ≡ suc (length old) → path_of new (length old) ≡ path
+pub grown_offspring : (old new : List NodeFacts) (top : ℕ) (path : List ℕ) → AreStill old new → length new ≡ suc (length old) → path_of new (length old) ≡ path
     → offspring new top ≡ offspring old top + (if is_below top path then 1 else 0)
 grown_offspring old new top path still many is =
     ap (below_among new top) many
@@ -122,7 +122,7 @@ last_of (x ∷ xs) y zero is = absurd (omega (arith, is))
 last_of (x ∷ xs) y (suc k) is = last_of xs y k (omega (arith, is))
 
 -- the path of the node that an action makes goes on from the one on which it was made
-made_path : OnePath → (t : TreeFacts) (i : ℕ) (deed : Deed) (after : Applied) (path : List ℕ) (s : NodeState) → IsTree t.nodes → IsTree after.tree.nodes → AreStill t.nodes after.tree.nodes
+pub made_path : OnePath → (t : TreeFacts) (i : ℕ) (deed : Deed) (after : Applied) (path : List ℕ) (s : NodeState) → IsTree t.nodes → IsTree after.tree.nodes → AreStill t.nodes after.tree.nodes
     → node_at t.nodes path ≡ Some i → applied t i deed ≡ Ok after → makes (kind_of deed) ≡ Some s → length after.tree.nodes ≡ suc (length t.nodes)
     → (o : ℕ) × (path_of after.tree.nodes (length t.nodes) ≡ path ++ o ∷ [])
 made_path one t i deed after path s tree grown still leads is made many =
@@ -140,7 +140,7 @@ made_path one t i deed after path s tree grown still leads is made many =
     (n.state.children, sym ((one after.tree.nodes (length t.nodes) grown (omega (arith, many))).only (path ++ n.state.children ∷ []) on))
 
 -- a node below one on a path is below the child with which that path begins
-goes_on : (top first o : ℕ) (rest : List ℕ) → is_below top ((first ∷ rest) ++ o ∷ []) ≡ (first == top)
+pub goes_on : (top first o : ℕ) (rest : List ℕ) → is_below top ((first ∷ rest) ++ o ∷ []) ≡ (first == top)
 goes_on top first o [] = refl
 goes_on top first o (next ∷ rest) = refl
 

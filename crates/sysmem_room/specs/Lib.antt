@@ -2,6 +2,7 @@ pub mod Agreeing
 pub mod Counting
 pub mod Entering
 pub mod Lacking
+pub mod Laws
 pub mod Limits
 pub mod Log
 pub mod Places

@@ -21,6 +21,7 @@
 mod account;
 mod agreeing;
 mod cell;
+pub mod laws;
 mod limits;
 mod log;
 mod outcome;

@@ -1,5 +1,5 @@
 -- An action that makes a node wants fewer than 128.
-use Rattle.std.proofs.Common.{◌≡◌, ◌<◌, ◌≤◌, Bool, None, Some, ap, arith, false, length, rules, sym, true}
+use Rattle.std.proofs.Common.{◌≡◌, ◌<◌, ◌≤◌, Bool, None, Some, ap, false, length, rules, sym, true}
 use Rattle.std.specs.Prelude.{is_some, if◌then◌else◌}
 use Rattle.sysmem_tree.specs.declared.refusal.Refusal.TheVariants.{TooManyNodes}
 use Rattle.sysmem_tree.specs.Table.{makes}

@@ -2,9 +2,7 @@
 use Rattle.std.proofs.Common.{◌≡◌, ◌∙◌, ◌<◌, Some, ap, get_or, nat_le, rules, slice_get, subst, true}
 use Rattle.std.specs.Prelude.{IfSome, is_some}
 use Rattle.sysmem_alloc.specs.Book.{BookFacts}
-use Rattle.sysmem_tree.specs.Domain.{TreeFacts}
 use Rattle.sysmem_tree.specs.Nodes.{IsTree}
-use Rattle.sysmem_tree.specs.Path.{node_at}
 use Rattle.sysmem_tree.specs.Table.{makes}
 use Rattle.sysmem_room.specs.Limits.{is_spent}
 use Rattle.sysmem_room.proofs.Offspring.{few_tops, spent_by_count}
