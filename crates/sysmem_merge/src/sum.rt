@@ -1,17 +1,20 @@
 //! What participants ask for together, apart from their platform: what a search
 //! keeps of each prefix of choices.
 
-ghost use Rattle.std.specs.Prelude.{◌≡◌, ◌+◌, ◌<◌, ◌≤◌, ◌++◌, List, [], ◌∷◌, IfOk, IfErr, OnOk};
+ghost use Rattle.std.specs.Prelude.{◌≡◌, ◌+◌, ◌<◌, ◌≤◌, ◌↔◌, ◌++◌, List, [], ◌∷◌, IfOk, IfErr, IsTrue, OnOk};
+ghost use Rattle.sysmem_counts.specs.Bounds.{IsTallyOf};
+ghost use Rattle.sysmem_memory.specs.Place.{AreDomainsLeft};
 ghost use Rattle.sysmem_merge.specs.Best.{IsBest, IsUnmet};
+ghost use Rattle.sysmem_merge.specs.Demands.{counts_asked, place_demands};
 ghost use Rattle.sysmem_merge.specs.Reasons.{IsFirstReason};
 ghost use Rattle.sysmem_merge.specs.Share.{IsShareOf};
-ghost use Rattle.sysmem_merge.specs.Sum.{SumsUp, IsMet};
+ghost use Rattle.sysmem_merge.specs.Sum.{HasCountAndPlace, SumsUp, IsMet};
 ghost use Rattle.negotiation_inputs.specs.Participant.{Participant};
 
 use crate::kept::KeptOffer;
 use crate::pair::KeptPair;
 use crate::pair_walk::first_shared;
-use crate::pairs::{add_to_pairs, join_pairs, kept_pairs};
+use crate::pairs::{add_to_pairs, join_pairs_where, kept_pairs};
 use crate::reason::Reason;
 use crate::settings::Settings;
 use crate::share::Share;
@@ -98,7 +101,8 @@ impl Sum {
 
     /// Becomes the sum of the participants above, then those of a share, whatever it
     /// was the sum of. All three were made for this platform, and the participants are
-    /// at most 1,024. It takes no memory.
+    /// at most 1,024. Where no number of buffers or no place suits them, nothing asks for
+    /// their pairs, which aren't joined then. It takes no memory.
     pub fn join_of(&mut self, platform: &Platform, above: &Sum, share: &Share)
         requires { above.now.added + share.now.sum.added ≤ MOST_ADDED }
         ensures sums { (others ps qs : List Participant) → SumsUp self.old platform.now others
@@ -112,7 +116,8 @@ impl Sum {
         self.memory = above.memory;
         self.memory.join(platform.heaps(), &more.memory);
         self.no_image.join_of(&above.no_image, &more.no_image);
-        join_pairs(&mut self.pairs, &above.pairs, &more.pairs);
+        let left = has_count_and_place(platform, &self.counts, &self.memory);
+        join_pairs_where(left, &mut self.pairs, &above.pairs, &more.pairs);
         self.least_size = above.least_size.max(more.least_size);
         self.greatest_size = above.greatest_size.min(more.greatest_size);
         self.added = above.added + more.added;
@@ -172,5 +177,22 @@ impl Sum {
             Ok(_) => Ok(()),
             Err(reason) => Err(reason),
         }
+    }
+}
+
+/// Whether some number of buffers and some place of the platform suit the participants of whom
+/// these are kept.
+fn has_count_and_place(
+    platform: &Platform,
+    counts: &CountBounds,
+    memory: &MemoryBounds,
+) -> bool
+    ensures { (ps : List Participant) → IsTallyOf counts.now (counts_asked ps)
+        → AreDomainsLeft memory.now platform.now.heaps (place_demands ps)
+        → IsTrue result ↔ HasCountAndPlace platform.now ps }
+{
+    match counts.least_count() {
+        Ok(_) => memory.first_place(platform.heaps()).is_some(),
+        Err(_) => false,
     }
 }

@@ -1,8 +1,9 @@
 use Rattle.std.proofs.Common.{sym, subst}
-use Rattle.sysmem_merge.specs.Sum.{SumFacts, SumsUp}
+use Rattle.sysmem_merge.specs.Sum.{HasCountAndPlace, SumFacts, SumsUp}
 use Rattle.sysmem_merge.specs.Demands.{counts_asked, place_demands, offer_demands}
 use Rattle.sysmem_merge.specs.Pairs.{ArePairsKept}
 use Rattle.sysmem_merge.proofs.Reasons.{first_no_place, first_no_offer}
+use Rattle.sysmem_merge.proofs.Summing.{both_found}
 use Rattle.sysmem_merge.proofs.Together.{best_together, unmet_by_count, unmet_by_place, unmet_by_offer}
 use Rattle.sysmem_merge.proofs.sum.Sum.best_settings.Goals as goal
 
@@ -30,14 +31,18 @@ pub returns-in_default-first_shared-clause-none : goal.returns-in_default-first_
 returns-in_default-first_shared-clause-none c ps sums =
     let platform = c.args.platform.now in
     let kept = subst (λ (s : SumFacts). SumsUp s platform ps) (sym c.self.view_is) sums in
-    let paired = subst (ArePairsKept platform.pairs (offer_demands ps)) (sym c.deref.ensures.value) kept.pairs in
+    let has : HasCountAndPlace platform ps = both_found platform ps c.in-Ok.count c.in-Some.place (c.in-Ok.ensures.cases (counts_asked ps) kept.counts)
+        ((rw c.heaps.ensures.heaps at c.in-Some.ensures.first) (place_demands ps) kept.places) in
+    let paired = subst (ArePairsKept platform.pairs (offer_demands ps)) (sym c.deref.ensures.value) (kept.pairs.these has) in
     unmet_by_offer c.args.whole platform ps (c.in_default-first_shared.ensures.none (offer_demands ps) kept.no_image paired kept.sizes)
 
 pub returns-in_default-first_shared-clause-reason : goal.returns-in_default-first_shared-clause-reason
 returns-in_default-first_shared-clause-reason c ps sums =
     let platform = c.args.platform.now in
     let kept = subst (λ (s : SumFacts). SumsUp s platform ps) (sym c.self.view_is) sums in
-    let paired = subst (ArePairsKept platform.pairs (offer_demands ps)) (sym c.deref.ensures.value) kept.pairs in
+    let has : HasCountAndPlace platform ps = both_found platform ps c.in-Ok.count c.in-Some.place (c.in-Ok.ensures.cases (counts_asked ps) kept.counts)
+        ((rw c.heaps.ensures.heaps at c.in-Some.ensures.first) (place_demands ps) kept.places) in
+    let paired = subst (ArePairsKept platform.pairs (offer_demands ps)) (sym c.deref.ensures.value) (kept.pairs.these has) in
     first_no_offer c.args.whole platform ps c.in-Ok.count c.in-Some.place (c.in-Ok.ensures.cases (counts_asked ps) kept.counts)
     ((rw c.heaps.ensures.heaps at c.in-Some.ensures.first) (place_demands ps) kept.places)
     (c.in_default-first_shared.ensures.none (offer_demands ps) kept.no_image paired kept.sizes)
@@ -46,7 +51,9 @@ pub returns-clause-best : goal.returns-clause-best
 returns-clause-best c ps sums =
     let platform = c.args.platform.now in
     let kept = subst (λ (s : SumFacts). SumsUp s platform ps) (sym c.self.view_is) sums in
-    let paired = subst (ArePairsKept platform.pairs (offer_demands ps)) (sym c.deref.ensures.value) kept.pairs in
+    let has : HasCountAndPlace platform ps = both_found platform ps c.in-Ok.count c.in-Some.place (c.in-Ok.ensures.cases (counts_asked ps) kept.counts)
+        ((rw c.heaps.ensures.heaps at c.in-Some.ensures.first) (place_demands ps) kept.places) in
+    let paired = subst (ArePairsKept platform.pairs (offer_demands ps)) (sym c.deref.ensures.value) (kept.pairs.these has) in
     best_together c.args.whole platform ps c.in-Some-first_shared.fit c.in-Some.place c.in-Ok.count
     (c.in-Some-first_shared.ensures.first (offer_demands ps) kept.no_image paired kept.sizes)
     ((rw c.heaps.ensures.heaps at c.in-Some.ensures.first) (place_demands ps) kept.places)
