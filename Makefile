@@ -56,37 +56,40 @@ program-test: prove
 
 # The same where `make test` or `make prove` has just built the program. With `-j` they run side by
 # side: none reads what another writes.
-OF_TEXT := docs/columns docs/definitions docs/schema
-OF_PROGRAM := names pages claims crates schema reports json_reports refusals records values every_selection orders \
-	launcher certificates checks failing_files want_of_memory threads explanations \
-	json_explanations
-OF_WORKBENCH := handles written_records
+OF_PAGES := docs/columns docs/definitions docs/schema
+OF_TEXT := names shown pages claims crates
+OF_PROGRAM := schema reports json_reports refusals records values every_selection orders launcher certificates \
+	checks failing_files want_of_memory threads explanations json_explanations
+OF_WORKBENCH := handles handle_scripts written_records
 
 OF_LIBRARY := live bindings installed
 OF_DEVICES := devices real_drivers
-TESTS := $(OF_LIBRARY:%=tests/%) $(OF_PROGRAM:%=tests/%) $(OF_WORKBENCH:%=tests/%) $(OF_DEVICES:%=tests/%)
+ON_LIBRARY := $(OF_LIBRARY:%=tests/library/%)
+ON_WORKBENCH := $(OF_WORKBENCH:%=tests/program/%)
+ON_PROGRAM := $(OF_TEXT:%=tests/text/%) $(OF_PROGRAM:%=tests/program/%)
+TESTS := $(ON_LIBRARY) $(ON_PROGRAM) $(ON_WORKBENCH) $(OF_DEVICES:%=tests/library/%)
 # A test that calls make isn't this one's: it gets neither its options, which `-B` or `-t` would be,
 # nor its jobs, of which it would warn, nor where this one is to install.
 ALONE := env -u MAKEFLAGS -u MFLAGS -u MAKELEVEL -u DESTDIR -u PREFIX -u LIBDIR
 
-.PHONY: $(OF_TEXT) $(TESTS)
+.PHONY: $(OF_PAGES) $(TESTS)
 # The longest first. Without proofs nobody builds the program that plays scripts through handles.
-built-test: lib-test $(OF_TEXT) $(if $(UNPROVED),$(filter-out $(OF_WORKBENCH:%=tests/%),$(TESTS)),$(TESTS))
+built-test: lib-test $(OF_PAGES) $(if $(UNPROVED),$(filter-out $(ON_WORKBENCH),$(TESTS)),$(TESTS))
 
-$(OF_TEXT):
+$(OF_PAGES):
 	@echo $@ && $(ALONE) $@ --check
 
 # Of the library's tests none builds it beside another.
-$(OF_LIBRARY:%=tests/%): | lib
+$(ON_LIBRARY): | lib
 # The library's tests build the archive that it takes.
-tests/real_drivers: lib-test
+tests/library/real_drivers: lib-test
 
 $(TESTS):
 	@echo $@ && $(ALONE) $@
 
 # The same of what `make build` makes, but for what plays scripts through handles, which is a
 # program of its own, and for real drivers. It goes on where a test fails, to tell of all.
-QUICK := lib-test $(OF_TEXT) $(OF_LIBRARY:%=tests/%) $(OF_PROGRAM:%=tests/%) tests/devices
+QUICK := lib-test $(OF_PAGES) $(ON_LIBRARY) $(ON_PROGRAM) tests/library/devices
 quick-test:
 	@tools/needs build test || true
 	@$(MAKE) --no-print-directory build
@@ -109,27 +112,27 @@ uninstall: lib
 
 # Tests of the library as installed (they need compilers of C and C++, Python and pkg-config).
 lib-test: | lib
-	@echo tests/library && $(ALONE) tests/library
+	@echo tests/library/functions && $(ALONE) tests/library/functions
 
 # Wrong bodies beyond those of the gate, each of which the prover must refuse. Of a crate the
 # functions that they change are checked, and the crates below it are built.
 wrong-bodies:
-	$(ALONE) tests/wrong_bodies
+	$(ALONE) tests/mutants/wrong_bodies
 
 # Wrong bodies that no clause refuses, each of which the test that its file names must show. Each is
 # built without proof, for a minute or more.
 shown-by-test:
-	$(ALONE) tests/shown_by_test
+	$(ALONE) tests/mutants/shown_by_test
 
 # Scripts on threads, each row a thousand times, and two thousand random ones. With `--oracle FILE`
 # these are compared with another implementation, and `--valgrind` plays rows under its tools.
 threads-often: prove
-	$(ALONE) tests/threads_often
+	$(ALONE) tests/program/threads_often
 
 # Live collections through the library's handles again and again, with sanitizers, tools of valgrind
 # and libFuzzer, for an hour or less.
 live-often:
-	$(ALONE) tests/live --often
+	$(ALONE) tests/library/live --often
 
 # Times the proved program beside the reading of the same bytes as a JSON value, and calls on
 # small and large trees; counts instructions of runs, certificates and checks.
@@ -139,6 +142,7 @@ bench: prove
 	$(ALONE) bench/library
 	bench/trees
 	bench/certificates
+	bench/costly
 
 # ---- What is installed beside the program and the library: bindings for Rust, Python and C++, manual
 # pages, completions; and what is packed. With UNPROVED=1 of what `make build` makes.
@@ -159,7 +163,7 @@ packages: lib
 
 # Lintian of the packages, and what they install, run in a system made by debootstrap: as root.
 packages-test: packages
-	$(ALONE) tests/packages
+	$(ALONE) tests/library/packages
 
 # What devices take, and real drivers: they need a C compiler, pkg-config and libdrm, and the second
 # one QEMU and a kernel, which it gets from Debian's packages and keeps in out/.
@@ -169,4 +173,4 @@ install-devices:
 	@$(MAKE) --no-print-directory -f c/devices/devices.mk install
 
 real-drivers: lib
-	$(ALONE) tests/real_drivers --valgrind
+	$(ALONE) tests/library/real_drivers --valgrind

@@ -3,6 +3,8 @@
 // with collections of its own, and each with a participant of one collection. Each has the same
 // settings, which is tested, but the last, where 16 ask for the same.
 //
+// With a path it also writes there what the nine calls are, as a script.
+//
 // It prints in nanoseconds: the processor's time of a negotiation by structs, and by handles; of the
 // latter what its nine calls take, without the collection's begin and end; and of 16 threads the
 // time on the clock of one of all their negotiations, and of one of a collection of 16.
@@ -58,6 +60,25 @@ static int by_handles(void)
     for (int i = 0; i < PARTICIPANTS; i++)
         bad |= mezulobu_collection_release(&seats[i]);
     return bad | (memcmp(&s, &wanted, sizeof s) ? MEZULOBU_NO : MEZULOBU_DONE);
+}
+
+// The script of one more negotiation, without the release of its handles.
+static int write_script(const char *path)
+{
+    static char text[1 << 14];
+    size_t size = sizeof text;
+    struct mezulobu_collection *made[PARTICIPANTS];
+    struct mezulobu_token *root = NULL;
+    struct mezulobu_settings s = {.struct_size = sizeof s};
+    int bad = mezulobu_allocate_shared(allocator, &root);
+    bad |= calls(root, made, &s) | mezulobu_collection_script(made[0], text, &size, NULL, NULL);
+    for (int i = 0; i < PARTICIPANTS; i++)
+        bad |= mezulobu_collection_release(&made[i]);
+    FILE *file = bad ? NULL : fopen(path, "wb");
+    if (!file)
+        return 1;
+    bad = fwrite(text, 1, size, file) != size;
+    return fclose(file) || bad;
 }
 
 static int begin_and_end(void)
@@ -138,7 +159,7 @@ static double together(void)
     return took / (MANY / 10);
 }
 
-int main(void)
+int main(int words, char **word)
 {
     int (*const jobs[])(void) = {by_structs, by_handles, begin_and_end};
     double least[3] = {0};
@@ -151,6 +172,8 @@ int main(void)
             least[job] = round && least[job] < took ? least[job] : took;
         }
     double side_by_side = all_at_once(), one = together();
+    if (words > 1 && write_script(word[1]))
+        return 1;
     mezulobu_allocator_free(allocator);
     printf("%.0f %.0f %.0f %.0f %.0f\n", least[0], least[1], least[1] - least[2], side_by_side, one);
     return 0;

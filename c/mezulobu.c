@@ -8,6 +8,7 @@ uint32_t mezulobu_rt_run_with_proof(const uint8_t *, size_t, uint8_t *, size_t, 
 uint32_t mezulobu_rt_check(const uint8_t *, size_t, const uint8_t *, size_t, uint8_t *, size_t, size_t *);
 uint32_t mezulobu_rt_check_status(const uint8_t *, size_t, const uint8_t *, size_t);
 uint32_t mezulobu_rt_explain(const uint8_t *, size_t, const uint8_t *, size_t, bool, bool, uint8_t *, size_t, size_t *);
+uint32_t mezulobu_rt_record_fault(uint32_t, const uint8_t *, size_t, uint8_t *, size_t, size_t *);
 uint32_t mezulobu_rt_planes(uint32_t, uint64_t, uint32_t, uint32_t, struct mezulobu_layout *);
 uint32_t mezulobu_rt_negotiate(const struct mezulobu_platform *, const struct mezulobu_participant *, size_t,
                                struct mezulobu_settings *, struct mezulobu_refusal *);
@@ -63,6 +64,16 @@ int mezulobu_explain(const void *script, size_t script_size, const char *file, b
 int mezulobu_explain_json(const void *script, size_t script_size, const char *file, bool is_strict, char *text, size_t *text_size)
 {
     return explain_as(script, script_size, file, true, is_strict, text, text_size);
+}
+
+int mezulobu_record_fault(uint32_t kind, const void *record, size_t size, char *text, size_t *text_size)
+{
+    uint8_t none[2];
+    if (lacks(record, size) || !text_size || lacks_room(text, text_size))
+        return MEZULOBU_MISUSED;
+    const uint8_t *in = record ? record : &none[0];
+    uint8_t *out = text ? (uint8_t *)text : &none[1];
+    return (int)mezulobu_rt_record_fault(kind, in, size, out, *text_size, text_size);
 }
 
 int mezulobu_planes(uint32_t format, uint64_t modifier, uint32_t pitch, uint32_t height, struct mezulobu_layout *layout)
@@ -192,12 +203,27 @@ struct meaning {
     const char *call, *text;
 };
 
-/* What is of a call stands before what is of any. The names of E1 to E10 are those of reports. */
+/* What is of a call stands before what is of any: of a call on a handle under its name without the handle's kind, of another under
+ * its whole name. The names of E1 to E10 are those of reports. */
 static const struct meaning meanings[] = {
     {MEZULOBU_MISUSED, "set_name", "misused: the first node is always root"},
     {MEZULOBU_MISUSED, "name_of", "misused: there is no node of that number"},
+    {MEZULOBU_MISUSED, "mezulobu_record_fault", "misused: a null pointer, or a kind that is neither a platform's nor a participant's"},
     {MEZULOBU_REFUSED, "set_name", "refused: a name is 1 to 32 letters, digits, _ or -, and not root, nor n with digits"},
+    {MEZULOBU_REFUSED, "new", "refused: the platform can't be meant; the refusal says which field"},
+    {MEZULOBU_REFUSED, "new_record", "refused: the record has a fault; record_fault says what and where"},
+    {MEZULOBU_REFUSED, "set_constraints", "refused: the participant can't be meant; the refusal says which field"},
+    {MEZULOBU_REFUSED, "set_constraints_record", "refused: the record has a fault; record_fault says what and where"},
+    {MEZULOBU_REFUSED, "script", "refused: it would be longer than a script may be"},
+    {MEZULOBU_REFUSED, "explain", "refused: the collection's script would be longer than a script may be"},
+    {MEZULOBU_REFUSED, "explain_json", "refused: the collection's script would be longer than a script may be"},
+    {MEZULOBU_NO_MEMORY, "check", "E1 NoMemory: the decision had no memory, and stays so"},
+    {MEZULOBU_NO_MEMORY, "wait", "E1 NoMemory: the decision had no memory, and stays so"},
+    {MEZULOBU_NO_MEMORY, "selection", "E1 NoMemory: the decision had no memory, and stays so"},
     {MEZULOBU_NO, "set_name", "no: another node of the collection has this name"},
+    {MEZULOBU_NO, "wait", "no: nothing was decided in that time; explain says who is awaited"},
+    {MEZULOBU_NO, "refusal", "no: check isn't E7, or the domain has groups or is attached; explain tells more"},
+    {MEZULOBU_NO, "mezulobu_record_fault", "no: nothing is wrong with the record"},
     {MEZULOBU_WRONG_STATE, "set_constraints", "E2 WrongState: a collection says once what it asks for"},
     {MEZULOBU_WRONG_STATE, "set_constraints_record", "E2 WrongState: a collection says once what it asks for"},
     {MEZULOBU_WRONG_STATE, "create_child", "E2 WrongState: a child comes before all_children_present"},
@@ -213,18 +239,42 @@ static const struct meaning meanings[] = {
     {MEZULOBU_TOO_MANY_NODES, NULL, "E3 TooManyNodes: a collection has at most 128, those that are gone included"},
     {MEZULOBU_NO_CHILDREN, NULL, "E4 NoChildren: a group has a child before all_children_present"},
     {MEZULOBU_NOT_SELECTED, NULL, "E5 NotSelected: another alternative was chosen"},
-    {MEZULOBU_DOMAIN_FAILED, NULL, "E6 DomainFailed: somebody closed too early, or what it was attached to has no settings"},
+    {MEZULOBU_DOMAIN_FAILED, NULL, "E6 DomainFailed: the domain failed (somebody closed too early, or what it was attached to has no "
+                                   "settings), or no settings were chosen; explain says which"},
     {MEZULOBU_INTERSECTION_EMPTY, NULL, "E7 ConstraintsIntersectionEmpty: no settings meet everybody; explain says who is in the way"},
     {MEZULOBU_TOO_MANY_SELECTIONS, NULL, "E8 TooManyGroupChildCombinations: more than 4,096 selections of alternatives"},
     {MEZULOBU_PENDING, NULL, "E9 Pending: nothing is decided yet; explain says who is awaited"},
     {MEZULOBU_STRANGE, NULL, "E10 Strange: no correct run gives it"},
 };
 
+/* Whether what begins a text is this, which is left out of it then. */
+static bool strip(const char **text, const char *begins)
+{
+    size_t n = strlen(begins);
+    bool good = strlen(*text) >= n && !memcmp(*text, begins, n);
+    *text += good ? n : 0;
+    return good;
+}
+
+/* Whether a name of the table is that of a call: as the header has it, or without what says whose it is. */
+static bool is_name_of(const char *name, const char *call)
+{
+    static const char *const kinds[] = {"allocator_", "token_", "group_", "collection_"};
+    const char *whole = name;
+    if (!strcmp(name, call) || (strip(&whole, "mezulobu_") && !strcmp(whole, call)))
+        return true;
+    (void)strip(&call, "mezulobu_");
+    for (size_t i = 0; i < sizeof kinds / sizeof kinds[0]; i++)
+        if (strip(&call, kinds[i]))
+            return !strcmp(name, call);
+    return false;
+}
+
 const char *mezulobu_status_text(int status, const char *call)
 {
     const char *of = call ? call : "";
     for (size_t i = 0; i < sizeof meanings / sizeof meanings[0]; i++)
-        if (meanings[i].status == status && (!meanings[i].call || !strcmp(meanings[i].call, of)))
+        if (meanings[i].status == status && (!meanings[i].call || is_name_of(meanings[i].call, of)))
             return meanings[i].text;
     return "?";
 }

@@ -21,20 +21,23 @@
 extern "C" {
 #endif
 
-#define MEZULOBU_VERSION 0x00010004u /* major 16 bits, minor 16 bits */
+#define MEZULOBU_VERSION 0x00010005u /* major 16 bits, minor 16 bits */
 
 /* What a call answers: the exit status that the program has of the same, and 2 and 5 for what only
  * a caller can get wrong. */
 enum mezulobu_status {
     MEZULOBU_DONE = 0,      /* done; of a check: yes */
-    MEZULOBU_MISUSED = 2,   /* a null pointer where none may be, or a struct_size that this library
-                             * doesn't know */
-    MEZULOBU_REFUSED = 3,   /* the script or the certificate is refused, or a struct */
+    MEZULOBU_MISUSED = 2,   /* a null pointer where none may be, a handle that is spent or of
+                             * another kind, a struct_size that this library doesn't know, or a
+                             * number that says no record's kind */
+    MEZULOBU_REFUSED = 3,   /* the script, the certificate, a struct, a record or a name is refused;
+                             * of a text of a collection: its script would be too long */
     MEZULOBU_NO_MEMORY = 4, /* memory was refused, to all of it or to a decision */
     MEZULOBU_TOO_SMALL = 5, /* a buffer is too small; each size says what is needed */
     MEZULOBU_NO = 6,        /* a check: no; a strict explanation: not all went well; a negotiation:
-                             * no settings meet everybody; a wait: nothing was decided in that
-                             * time */
+                             * no settings meet everybody; a record: it has no fault; a name: it is
+                             * another node's; a refusal: there is none to tell; a wait: nothing was
+                             * decided in that time */
 
     /* Of live collections alone: why a call is refused, 16 and the number that reports have. E1 is
      * NO_MEMORY. */
@@ -43,8 +46,9 @@ enum mezulobu_status {
                                         * included */
     MEZULOBU_NO_CHILDREN = 20,         /* E4: of all_children_present, of a group without a child */
     MEZULOBU_NOT_SELECTED = 21,        /* E5: another alternative was chosen */
-    MEZULOBU_DOMAIN_FAILED = 22,       /* E6: somebody closed too early, or what it was attached to
-                                        * has no settings */
+    MEZULOBU_DOMAIN_FAILED = 22,       /* E6: the domain failed (somebody closed too early, or what
+                                        * it was attached to has no settings), or no settings were
+                                        * chosen; explain says which */
     MEZULOBU_INTERSECTION_EMPTY = 23,  /* E7: no settings meet everybody:
                                         * mezulobu_collection_explain says who is in the way */
     MEZULOBU_TOO_MANY_SELECTIONS = 24, /* E8: more than 4,096 selections of alternatives */
@@ -161,8 +165,9 @@ struct mezulobu_size {
     uint32_t width, height;
 };
 
-/* A heap, which is named by its index in the platform's list. At least one of the three coherency
- * domains is true. */
+/* A heap, which is named by its index in the platform's list: in a script's records its type is
+ * `heap` and its id the index, so that `{"heap_type": "heap", "id": 1}` is the second one. At least
+ * one of the three coherency domains is true. */
 struct mezulobu_heap {
     bool contiguous, secure;
     bool cpu, ram, inaccessible;
@@ -186,8 +191,10 @@ struct mezulobu_platform {
     size_t n_colors;
 };
 
-/* One image format that a participant takes, and its bounds on such images. Somebody states the
- * size that is wanted, as a mode, as its min_size: where nobody does, an image of 1 by 1 is enough.
+/* One image format that a participant takes, and its bounds on such images. No two entries of a
+ * participant have the same format and modifier, of which "any" counts as one: else it is REFUSED,
+ * by the field image_format_constraints. Somebody states the size that is wanted, as a mode, as its
+ * min_size: where nobody does, an image of 1 by 1 is enough.
  * Alignments round up, so the image may be larger, and max_size bounds it with all that they add,
  * those of others too: who has one mode alone states it as min_size, and no max_size. */
 struct mezulobu_entry {
@@ -302,10 +309,11 @@ enum mezulobu_field {
     MEZULOBU_FIELD_DOMAINS = 43
 };
 
-/* Why there are no settings. At REFUSED (the first three kinds) field is what is amiss in a struct,
- * and index the item of its list. At MISUSED (kind PLATFORM or PARTICIPANT, or 0 of settings) it is
- * whose struct is misused, and of an entry index is its own; of the participant's struct itself
- * index is NOBODY; field is 0.
+/* Why there are no settings. At REFUSED (the first three kinds) field is what is amiss in a struct.
+ * index is the item of its list where that has a format, a modifier or a color that isn't known, or
+ * a pitch_divisor above 65536; whatever else is amiss, index is 0, of whichever item it is. At
+ * MISUSED (kind PLATFORM or PARTICIPANT, or 0 of settings) it is whose struct is misused, and of an
+ * entry index is its own; of the participant's struct itself index is NOBODY; field is 0.
  *
  * At NO the participants before who can share settings, and those up to who can't: who is the first
  * with whom there are none. So the order of the participants is a ranking: those that can be done
@@ -370,8 +378,8 @@ int mezulobu_planes(uint32_t format, uint64_t modifier, uint32_t pitch, uint32_t
 const char *mezulobu_status_name(int status);
 
 /* What a status means, in one line for people, as "E9 Pending: nothing is decided yet; explain says
- * who is awaited"; of the call of this name, as "set_name", what would be right there. call may be
- * null. "?" of a number that is none. */
+ * who is awaited"; of the call of this name, as "mezulobu_token_set_name" or "set_name", what would
+ * be right there. call may be null. "?" of a number that is none. */
 const char *mezulobu_status_text(int status, const char *call);
 
 /* The version of the library, as MEZULOBU_VERSION is that of the header. */
@@ -412,6 +420,10 @@ uint32_t mezulobu_version(void);
  * on the same collection waits until all are entered: some microseconds mostly, and at most what
  * 4,096 selections take.
  *
+ * **A call that acts**, on a token, a group or a collection, is DONE or changes nothing: then its
+ * status is the first reason of its refusal, from WRONG_STATE on, as a report has it of the same
+ * call. It takes no memory but where it is said.
+ *
  * **A call that spends its handle**, which takes a pointer to it (bind, release, close), spends it
  * where it is DONE, and writes NULL there. At any other status the caller still has it. Each handle
  * is freed by being spent, and in no other way. release and close take no memory: close is refused
@@ -429,7 +441,7 @@ struct mezulobu_collection;
  * the platform states nothing that could be meant, and why, which may be null, has kind PLATFORM
  * and says which field. Or from the JSON of a platform as scripts have it: at REFUSED code, which
  * may be null, is the number of its fault, 1 of S1 and so on, and 0 where it is no JSON;
- * mezulobu_fault_name tells its name. */
+ * mezulobu_fault_name tells its name, and mezulobu_record_fault where it is. */
 int mezulobu_allocator_new(const struct mezulobu_platform *platform,
                            struct mezulobu_allocator **allocator, struct mezulobu_refusal *why);
 int mezulobu_allocator_new_record(const void *record, size_t size,
@@ -441,16 +453,25 @@ void mezulobu_allocator_free(struct mezulobu_allocator *allocator);
 /* A new collection, by the token of its root. DONE, MISUSED, NO_MEMORY. */
 int mezulobu_allocate_shared(struct mezulobu_allocator *allocator, struct mezulobu_token **token);
 
-/* Of a token: the right to take part. A call that acts, here and below, takes no memory but where
- * it is said, and is DONE or changes nothing: then its status is the first reason of its refusal,
- * from WRONG_STATE on, as a report has it of the same call. */
+/* Of a token: the right to take part. Each call is DONE or changes nothing, and takes no memory.
+ * duplicate, create_group and bind are refused by DOMAIN_FAILED, and the two that make a node by
+ * TOO_MANY_NODES; release and close of nothing. MISUSED. */
 int mezulobu_token_duplicate(struct mezulobu_token *token, struct mezulobu_token **made);
 int mezulobu_token_create_group(struct mezulobu_token *token, struct mezulobu_group **made);
 int mezulobu_token_bind(struct mezulobu_token **token, struct mezulobu_collection **bound);
 int mezulobu_token_release(struct mezulobu_token **token);
 int mezulobu_token_close(struct mezulobu_token **token);
 
-/* Of a group: alternatives, of which one is selected. */
+/* Of a group: alternatives, of which one is selected. It is made on a token. It has a child for
+ * each alternative, made by create_child, the one that is liked best first; then comes
+ * all_children_present, and the group is released. Each child is a token, which is bound and says
+ * what it asks for. The token on which the group was made is awaited too: release it, or bind it
+ * and ask for nothing. check of the child that was chosen is DONE, of the others NOT_SELECTED.
+ *
+ * Each call is DONE or changes nothing, and takes no memory. WRONG_STATE: create_child or
+ * all_children_present after all_children_present, release before it. NO_CHILDREN:
+ * all_children_present of a group without a child. TOO_MANY_NODES: create_child. DOMAIN_FAILED
+ * and NOT_SELECTED refuse these two. close is refused of nothing. MISUSED. */
 int mezulobu_group_create_child(struct mezulobu_group *group, struct mezulobu_token **made);
 int mezulobu_group_all_children_present(struct mezulobu_group *group);
 int mezulobu_group_release(struct mezulobu_group **group);
@@ -459,7 +480,12 @@ int mezulobu_group_close(struct mezulobu_group **group);
 /* Of a collection: a participant. What it asks for it says once; where asked is null, for nothing.
  * At REFUSED the participant states nothing that could be meant, why has kind PARTICIPANT, who 0,
  * and says which field, and nothing was set. A record is the JSON of constraints as scripts have
- * it, and code as above. NO_MEMORY: nothing was set; it can be tried again. */
+ * it; at REFUSED code, which may be null, is the number of its fault, as of
+ * mezulobu_allocator_new_record. NO_MEMORY: nothing was set; it can be tried again. WRONG_STATE: it
+ * has said already what it asks for. attach_token makes a token for somebody who comes later; it
+ * may be refused by TOO_MANY_NODES. DOMAIN_FAILED and NOT_SELECTED refuse these three. Each call is
+ * DONE or changes nothing; attach_token, release and close take no memory, and release and close
+ * are refused of nothing. MISUSED. */
 int mezulobu_collection_set_constraints(struct mezulobu_collection *collection,
                                         const struct mezulobu_participant *asked,
                                         struct mezulobu_refusal *why);
@@ -469,6 +495,24 @@ int mezulobu_collection_attach_token(struct mezulobu_collection *collection,
                                      struct mezulobu_token **made);
 int mezulobu_collection_release(struct mezulobu_collection **collection);
 int mezulobu_collection_close(struct mezulobu_collection **collection);
+
+/* What is wrong with a record, in words: the name of its first fault, as reports have it, or
+ * "no JSON"; where it is, and what would be right. A text, with its size, TOO_SMALL and NO_MEMORY
+ * as of mezulobu_run's:
+ *
+ *     S4 pixel_format
+ *      --> record:1:62: image_format_constraints[0].pixel_format
+ *       |
+ *     1 | ...aints":[{"pixel_format":"NV21","color_spaces":["SRGB"]}]}
+ *       |                            ^^^^^^ unknown name
+ *       = did you mean NV12?
+ *
+ * kind says whose record it is, MEZULOBU_KIND_PLATFORM or MEZULOBU_KIND_PARTICIPANT; another number
+ * is MISUSED, and nothing is written. DONE: text. NO: nothing is wrong with the record, and the
+ * size is 0. mezulobu_allocator_new_record and mezulobu_collection_set_constraints_record refuse
+ * exactly the records of which this has a text. */
+int mezulobu_record_fault(uint32_t kind, const void *record, size_t size,
+                          char *text, size_t *text_size);
 
 /* What was decided for a collection. DONE: settings, which may be null. Else why there are none, or
  * PENDING; NO_MEMORY: the decision had no memory. The answer stays once it isn't PENDING. Of
@@ -495,17 +539,19 @@ int mezulobu_token_set_name(struct mezulobu_token *token, const char *name);
 int mezulobu_group_set_name(struct mezulobu_group *group, const char *name);
 int mezulobu_collection_set_name(struct mezulobu_collection *collection, const char *name);
 
-/* The name of a handle's own node. A text as above. */
+/* The name of a handle's own node. A text, with its size, TOO_SMALL and NO_MEMORY as of
+ * mezulobu_run's; DONE, MISUSED. */
 int mezulobu_token_name(struct mezulobu_token *token, char *name, size_t *name_size);
 int mezulobu_group_name(struct mezulobu_group *group, char *name, size_t *name_size);
 int mezulobu_collection_name(struct mezulobu_collection *collection, char *name,
                              size_t *name_size);
 
 /* The number of the collection's node: 0 is the first token of all, and each call that makes one
- * takes the next. */
+ * takes the next. DONE, MISUSED. */
 int mezulobu_collection_node(struct mezulobu_collection *collection, uint32_t *node);
 
-/* The name of the node of a number. A text as above; MISUSED where there is no such node. */
+/* The name of the node of a number. A text, with its size, TOO_SMALL and NO_MEMORY as of
+ * mezulobu_run's; DONE; MISUSED, also where there is no such node. */
 int mezulobu_collection_name_of(struct mezulobu_collection *collection, uint32_t node, char *name,
                                 size_t *name_size);
 
@@ -524,19 +570,23 @@ int mezulobu_collection_refusal(struct mezulobu_collection *collection,
                                 struct mezulobu_refusal *why);
 
 /* All calls of the whole collection that were done so far, as a script, and what proves its
- * decisions; texts as above, and certificate and certificate_size may be null. Both are of one
- * moment. mezulobu_run accepts each of its calls and decides the same, and mezulobu_check says yes
- * to the certificate; but a decision that had no memory is made by mezulobu_run, calls behind it may
- * be refused, and mezulobu_check says no. The actor of a call is the node on which it is made, where
- * that has a name and there are 15 names at most. REFUSED: the script would be longer than a script
- * may be; each size is 0. What isn't in it: calls that were refused, check and wait. Of two scripts
- * the later one begins with the calls of the earlier one, under the names of its own moment. */
+ * decisions. Texts, with their sizes, TOO_SMALL and NO_MEMORY as of mezulobu_run's; certificate and
+ * certificate_size may be null. Between two calls a text may grow, and TOO_SMALL come again: so
+ * make room and call until it doesn't. Both are of one moment. mezulobu_run accepts each of its
+ * calls and decides the same, and mezulobu_check says yes to the certificate; but a decision that
+ * had no memory is made by mezulobu_run, calls behind it may be refused, and mezulobu_check says
+ * no. The actor of a call is the node on which it is made, where that has a name and there are 15
+ * names at most. REFUSED: the script would be longer than a script may be; each size is 0. What
+ * isn't in it: calls that were refused, check and wait. Of two scripts the later one begins with
+ * the calls of the earlier one, under the names of its own moment. */
 int mezulobu_collection_script(struct mezulobu_collection *collection, char *text,
                                size_t *text_size, void *certificate, size_t *certificate_size);
 
 /* mezulobu_explain of the script, and mezulobu_explain_json, with "collection" for its file: who is
- * awaited, what decided each value, who is in the way and which changes help. Of a decision that had
- * no memory it says what it would be. REFUSED: there is no such script, and the size is 0. */
+ * awaited, what decided each value, who is in the way and which changes help. Of a decision that
+ * had no memory it says what it would be. A text, with its size, TOO_SMALL, again and again as of
+ * mezulobu_collection_script, and NO_MEMORY. REFUSED: there is no such script, which would be too
+ * long, and the size is 0. */
 int mezulobu_collection_explain(struct mezulobu_collection *collection, char *text,
                                 size_t *text_size);
 int mezulobu_collection_explain_json(struct mezulobu_collection *collection, char *text,

@@ -7,6 +7,8 @@ SHARE := $(DESTDIR)$(PREFIX)/share
 CMAKE := $(LIBDIR)/cmake/Mezulobu
 PROGRAM := $(if $(UNPROVED),out/unproved,crates/sysmem_replay/out)/sysmem_replay
 VERSION := $(shell bindings/version)
+# zero_copy.c needs the library that asks devices, and is installed with it.
+EXAMPLES := $(filter-out examples/zero_copy.c,$(wildcard examples/*.c examples/*.py examples/*.json))
 SAID := s|@VERSION@|$(VERSION)|; s|@MAJOR@|$(firstword $(subst ., ,$(VERSION)))|
 SAID := $(SAID); s|@INCLUDE@|$(shell realpath -m --relative-to='$(CMAKE)' '$(PREFIX)/include')|
 
@@ -24,7 +26,7 @@ manual:
 
 examples:
 	install -d $(SHARE)/doc/mezulobu/examples
-	install -m 644 $(wildcard examples/*.c examples/*.py examples/*.json) $(SHARE)/doc/mezulobu/examples
+	install -m 644 $(EXAMPLES) $(SHARE)/doc/mezulobu/examples
 	install -m 644 docs/GLOSSARY.md docs/sysmem.schema.json $(SHARE)/doc/mezulobu
 	packaging/pages $(SHARE)/doc/mezulobu
 

@@ -18,15 +18,26 @@ def plain(line):
     return "\\&" + line if line[:1] in (".", "'") else line
 
 
+def bold(text):
+    return "\\fB" + text + "\\fR"
+
+
+def code(text):
+    """A piece of code, whose dashes aren't those of words."""
+    return escaped(text).replace("-", "\\-")
+
+
 def inline(text):
     """Words with fonts: code and what is strong in bold, without what links lead to."""
-    parts = re.split(r"(`[^`]*`)", re.sub(r"\[((?:[^]`]|`[^`]*`)*)\]\([^)]*\)", r"\1", text))
+    text = re.sub(r"\[((?:[^]`]|`[^`]*`)*)\]\([^)]*\)", r"\1", text)
     found = []
-    for part in parts:
+    for part in re.split(r"(\*\*(?:`[^`]*`|[^*`])+\*\*|`[^`]*`)", text):
         if part.startswith("`"):
-            found.append("\\fB" + escaped(part[1:-1]).replace("-", "\\-") + "\\fR")
+            found.append(bold(code(part[1:-1])))
+        elif part.startswith("**"):
+            found.append(bold(re.sub(r"`([^`]*)`|([^`]+)", lambda it: code(it[1]) if it[1] else escaped(it[2]), part[2:-2])))
         else:
-            found.append(re.sub(r"\*\*(.+?)\*\*", r"\\fB\1\\fR", escaped(part)))
+            found.append(escaped(part))
     return "".join(found)
 
 
@@ -82,6 +93,13 @@ def items(block):
     yield ".El"
 
 
+def quote(lines):
+    """A paragraph that stands apart."""
+    yield ".Bd -ragged -offset indent"
+    yield from prose(" ".join(lines))
+    yield ".Ed"
+
+
 def blocks(text):
     """The blocks of Markdown: of each its kind and its lines."""
     lines, at = text.split("\n"), 0
@@ -96,6 +114,10 @@ def blocks(text):
             while at < len(lines) and (lines[at].startswith("    ") or not lines[at].strip()):
                 at += 1
             yield "display", [line[4:] for line in "\n".join(lines[begun:at]).rstrip().split("\n")]
+        elif lines[at].startswith(">"):
+            while at < len(lines) and lines[at].startswith(">"):
+                at += 1
+            yield "quote", [line[1:].strip() for line in lines[begun:at]]
         elif lines[at].startswith("#"):
             at += 1
             yield "title", [lines[begun].lstrip("# ")]
@@ -123,5 +145,5 @@ def markdown(text):
         else:
             if kind == "list" and not is_first:
                 yield ".Pp"
-            yield from {"display": display, "table": table, "list": items}[kind](lines)
+            yield from {"display": display, "table": table, "list": items, "quote": quote}[kind](lines)
         is_first = False

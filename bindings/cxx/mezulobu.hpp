@@ -347,18 +347,30 @@ struct RecordFault {
     /// The call, as "set_constraints_record", and the name of its node: none of an allocator's.
     const char *call = "";
     std::string node = {};
+    /// What it is, where in the record, and what would be right.
+    std::string words = {};
 
     /// The name of the fault, as "S5 BadUsage".
     std::string_view fault_name() const { return mezulobu_fault_name(number); }
 
-    /// One line for people, as "set_constraints_record of camera: S5 BadUsage".
+    /// What people read, as "set_constraints_record of camera: S5 usage" and the lines that show it.
     std::string text() const
     {
-        return said_of(call, node) + ": " + (status == MEZULOBU_REFUSED ? mezulobu_fault_name(number) : mezulobu_status_text(status, call));
+        return said_of(call, node) + ": " + (status == MEZULOBU_REFUSED ? words : mezulobu_status_text(status, call));
     }
 };
 
 namespace detail {
+
+/// What is wrong with a record, in words; without memory for these its name alone.
+inline std::string words_of(mezulobu_kind kind, std::string_view record, std::uint32_t number)
+{
+    Text told = filled([&](char *text, std::size_t *size) { return mezulobu_record_fault(kind, record.data(), record.size(), text, size); });
+    if (told.status != MEZULOBU_DONE)
+        return mezulobu_fault_name(number);
+    told.text.pop_back(); // the end of its last line
+    return told.text;
+}
 
 /// A handle of C that one owns: moved, and closed at the end. A call that spends it writes null where it is done.
 template <class T, int (*Close)(T **), int (*Name)(T *, char *, std::size_t *)>
@@ -490,6 +502,8 @@ class Collection : public detail::Handle<mezulobu_collection, mezulobu_collectio
         if (why.status == MEZULOBU_DONE)
             return Done{};
         why.node = name();
+        if (why.status == MEZULOBU_REFUSED)
+            why.words = detail::words_of(MEZULOBU_KIND_PARTICIPANT, record, why.number);
         return unexpected{why};
     }
 
@@ -644,6 +658,8 @@ class Allocator {
         why.status = mezulobu_allocator_new_record(record.data(), record.size(), &made, &why.number);
         if (why.status == MEZULOBU_DONE)
             return Allocator(made);
+        if (why.status == MEZULOBU_REFUSED)
+            why.words = detail::words_of(MEZULOBU_KIND_PLATFORM, record, why.number);
         return unexpected{why};
     }
 

@@ -36,9 +36,10 @@ $(OUT)/mezulobu-devices: $(LIBRARY:%=$(OUT)/devices/%.o) $(COMMAND:%=$(OUT)/devi
 	$(CC) $(CFLAGS) $^ $(DRM_LIBS) -o $@
 
 install: devices
-	install -d $(TO)/bin $(TO)/lib/pkgconfig $(TO)/include $(TO)/share/doc/mezulobu
+	install -d $(TO)/bin $(TO)/lib/pkgconfig $(TO)/include $(TO)/share/doc/mezulobu/examples
 	install -m 755 $(OUT)/mezulobu-devices $(TO)/bin
 	install -m 644 $(FOLDER)/mezulobu_devices.h c/mezulobu.h $(TO)/include
 	install -m 644 docs/DEVICES.md $(TO)/share/doc/mezulobu
+	install -m 644 examples/zero_copy.c $(TO)/share/doc/mezulobu/examples
 	install -m 644 $(OUT)/libmezulobu_devices.a $(TO)/lib
 	sed 's|@PREFIX@|$(PREFIX)|; s|@VERSION@|$(VERSION)|' $(FOLDER)/mezulobu-devices.pc.in > $(TO)/lib/pkgconfig/mezulobu-devices.pc

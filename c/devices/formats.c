@@ -3,7 +3,7 @@
 #include <linux/videodev2.h>
 #include <stddef.h>
 
-/* tests/names compares names, codes, bytes and planes with the definitions. */
+/* tests/text/names compares names, codes, bytes and planes with the definitions. */
 static const struct format formats[] = {
     {"R8G8B8A8", DRM_FORMAT_ABGR8888, V4L2_PIX_FMT_RGBA32, 4, 1, true},
     {"B8G8R8A8", DRM_FORMAT_ARGB8888, V4L2_PIX_FMT_ABGR32, 4, 1, true},

@@ -11,6 +11,12 @@ using mezulobu::Status;
 namespace {
 
 constexpr std::uint32_t NV12 = 0x3231564e;
+constexpr const char *NO_USAGE = R"(S5 usage
+ --> record:1:10: usage
+  |
+1 | {"usage":[]}
+  |          ^^ the list is empty
+  = allowed: a list of none alone, or of one or more of cpu, vulkan, display and video)";
 int passed = 0, failed = 0;
 
 void expect(bool good, const char *what)
@@ -82,7 +88,7 @@ void who_ends_too_early_fails_the_domain()
     expect(camera.check().error() == Status{MEZULOBU_DOMAIN_FAILED} && camera.check().error().name() == "DOMAIN_FAILED", "a failed domain");
     expect(camera.set_no_constraints().error().status == MEZULOBU_DOMAIN_FAILED, "nothing more is set");
     expect(camera.set_no_constraints().error().text()
-               == "set_constraints of n1: E6 DomainFailed: somebody closed too early, or what it was attached to has no settings",
+               == "set_constraints of n1: E6 DomainFailed: the domain failed (somebody closed too early, or what it was attached to has no settings), or no settings were chosen; explain says which",
            "why nothing more is set");
 }
 
@@ -113,16 +119,16 @@ void what_cannot_be_meant_is_refused()
     auto [camera, encoder] = both();
     expect(camera.set_constraints(mezulobu::Participant(0)).error().text() == "set_constraints of n1: the participant: usage", "no usage");
     expect(camera.set_constraints_record("{").error().number == 0, "no JSON");
-    expect(camera.set_constraints_record("").error().text() == "set_constraints_record of n1: no JSON", "nothing in a record");
+    expect(camera.set_constraints_record("").error().text() == "set_constraints_record of n1: no JSON\nthe record is empty, where an object is due", "nothing in a record");
     const auto fault = camera.set_constraints_record("{\"usage\":[]}").error();
-    expect(fault.number == 5 && fault.fault_name() == "S5 BadUsage" && fault.text() == "set_constraints_record of n1: S5 BadUsage", "no usage in a record");
+    expect(fault.number == 5 && fault.fault_name() == "S5 BadUsage" && fault.words == NO_USAGE && fault.text() == "set_constraints_record of n1: " + fault.words, "no usage in a record");
     expect(camera.set_constraints_record("{\"usage\":[\"cpu\"]}").has_value(), "a record");
     expect(camera.set_no_constraints().error().status == MEZULOBU_WRONG_STATE, "set once");
     expect(encoder.set_no_constraints().has_value() && camera.wait().value()->count == 1, "decided");
     expect(camera.refusal().error() == Status{MEZULOBU_NO}, "nobody is in the way");
     expect(mezulobu::Allocator::of({}).error().status == MEZULOBU_REFUSED, "no platform");
     const auto none = mezulobu::Allocator::of_record("{}").error();
-    expect(none.status == MEZULOBU_REFUSED && none.text() == "Allocator::of_record: S3 WrongKind", "no platform in a record");
+    expect(none.status == MEZULOBU_REFUSED && none.text().find("Allocator::of_record: S3 heaps\n --> record:1:1: the record\n") == 0, "no platform in a record");
 }
 
 void the_first_alternative_that_can_be_had_is_selected()

@@ -2,7 +2,7 @@
 import ctypes
 from typing import Any, Dict, List, Tuple
 
-VERSION = 0x00010004
+VERSION = 0x00010005
 
 NOBODY = ctypes.c_size_t(-1).value
 
@@ -269,6 +269,11 @@ CALLS: Dict[str, Tuple[Any, List[Any]]] = {
     "mezulobu_collection_close": (
         ctypes.c_int,
         [ctypes.POINTER(ctypes.c_void_p)],
+    ),
+    "mezulobu_record_fault": (
+        ctypes.c_int,
+        [ctypes.c_uint32, ctypes.c_char_p, ctypes.c_size_t, ctypes.c_void_p,
+         ctypes.POINTER(ctypes.c_size_t)],
     ),
     "mezulobu_collection_check": (
         ctypes.c_int,

@@ -8,18 +8,21 @@ class Status(enum.IntEnum):
     DONE = 0
     """Done; of a check: yes."""
     MISUSED = 2
-    """A null pointer where none may be, or a struct_size that this library
-doesn't know."""
+    """A null pointer where none may be, a handle that is spent or of
+another kind, a struct_size that this library doesn't know, or a
+number that says no record's kind."""
     REFUSED = 3
-    """The script or the certificate is refused, or a struct."""
+    """The script, the certificate, a struct, a record or a name is refused;
+of a text of a collection: its script would be too long."""
     NO_MEMORY = 4
     """Memory was refused, to all of it or to a decision."""
     TOO_SMALL = 5
     """A buffer is too small; each size says what is needed."""
     NO = 6
     """A check: no; a strict explanation: not all went well; a negotiation:
-no settings meet everybody; a wait: nothing was decided in that
-time."""
+no settings meet everybody; a record: it has no fault; a name: it is
+another node's; a refusal: there is none to tell; a wait: nothing was
+decided in that time."""
     WRONG_STATE = 18
     """E2: the handle isn't in a state that allows the call."""
     TOO_MANY_NODES = 19
@@ -30,8 +33,9 @@ included."""
     NOT_SELECTED = 21
     """E5: another alternative was chosen."""
     DOMAIN_FAILED = 22
-    """E6: somebody closed too early, or what it was attached to
-has no settings."""
+    """E6: the domain failed (somebody closed too early, or what
+it was attached to has no settings), or no settings were
+chosen; explain says which."""
     INTERSECTION_EMPTY = 23
     """E7: no settings meet everybody:
 mezulobu_collection_explain says who is in the way."""

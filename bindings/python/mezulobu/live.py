@@ -1,7 +1,7 @@
 """Collections that live: handles on the nodes of one collection, each on whatever thread or in whatever task.
 
 Each handle is a context manager. Whoever leaves one that isn't spent closes its node, and its domain fails if it wasn't ready yet: so a driver that ends early
-keeps nobody waiting. A handle that is spent (`bind`, `release`, `close`) raises `Spent`. Any thread may call at any time: a call that spends a handle waits
+keeps nobody waiting, and an exception that leaves the block fails everybody. To leave without harm call release() first. A handle that is spent (`bind`, `release`, `close`) raises `Spent`. Any thread may call at any time: a call that spends a handle waits
 until other calls on it have returned, and ends its waits.
 """
 from __future__ import annotations
@@ -9,19 +9,20 @@ from __future__ import annotations
 import asyncio
 import ctypes
 import dataclasses
+import math
 import os
 import threading
 import time
 import warnings
 from types import TracebackType
-from typing import Any, Callable, Generic, List, Optional, Set, Tuple, Type, TypeVar, Union
+from typing import Any, Callable, Generic, List, Optional, Set, SupportsFloat, Tuple, Type, TypeVar, Union
 
 from . import _abi
 from ._library import library
 from .chosen import Error, Refusal, Refused, Settings, raise_for, refusal_of, said_of, settings_of
-from .codes import Status
-from .stated import Participant, Platform, flat_participant, flat_platform
-from .texts import filled, given_bytes
+from .codes import Kind, Status
+from .stated import Participant, Platform, flat_participant, flat_platform, told
+from .texts import filled, given_text
 
 # How long one call of the library waits, in milliseconds: who spends a handle waits as long at the most.
 SLICE = 50
@@ -38,12 +39,12 @@ class CallRefused(Error):
 
 
 class RecordRefused(Error):
-    """A record has a fault: `number` is 1 of S1 and so on, and 0 where it is no JSON; `fault` is its name, as S5 BadUsage."""
+    """A record has a fault: `number` is 1 of S1 and so on, and 0 where it is no JSON; `fault` is its name, as S5 BadUsage; `text` says what it is, where, and what would be right."""
 
-    def __init__(self, number: int, call: str, node: Optional[str] = None) -> None:
-        self.number, self.call, self.node = number, call, node
+    def __init__(self, number: int, text: str, call: str, node: Optional[str] = None) -> None:
+        super().__init__(f"{said_of(call, node)}: {text}")
+        self.number, self.text, self.call, self.node = number, text, call, node
         self.fault = str(library.mezulobu_fault_name(number).decode())
-        super().__init__(f"{said_of(call, node)}: {self.fault}")
 
 
 class Spent(Error):
@@ -59,6 +60,20 @@ def _done(status: int, call: str, node: Optional[str] = None) -> None:
         raise MemoryError(f"{said_of(call, node)}: {_meaning(status, call)}")
     if status != Status.DONE:
         raise CallRefused(status, call, node)
+
+
+def _seconds(timeout: Any) -> float:
+    """How long a wait is."""
+    if not isinstance(timeout, SupportsFloat) or math.isnan(timeout):
+        raise TypeError(f"wait: timeout: {told(timeout)} is no number")
+    return float(timeout)
+
+
+def _words_of(kind: Kind, record: bytes, number: int) -> str:
+    """What is wrong with a record, in words; without memory for these its name alone."""
+    status, (text,) = filled(1, lambda *room: library.mezulobu_record_fault(kind, record, len(record), *room))
+    words = text if status == Status.DONE else library.mezulobu_fault_name(number)
+    return str(words.decode()).rstrip()
 
 
 class _Handle:
@@ -140,7 +155,8 @@ class _Handle:
             self.close()
 
     def __repr__(self) -> str:
-        return f"<{type(self).__name__}{' (spent)' if self.is_spent else ''}>"
+        end = "(spent)" if self.is_spent else self._own_name()
+        return f"<{type(self).__name__}{f' {end}' if end else ''}>"
 
 
 class _Node(_Handle):
@@ -172,7 +188,7 @@ class _Node(_Handle):
 
 
 class Token(_Node):
-    """The right to take part: an open token."""
+    """The right to take part: an open token. `with` closes it, which fails everybody who isn't told yet: to leave without harm call release() first."""
 
     _close = library.mezulobu_token_close
     _release = library.mezulobu_token_release
@@ -195,7 +211,7 @@ class Token(_Node):
 
 
 class Group(_Node):
-    """Alternatives, of which one is selected."""
+    """Alternatives, of which one is selected. `with` closes it, which fails everybody who isn't told yet: to leave without harm call release() first."""
 
     _close = library.mezulobu_group_close
     _release = library.mezulobu_group_release
@@ -212,7 +228,7 @@ class Group(_Node):
 
 
 class Collection(_Node):
-    """A participant."""
+    """A participant. `with` closes it, which fails everybody who isn't told yet: to leave without harm call release() first."""
 
     _close = library.mezulobu_collection_close
     _release = library.mezulobu_collection_release
@@ -231,10 +247,11 @@ class Collection(_Node):
 
     def set_constraints_record(self, record: Union[bytes, str]) -> None:
         """The same by the JSON of constraints, as scripts have it. Raises RecordRefused."""
-        code, given, call = ctypes.c_uint32(), given_bytes(record), "set_constraints_record"
+        code, call = ctypes.c_uint32(), "set_constraints_record"
+        given = given_text(call, "the record", record)
         status = self._call(library.mezulobu_collection_set_constraints_record, given, len(given), code)
         if status == Status.REFUSED:
-            raise RecordRefused(code.value, call, self._own_name())
+            raise RecordRefused(code.value, _words_of(Kind.PARTICIPANT, given, code.value), call, self._own_name())
         self._done(status, call)
 
     def attach_token(self) -> Token:
@@ -253,7 +270,7 @@ class Collection(_Node):
     def wait(self, timeout: Optional[float] = None) -> Settings:
         """The settings as soon as they are decided. Raises TimeoutError after so many seconds, and CallRefused where there are none."""
         settings = _abi.mezulobu_settings(ctypes.sizeof(_abi.mezulobu_settings))
-        ends = None if timeout is None else time.monotonic() + timeout
+        ends = None if timeout is None else time.monotonic() + _seconds(timeout)
         while True:
             left = SLICE if ends is None else max(0.0, min(SLICE, (ends - time.monotonic()) * 1000))
             status = self._call(library.mezulobu_collection_wait, int(left + 0.999), settings)
@@ -370,16 +387,17 @@ class Allocator(_Handle):
 
     def __init__(self, platform: Union[Platform, bytes, str]) -> None:
         super().__init__(None)
-        if isinstance(platform, (bytes, str)):
-            code, given = ctypes.c_uint32(), given_bytes(platform)
-            status = library.mezulobu_allocator_new_record(given, len(given), ctypes.byref(self._at), code)
-            if status == Status.REFUSED:
-                raise RecordRefused(code.value, "Allocator")
-            _done(status, "Allocator")
-        else:
+        if isinstance(platform, Platform):
             refusal = _abi.mezulobu_refusal(ctypes.sizeof(_abi.mezulobu_refusal))
             status = library.mezulobu_allocator_new(flat_platform(platform), ctypes.byref(self._at), refusal)
             raise_for(status, "mezulobu_allocator_new", refusal)
+        else:
+            code = ctypes.c_uint32()
+            given = given_text("Allocator", "the platform", platform, "Platform, str or bytes (json.dumps makes one)")
+            status = library.mezulobu_allocator_new_record(given, len(given), ctypes.byref(self._at), code)
+            if status == Status.REFUSED:
+                raise RecordRefused(code.value, _words_of(Kind.PLATFORM, given, code.value), "Allocator")
+            _done(status, "Allocator")
 
     @staticmethod
     def _close(at: Any) -> int:

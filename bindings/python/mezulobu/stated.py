@@ -122,13 +122,13 @@ def fourcc(format: Format) -> int:
     if isinstance(format, int):
         return format
     if not isinstance(format, str):
-        raise TypeError(f"format: {_told(format)} is neither a number nor four letters")
+        raise TypeError(f"format: {told(format)} is neither a number nor four letters")
     if len(format) != 4 or not format.isascii():
         raise ValueError(f"a DRM format has four letters: {format!r}")
     return int.from_bytes(format.encode(), "little")
 
 
-def _told(value: Any) -> str:
+def told(value: Any) -> str:
     """A wrong value, or of a long one what it is."""
     return repr(value) if len(repr(value)) <= 40 else f"a {type(value).__name__}"
 
@@ -138,7 +138,7 @@ def number(name: str, value: Any, bits: int) -> int:
     try:
         made = operator.index(value)
     except TypeError:
-        raise TypeError(f"{name}: {_told(value)} is no integer") from None
+        raise TypeError(f"{name}: {told(value)} is no integer") from None
     if not 0 <= made < 1 << bits:
         raise OverflowError(f"{name}: {value} doesn't fit {bits} bits")
     return made
@@ -147,14 +147,14 @@ def number(name: str, value: Any, bits: int) -> int:
 def a(kind: Type[Kind], name: str, value: Any) -> Kind:
     """What has to be of a kind."""
     if not isinstance(value, kind):
-        raise TypeError(f"{name}: {_told(value)} is no {kind.__name__}")
+        raise TypeError(f"{name}: {told(value)} is no {kind.__name__}")
     return value
 
 
 def listed(kind: Type[Kind], name: str, values: Any) -> Sequence[Kind]:
     """A list of what has to be of a kind."""
     if not isinstance(values, collections.abc.Sequence):
-        raise TypeError(f"{name}: {_told(values)} is no list of {kind.__name__}")
+        raise TypeError(f"{name}: {told(values)} is no list of {kind.__name__}")
     return [a(kind, name, it) for it in values]
 
 
@@ -169,7 +169,7 @@ def put(flat: ctypes.Structure, name: str, value: Any) -> None:
     kind = dict(flat._fields_)[name]
     if kind is _abi.mezulobu_size:
         if not isinstance(value, (tuple, list)) or len(value) != 2:
-            raise TypeError(f"{name}: {_told(value)} is no Size")
+            raise TypeError(f"{name}: {told(value)} is no Size")
         value = kind(*(number(name, it, 32) for it in value))
     elif kind is ctypes.c_bool:
         a(bool, name, value)

@@ -9,6 +9,7 @@ from typing import Any, Callable, List, Tuple, Union
 from ._library import library
 from .chosen import Error, raise_for
 from .codes import Status
+from .stated import told
 
 ROOM = 1 << 16
 """The room of each text at first."""
@@ -53,8 +54,16 @@ def filled(number: int, call: Callable[..., Any]) -> Tuple[int, List[bytes]]:
             return status, [text.raw[: size.value] if text else b"" for text, size in zip(texts, sizes)]
 
 
-def given_bytes(script: Union[bytes, str]) -> bytes:
-    return script.encode() if isinstance(script, str) else bytes(script)
+def given_bytes(call: str, name: str, given: Any, kinds: str = "bytes") -> bytes:
+    """What a call is given by this name: of these kinds, it says of others."""
+    if isinstance(given, (bytes, bytearray, memoryview)):
+        return bytes(given)
+    raise TypeError(f"{call}: {name}: {told(given)} is no {kinds}")
+
+
+def given_text(call: str, name: str, given: Any, kinds: str = "str or bytes (json.dumps makes one)") -> bytes:
+    """The same of a text."""
+    return given.encode() if isinstance(given, str) else given_bytes(call, name, given, kinds)
 
 
 def _raise(status: int, call: str, words: bytes) -> None:
@@ -65,7 +74,7 @@ def _raise(status: int, call: str, words: bytes) -> None:
 
 def run(script: Union[bytes, str]) -> str:
     """The report of a script, which is one JSON value. Raises ScriptRefused or MemoryError."""
-    given = given_bytes(script)
+    given = given_text("run", "the script", script)
     status, (text,) = filled(1, lambda text, size: library.mezulobu_run(given, len(given), text, size, None, None))
     _raise(status, "mezulobu_run", text)
     return text.decode()
@@ -73,7 +82,7 @@ def run(script: Union[bytes, str]) -> str:
 
 def run_with_certificate(script: Union[bytes, str]) -> Tuple[str, bytes]:
     """The report of a script, and the certificate of its decisions."""
-    given = given_bytes(script)
+    given = given_text("run_with_certificate", "the script", script)
     status, (text, proof) = filled(2, lambda *rooms: library.mezulobu_run(given, len(given), *rooms))
     _raise(status, "mezulobu_run", text)
     return text.decode(), proof
@@ -81,8 +90,8 @@ def run_with_certificate(script: Union[bytes, str]) -> Tuple[str, bytes]:
 
 def check(script: Union[bytes, str], certificate: bytes) -> Answer:
     """Tests a certificate against a script."""
-    given = given_bytes(script)
-    words = (given, len(given), certificate, len(certificate))
+    given, proof = given_text("check", "the script", script), given_bytes("check", "the certificate", certificate)
+    words = (given, len(given), proof, len(proof))
     status, (text,) = filled(1, lambda *room: library.mezulobu_check(*words, *room))
     if status != Status.NO:
         _raise(status, "mezulobu_check", text)
@@ -92,7 +101,7 @@ def check(script: Union[bytes, str], certificate: bytes) -> Answer:
 def explain(script: Union[bytes, str], file: str = "script", is_json: bool = False) -> Explanation:
     """Explains a script: where it has a fault, why calls were refused, who is awaited, what decided each value of a choice, and
     who is in the way; with is_json as objects of JSON, one a line. file stands before lines and columns, up to its first 0."""
-    given, name = given_bytes(script), file.encode(errors="replace")
+    given, name = given_text("explain", "the script", script), file.encode(errors="replace")
     call = library.mezulobu_explain_json if is_json else library.mezulobu_explain
     status, (text,) = filled(1, lambda *room: call(given, len(given), name, True, *room))
     outcomes = {Status.DONE: Outcome.ALL_WELL, Status.NO: Outcome.NOT_ALL_WELL, Status.REFUSED: Outcome.FAULTY}

@@ -1,16 +1,34 @@
 """Collections that live, beside what a run of the script that they write decides."""
 import asyncio
+import dataclasses
+import fractions
 import gc
+import json
+import math
 import select
 import threading
 import unittest
 import warnings
+from typing import Any
 
 import mezulobu
 from mezulobu import Color, Entry, Field, Heap, Kind, Pair, Participant, Platform, Size, Status, Usage, live
 
 PLATFORM = Platform([Heap(cpu=True, ram=True)], [Pair("NV12")], [Color.REC709])
 RECORD = b'{"heaps":[{"heap_type":"ram","domains":["cpu"]}],"pairs":[{"pixel_format":"NV12"}],"color_spaces":["REC709"]}'
+
+NO_JSON = """no JSON
+ --> record:1:2
+  |
+1 | {
+  |  ^ expected a key, found the end
+  = the text ends here; still open: the { of line 1, column 1"""
+NO_USAGE = """S5 usage
+ --> record:1:10: usage
+  |
+1 | {"usage":[]}
+  |          ^^ the list is empty
+  = allowed: a list of none alone, or of one or more of cpu, vulkan, display and video"""
 
 
 def asked(camping: int, max_size: Size = Size(), min_count: int = 0) -> Participant:
@@ -133,6 +151,8 @@ class Live(unittest.TestCase):
             encoder.set_constraints(asked(1, Size(32, 32)))
             empty = self.refused(Status.INTERSECTION_EMPTY, camera.check)
             self.assertEqual(str(empty), "check of n1: E7 ConstraintsIntersectionEmpty: no settings meet everybody; explain says who is in the way")
+            undecided = self.refused(Status.DOMAIN_FAILED, camera.attach_token)
+            self.assertTrue(str(undecided).endswith(", or no settings were chosen; explain says which"))
             why = encoder.refusal()
             assert why is not None
             self.assertEqual((why.who, why.field, why.kind, why.alone), (encoder.node, Field.MAX_SIZE, Kind.OFFERS, True))
@@ -146,21 +166,65 @@ class Live(unittest.TestCase):
             self.assertEqual((caught.exception.refusal.field, caught.exception.node), (Field.USAGE, "n1"))
             self.assertEqual(str(caught.exception), "set_constraints of n1: the participant: usage")
             camera.set_name("camera")
-            for record, number, told in ((b"{", 0, "no JSON"), (b'{"usage":[]}', 5, "S5 BadUsage")):
+            for record, number, name, told in ((b"{", 0, "no JSON", NO_JSON), (b'{"usage":[]}', 5, "S5 BadUsage", NO_USAGE)):
                 with self.assertRaises(live.RecordRefused) as fault:
                     camera.set_constraints_record(record)
                 known = fault.exception
                 self.assertEqual((known.number, known.call, known.node), (number, "set_constraints_record", "camera"))
-                self.assertEqual((str(known), known.fault), (f"set_constraints_record of camera: {told}", told))
+                self.assertEqual((str(known), known.fault, known.text), (f"set_constraints_record of camera: {told}", name, told))
             camera.set_constraints_record(b'{"usage":["cpu"]}')
             self.refused(Status.WRONG_STATE, camera.set_constraints, None)
             encoder.set_constraints(None)
             self.assertEqual(camera.wait().count, 1)
             self.assertIsNone(camera.refusal())
-        with self.assertRaisesRegex(live.RecordRefused, r"^Allocator: S3 WrongKind$"):
+        with self.assertRaisesRegex(live.RecordRefused, r"^Allocator: S3 heaps\n --> record:1:1: the record\n"):
             live.Allocator(b"{}")
         with self.assertRaises(mezulobu.Refused):
             live.Allocator(Platform([], [], []))
+
+    def test_what_is_of_another_kind_is_told(self) -> None:
+        camera, encoder = both()
+        wrong: Any
+        with camera, encoder:
+            for wrong, told in (({"usage": ["video"]}, "{'usage': ['video']}"), (5, "5"), (None, "None"), ([123], "[123]"), ({1: "a" * 40}, "a dict")):
+                with self.assertRaises(TypeError) as caught:
+                    camera.set_constraints_record(wrong)
+                self.assertEqual(str(caught.exception), f"set_constraints_record: the record: {told} is no str or bytes (json.dumps makes one)")
+                with self.assertRaises(TypeError) as caught:
+                    live.Allocator(wrong)
+                self.assertEqual(str(caught.exception), f"Allocator: the platform: {told} is no Platform, str or bytes (json.dumps makes one)")
+            for wrong in ("1", b"1", [1], math.nan):
+                with self.assertRaises(TypeError) as caught:
+                    camera.wait(wrong)
+                self.assertEqual(str(caught.exception), f"wait: timeout: {wrong!r} is no number")
+            self.assertIsNone(camera.check())
+            for timeout in (0, 0.0, fractions.Fraction(1, 1000)):
+                with self.assertRaises(TimeoutError):
+                    camera.wait(timeout)  # type: ignore[arg-type]
+            camera.set_constraints_record(bytearray(b'{"usage":["cpu"]}'))
+            encoder.set_constraints(None)
+            self.assertEqual(camera.wait(math.inf).count, 1)
+
+    def test_a_handle_is_shown_by_its_name(self) -> None:
+        with live.Allocator(PLATFORM) as allocator, allocator.allocate_shared() as root, root.duplicate() as token, root.create_group() as group:
+            token.set_name("camera")
+            self.assertEqual([repr(it) for it in (allocator, root, token, group)], ["<Allocator>", "<Token root>", "<Token camera>", "<Group n2>"])
+            with token.bind() as camera:
+                self.assertEqual([repr(token), repr(camera)], ["<Token (spent)>", "<Collection camera>"])
+
+    def test_an_exception_that_leaves_fails_the_others_unless_it_was_released(self) -> None:
+        for is_released, status in ((False, Status.DOMAIN_FAILED), (True, None)):
+            camera, encoder = both()
+            with camera:
+                with self.assertRaises(KeyError), encoder:
+                    if is_released:
+                        encoder.release()
+                    raise KeyError
+                if status:
+                    self.refused(status, camera.check)
+                else:
+                    camera.set_constraints(asked(2))
+                    self.assertEqual(camera.wait(10).count, 2)
 
     def test_the_first_alternative_that_can_be_had_is_selected(self) -> None:
         with live.Allocator(PLATFORM) as allocator, allocator.allocate_shared() as root:
@@ -178,6 +242,49 @@ class Live(unittest.TestCase):
             second.set_constraints(asked(1))
             self.assertEqual((second.wait().count, second.selection()), (1, (1,)))
             self.refused(Status.NOT_SELECTED, first.check)
+
+    def test_the_token_of_a_group_is_awaited_too(self) -> None:
+        for is_bound, stated, count in ((False, None, 2), (True, None, 2), (True, asked(0, min_count=7), 7)):
+            with live.Allocator(PLATFORM) as allocator:
+                camera = allocator.allocate_shared()
+            with camera.create_group() as group:
+                children = [group.create_child().bind() for _ in range(2)]
+                group.all_children_present()
+                group.release()
+            for child in children:
+                child.set_constraints(asked(2))
+            self.assertIsNone(children[0].check())
+            self.assertIn("awaits root /, a token", children[0].explain())
+            if is_bound:
+                bound = camera.bind()
+                bound.set_constraints(stated)
+                settings = bound.check()
+                assert settings is not None
+                self.assertEqual(settings.count, count)
+                bound.release()
+            else:
+                camera.release()
+            self.assertEqual((children[0].wait(10).count, children[0].selection()), (count, (0,)))
+            self.refused(Status.NOT_SELECTED, children[1].check)
+            for child in children:
+                child.release()
+
+    def test_a_struct_platform_has_its_heaps_by_their_index_in_records(self) -> None:
+        heaps = [Heap(cpu=True), Heap(contiguous=True, cpu=True)]
+        with live.Allocator(Platform(heaps, PLATFORM.pairs, PLATFORM.colors)) as allocator:
+            for index in range(2):
+                with allocator.allocate_shared().bind() as camera:
+                    permitted = {"heap_type": "heap", "id": index}
+                    camera.set_constraints_record(json.dumps({"usage": ["cpu"], "buffer_memory_constraints": {"permitted_heaps": [permitted]}}))
+                    self.assertEqual(camera.wait(10).heap, index)
+
+    def test_no_two_entries_have_one_pair(self) -> None:
+        entry = Entry("NV12", Color.REC709)
+        for either in (entry, dataclasses.replace(entry, format=None), dataclasses.replace(entry, modifier=None)):
+            camera, encoder = both()
+            with camera, encoder, self.assertRaises(mezulobu.Refused) as caught:
+                camera.set_constraints(Participant(Usage.VIDEO, entries=[either, either]))
+            self.assertEqual(caught.exception.refusal.field, Field.IMAGE_FORMAT_CONSTRAINTS)
 
     def test_a_late_participant_accepts_the_settings(self) -> None:
         with live.Allocator(RECORD) as allocator:

@@ -220,6 +220,25 @@ class Texts(unittest.TestCase):
         objects = mezulobu.explain(content("one_participant.json"), is_json=True).text.splitlines()
         self.assertTrue(all(line.startswith("{") for line in objects))
 
+    def test_what_is_no_script_is_told(self) -> None:
+        wrong: Any
+        is_none = "is no str or bytes (json.dumps makes one)"
+        for name, call in (("run", mezulobu.run), ("run_with_certificate", mezulobu.run_with_certificate), ("explain", mezulobu.explain)):
+            for wrong in (5, None, {"calls": []}, [123, 125]):
+                with self.assertRaises(TypeError) as caught:
+                    call(wrong)  # type: ignore[operator]
+                self.assertEqual(str(caught.exception), f"{name}: the script: {wrong!r} {is_none}")
+        for script, certificate, said in (
+            ({}, b"", f"the script: {{}} {is_none}"),
+            ("{}", 5, "the certificate: 5 is no bytes"),
+            ("{}", "{}", "the certificate: '{}' is no bytes"),
+        ):
+            with self.assertRaises(TypeError) as caught:
+                mezulobu.check(script, certificate)  # type: ignore[arg-type]
+            self.assertEqual(str(caught.exception), f"check: {said}")
+        given, proof = content("secure_video.json"), content("secure_video.proof")
+        self.assertTrue(mezulobu.check(bytearray(given), memoryview(proof)).is_right)
+
     def test_a_long_report_is_whole(self) -> None:
         checks = ',{"call":"check","on":"root"}' * 4094
         report = mezulobu.run(content("one_participant.json").decode().rstrip().replace("}]}", "}" + checks + "]}"))

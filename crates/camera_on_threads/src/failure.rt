@@ -1,5 +1,7 @@
 //! Why there is nothing to tell.
 
+use live_book::Misnamed;
+use live_script::Unwritten;
 use std::alloc::{AllocError, AllocFailed};
 use std::io;
 use sysmem_participants::AuditFault;
@@ -17,7 +19,9 @@ pub(crate) enum Failure {
     /// A record isn't a platform's, or no constraints.
     Record(Fault),
     Audit(AuditFault),
-    /// Nothing can be printed.
+    Name(Misnamed),
+    Script(Unwritten),
+    /// Nothing can be printed, or no file be written.
     Output,
 }
 
@@ -36,6 +40,12 @@ impl<T: Drop> From<AllocFailed<T>> for Failure {
 impl From<Fault> for Failure {
     fn from(fault: Fault) -> Failure {
         Failure::Record(fault)
+    }
+}
+
+impl From<Unwritten> for Failure {
+    fn from(unwritten: Unwritten) -> Failure {
+        Failure::Script(unwritten)
     }
 }
 

@@ -1,18 +1,20 @@
 //! A camera and an encoder share buffers, each on a thread of its own; once they have them a
-//! recorder is let in, on a third.
+//! recorder is let in, on a third. What happened is written as a script to the file that the first
+//! word names, if there is one.
 #![tactic(auto)]
 
 mod asking;
 mod failure;
+mod happened;
 mod sharing;
 mod start;
 
 use asking::{CAMERA, ENCODER, PLATFORM, RECORDER, asked, platform};
 use failure::Failure;
 use sharing::{Asks, Told, share};
-use std::io;
 use std::marker::Brand;
 use std::sync::ledger::Blank;
+use std::{env, fs, io};
 use sysmem_merge::Settings;
 use sysmem_participants::Allocator;
 use sysmem_search::NoGate;
@@ -29,6 +31,20 @@ fn main(rt: HostRuntime) -> Result<(), Failure> {
     // 129 parts: one for each node that a collection may have, and one that stays with its book
     let told = share::<Brand, HostRuntime>(&rt, alloc, &allocator, Blank::new(129), &asks)?;
     tell_all(&rt, &told)?;
+    write_script(&rt, told.script)
+}
+
+/// Writes what happened to the file that the first word names, if there is one.
+fn write_script(rt: &HostRuntime, script: Option<Vec<u8>>) -> Result<(), Failure> {
+    let mut words = env::args(rt)?;
+    let _program = words.next();
+    let Some(file) = words.next() else {
+        return Ok(());
+    };
+    match script {
+        Some(script) => fs::write(rt, file.as_str(), script)?,
+        None => println!(rt; "no script: somebody acted while a decision was made")?,
+    }
     Ok(())
 }
 

@@ -4,14 +4,15 @@ ghost use Rattle.std.specs.Prelude.{◌≡◌};
 ghost use Rattle.sysmem_room.specs.Counting.{all_parts};
 
 use crate::failure::Failure;
+use crate::happened::script_by;
 use crate::start::Start;
-use std::alloc::Global;
+use std::alloc::{AllocError, Global};
 use std::sync::ledger::{Blank, Ledger};
 use std::sync::{Arc, Mutex, Wait};
 use std::thread;
 use std::thread::Threads;
 use sysmem_merge::Settings;
-use sysmem_participants::{Allocator, Audit, Collection, Stub, Token, audit};
+use sysmem_participants::{Allocator, Audit, Collection, Reader, Stub, Token, audit};
 use sysmem_sanitise::Constraints;
 use sysmem_search::NoGate;
 use sysmem_tree::Refusal;
@@ -24,14 +25,16 @@ pub(crate) struct Asks {
     pub(crate) recorder: Arc<Constraints>,
 }
 
-/// What each was told, and what an audit found of all.
-#[derive(Clone, Copy, Debug)]
+/// What each was told, what an audit found of all, and what happened, as a script.
+#[derive(Drop)]
 pub(crate) struct Told {
     pub(crate) camera: Result<Settings, Refusal>,
     pub(crate) encoder: Result<Settings, Refusal>,
     /// `None` where it wasn't let in.
     pub(crate) recorder: Option<Result<Settings, Refusal>>,
     pub(crate) audit: Audit,
+    /// `None` where somebody acted while a decision was made.
+    pub(crate) script: Option<Vec<u8>>,
 }
 
 /// How a token comes to another thread. A closure can't own one, since a token has to be spent, and
@@ -77,6 +80,7 @@ pub(crate) fn share<L: Ledger + Send + Sync, R: Threads + Wait + Sync>(
     let Ok(mut root) = allocator.allocate_shared::<L>(blank) else {
         return Err(Failure::NoMemory);
     };
+    let reader = root.reader();
     let camera = Mutex::new(root.duplicate(rt).ok());
     let encoder = Mutex::new(root.duplicate(rt).ok());
     let app = Mutex::new(Some(root));
@@ -103,7 +107,7 @@ pub(crate) fn share<L: Ledger + Send + Sync, R: Threads + Wait + Sync>(
     if !have_acted {
         return Err(Failure::NoThread);
     }
-    audited(rt, alloc, parts.into_inner())
+    audited(rt, alloc, parts.into_inner(), reader)
 }
 
 /// Has the three act on a thread each, and waits for their ends. Where one can't be started none
@@ -252,11 +256,12 @@ fn negotiate<L: Ledger, R: Threads + Wait + Sync>(
     Ok(view.settings())
 }
 
-/// What each was told, and what an audit finds of what is left of all handles.
+/// What each was told, what an audit finds of what is left of all handles, and what happened.
 fn audited<L: Ledger, R: Threads + Wait + Sync>(
     rt: &R,
     alloc: Global,
     parts: Parts<L>,
+    reader: Result<Reader<L>, AllocError>,
 ) -> Result<Told, Failure> {
     let (Some(app), Some(camera), Some(encoder)) = (parts.app, parts.camera, parts.encoder) else {
         return Err(Failure::NoMemory);
@@ -269,6 +274,7 @@ fn audited<L: Ledger, R: Threads + Wait + Sync>(
             encoder: encoder.told,
             recorder,
             audit,
+            script: script_by(rt, alloc, &reader?)?,
         }),
         Err((fault, _seen, _stubs)) => Err(Failure::Audit(fault)),
     }

@@ -12,7 +12,7 @@ use crate::trials::{
 };
 use constraint_edits::{Edit, changes, edited, is_absurd};
 use domain_reasons::{choices_in, room_needed};
-use explanation_text::{Items, Words};
+use explanation_text::{Items, Text, Words};
 use script_story::{Deed, Effort, Story, asked_in};
 use std::alloc::{AllocError, Global};
 use std::slice::from_ref;
@@ -270,7 +270,8 @@ fn tell_found(
     let who = group.who_changes(alloc, one, edit, &found.value)?;
     let label = search.label();
     put_change(&mut search.found, trial, label, &who, found);
-    put_choice(&mut search.found, 3, choice)
+    put_choice(&mut search.found, 3, choice);
+    Ok(())
 }
 
 /// Whether those of a group have no settings after an edit of a participant, where that is told
@@ -323,13 +324,19 @@ fn head_of(alloc: Global, search: &Search<'_, '_>) -> Words {
 }
 
 /// Puts a change that was tried, and what it gives.
-fn put_change(items: &mut Items, trial: Trial<'_, '_>, label: &'static str, who: &str, found: Found)
+fn put_change(
+    items: &mut Items,
+    trial: Trial<'_, '_>,
+    label: &'static str,
+    who: &Text,
+    found: Found,
+)
     requires { IsPromised trial.setting.now.platform.now
         (map call_seen trial.setting.now.calls.now) trial.place trial.path.now
         (string_bytes found.line) }
 {
-    let mut words = Words::of(items.alloc(), who);
-    words.put(": ").put(&found.words);
+    let mut words = Words::of_text(items.alloc(), who);
+    words.put(": ").put_text(&found.words);
     items.say(2, label, words);
     items.promise(3, found.into_line())
 }

@@ -147,7 +147,8 @@ fn tell_exchange(
     let choice = choices_in(alloc, group.story, group.root, &line)?;
     say_exchange(search, group, one, other)?;
     put_line(&mut search.found, group, 3, line);
-    put_choice(&mut search.found, 3, choice)
+    put_choice(&mut search.found, 3, choice);
+    Ok(())
 }
 
 fn say_exchange(
@@ -159,10 +160,10 @@ fn say_exchange(
     let alloc = search.found.alloc();
     let who = group.who(alloc, &one)?;
     let whom = group.who(alloc, &other)?;
-    let mut words = Words::of(alloc, &who);
+    let mut words = Words::of_text(alloc, &who);
     words
         .put(" and ")
-        .put(&whom)
+        .put_text(&whom)
         .put(": their constraints exchanged");
     let label = search.label();
     search.found.say(2, label, words);

@@ -16,7 +16,7 @@ use crate::trials::{
 use crate::walk::Walk;
 use constraint_edits::{Amount, Edit, Halving, changes, is_absurd};
 use domain_reasons::choices_in;
-use explanation_text::{Gathered, Items, Words};
+use explanation_text::{Gathered, Items, Text, Words};
 use script_story::Deed;
 use serde_json::Value;
 use std::alloc::{AllocError, Global};
@@ -478,7 +478,8 @@ impl Joint<'_, '_> {
         self.put_parts(items, parts, before)?;
         let choice = choices_in(alloc, self.group.story, self.group.root, &line)?;
         put_line(items, self.group, 2, line);
-        put_choice(items, 2, choice)
+        put_choice(items, 2, choice);
+        Ok(())
     }
 
     /// Puts changes that help together, each by what those before it leave.
@@ -540,8 +541,8 @@ fn stating<'a>(one: &Asked<'a>, value: &'a Value) -> Asked<'a> {
 }
 
 /// Tells a participant, and what it changes.
-fn say_change(items: &mut Items, who: &str, change: &str) {
-    let mut words = Words::of(items.alloc(), who);
-    words.put(": ").put(change);
+fn say_change(items: &mut Items, who: &Text, change: &Text) {
+    let mut words = Words::of_text(items.alloc(), who);
+    words.put(": ").put_text(change);
     items.say(2, "and", words)
 }

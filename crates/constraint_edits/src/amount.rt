@@ -6,6 +6,7 @@ use explanation_text::{Gathered, Words};
 use serde_json::Value;
 use std::alloc::{AllocError, Global};
 use std::fmt;
+use sysmem_counts::Field;
 
 /// The value of a field: a number, or a width and a height.
 #[derive(Clone, Copy, PartialEq, Eq)]
@@ -173,10 +174,8 @@ pub(crate) fn with_amount(
     stated: Amount,
     amount: Amount,
 ) -> Result<Changed, AllocError> {
-    let name = match edit.left_out() {
-        Some(field) => field.name(),
-        None => "",
-    };
+    let left_out = edit.left_out();
+    let name = left_out.map_or("", Field::name);
     let changed = match edit {
         Edit::NoBound(_) => with_bound(alloc, value, name, amount)?,
         Edit::NoMemory(_) => {
@@ -185,7 +184,10 @@ pub(crate) fn with_amount(
         }
         _ => with(alloc, Some(value), name, amount.value(alloc)?)?,
     };
-    let mut words = Words::of(alloc, name);
+    let mut words = Words::new(alloc);
+    if let Some(field) = left_out {
+        words.field(field);
+    }
     words.put(" ");
     match edit {
         Edit::NoBound(_) => words.put_words(&values_in(alloc, entries_of(value), name)?),
@@ -194,7 +196,7 @@ pub(crate) fn with_amount(
     words.put(" becomes ").put_number(amount);
     Ok(Changed {
         value: changed,
-        words: words.done()?,
+        words: words.into_text()?,
     })
 }
 

@@ -7,7 +7,7 @@ use crate::objects::{ENTRIES, MEMORY, entries_of, have, lacking, values_in, with
 use crate::permitting::{meaning, means, permits_more, permitting};
 use crate::taking::{lacks_colour, putting_first, taking_colour, taking_pair};
 use crate::using::{asking_for, asks_for, has_cpu, without_cpu};
-use explanation_text::{Gathered, Words};
+use explanation_text::{Gathered, Text, Words};
 use serde_json::Value;
 use std::alloc::{AllocError, Global};
 use sysmem_counts::Field;
@@ -120,7 +120,7 @@ pub fn edits_on(
 /// Constraints after a change, with what is changed in words.
 pub struct Changed {
     pub value: Value,
-    pub words: String,
+    pub words: Text,
 }
 
 impl Drop for Changed {
@@ -139,7 +139,7 @@ impl Changed {
     }
 
     /// The constraints, and what is changed.
-    pub fn into_parts(self) -> (Value, String)
+    pub fn into_parts(self) -> (Value, Text)
         ensures value { result.0 ≡ self.value }
         ensures words { result.1 ≡ self.words }
     {
@@ -170,11 +170,11 @@ pub fn edited(
 ) -> Result<Option<Changed>, AllocError> {
     match edit {
         Edit::MeansHeap(index) => meaning(alloc, value, heaps, index),
-        Edit::Exchanges(least, most) => exchanged(alloc, value, least.name(), most.name()),
-        Edit::Supports(field) => supporting(alloc, value, field.name()),
-        Edit::NoCount(field) => without(alloc, value, field.name()),
-        Edit::NoMemory(field) => without_memory(alloc, value, field.name()),
-        Edit::NoBound(field) => without_bound(alloc, value, field.name()),
+        Edit::Exchanges(least, most) => exchanged(alloc, value, least, most),
+        Edit::Supports(field) => supporting(alloc, value, field),
+        Edit::NoCount(field) => without(alloc, value, field),
+        Edit::NoMemory(field) => without_memory(alloc, value, field),
+        Edit::NoBound(field) => without_bound(alloc, value, field),
         Edit::TakesColour(colour) => taking_colour(alloc, value, colour.name()),
         Edit::TakesPair(pair) => taking_pair(alloc, value, pair),
         Edit::PermitsHeap(index) => permitting(alloc, value, heaps.get(index)),
@@ -215,19 +215,20 @@ fn is_unsupported(value: &Value, field: Field) -> bool {
     }
 }
 
-fn supporting(alloc: Global, value: &Value, key: &str) -> Result<Option<Changed>, AllocError> {
+fn supporting(alloc: Global, value: &Value, field: Field) -> Result<Option<Changed>, AllocError> {
+    let key = field.name();
     let was = match memory_of(value, key) {
         Some(Value::Bool(true)) => return Ok(None),
         Some(_) => "false",
-        None if key == Field::CpuDomainSupported.name() => return Ok(None),
+        None if field == Field::CpuDomainSupported => return Ok(None),
         None => "(absent, so false)",
     };
     let object = with(alloc, value.get(MEMORY), key, Value::Bool(true))?;
-    let mut words = Words::of(alloc, key);
-    words.put(" ").put(was).put(" becomes true");
+    let mut words = Words::new(alloc);
+    words.field(field).put(" ").put(was).put(" becomes true");
     Ok(Some(Changed {
         value: with(alloc, Some(value), MEMORY, object)?,
-        words: words.done()?,
+        words: words.into_text()?,
     }))
 }
 
@@ -236,27 +237,37 @@ fn memory_of<'a>(value: &'a Value, key: &str) -> Option<&'a Value> {
     value.get(MEMORY)?.get(key)
 }
 
-fn without(alloc: Global, value: &Value, key: &str) -> Result<Option<Changed>, AllocError> {
+fn without(alloc: Global, value: &Value, field: Field) -> Result<Option<Changed>, AllocError> {
+    let key = field.name();
     let Some(member) = value.get(key) else {
         return Ok(None);
     };
     Ok(Some(Changed {
         value: lacking(alloc, value, key)?,
-        words: words_without(alloc, key, member).done()?,
+        words: words_without(alloc, field, member).into_text()?,
     }))
 }
 
-fn without_memory(alloc: Global, value: &Value, key: &str) -> Result<Option<Changed>, AllocError> {
+fn without_memory(
+    alloc: Global,
+    value: &Value,
+    field: Field,
+) -> Result<Option<Changed>, AllocError> {
     let Some(memory) = value.get(MEMORY) else {
         return Ok(None);
     };
-    let Some(change) = without(alloc, memory, key)? else {
+    let Some(change) = without(alloc, memory, field)? else {
         return Ok(None);
     };
     Ok(Some(change.in_memory_of(alloc, value)?))
 }
 
-fn without_bound(alloc: Global, value: &Value, key: &str) -> Result<Option<Changed>, AllocError> {
+fn without_bound(
+    alloc: Global,
+    value: &Value,
+    field: Field,
+) -> Result<Option<Changed>, AllocError> {
+    let key = field.name();
     if !have(value, key) {
         return Ok(None);
     }
@@ -265,9 +276,9 @@ fn without_bound(alloc: Global, value: &Value, key: &str) -> Result<Option<Chang
         copy.add(lacking(alloc, entry, key)?);
     }
     let was = values_in(alloc, entries_of(value), key)?;
-    let mut words = Words::of(alloc, key);
-    words.put(" ").put_words(&was).put(" left out");
-    with_entries(alloc, value, copy.done()?, words.done()?)
+    let mut words = Words::new(alloc);
+    words.field(field).put(" ").put_words(&was).put(" left out");
+    with_entries(alloc, value, copy.done()?, words.into_text()?)
 }
 
 /// The constraints with other entries, and what is changed; `None` where nothing is.
@@ -275,7 +286,7 @@ pub(crate) fn with_entries(
     alloc: Global,
     value: &Value,
     entries: Vec<Value>,
-    words: String,
+    words: Text,
 ) -> Result<Option<Changed>, AllocError> {
     if words.is_empty() {
         return Ok(None);

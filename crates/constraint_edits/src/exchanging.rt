@@ -3,17 +3,18 @@
 use crate::amount::amount_of;
 use crate::edits::{Changed, with_entries};
 use crate::objects::{MEMORY, entries_of, have, with};
-use explanation_text::{Gathered, Words};
+use explanation_text::{Gathered, Text, Words};
 use serde_json::Value;
 use std::alloc::{AllocError, Global};
+use sysmem_counts::Field;
 
 /// The constraints with the values of two fields exchanged wherever the first is above the second;
 /// `None` where it nowhere is.
 pub(crate) fn exchanged(
     alloc: Global,
     value: &Value,
-    least: &str,
-    most: &str,
+    least: Field,
+    most: Field,
 ) -> Result<Option<Changed>, AllocError> {
     if let Some(change) = exchanged_in(alloc, value, least, most)? {
         return Ok(Some(change));
@@ -23,10 +24,10 @@ pub(crate) fn exchanged(
             return Ok(Some(change.in_memory_of(alloc, value)?));
         }
     }
-    if !have(value, least) {
+    if !have(value, least.name()) {
         return Ok(None);
     }
-    let mut words = String::new(alloc);
+    let mut words = Text::new(alloc);
     let mut copy = Gathered::new(alloc);
     for entry in entries_of(value) {
         match exchanged_in(alloc, entry, least, most)? {
@@ -45,10 +46,11 @@ pub(crate) fn exchanged(
 fn exchanged_in(
     alloc: Global,
     object: &Value,
-    least: &str,
-    most: &str,
+    least: Field,
+    most: Field,
 ) -> Result<Option<Changed>, AllocError> {
-    let (Some(low), Some(high)) = (object.get(least), object.get(most)) else {
+    let found = (object.get(least.name()), object.get(most.name()));
+    let (Some(low), Some(high)) = found else {
         return Ok(None);
     };
     let (Some(a), Some(b)) = (amount_of(low), amount_of(high)) else {
@@ -57,13 +59,13 @@ fn exchanged_in(
     if !a.is_above(b) {
         return Ok(None);
     }
-    let lowered = with(alloc, Some(object), least, high.clone()?)?;
-    let mut words = Words::of(alloc, least);
-    words.put(" ").put_number(a).put(" and ");
-    words.put(most).put(" ").put_number(b).put(" exchanged");
+    let lowered = with(alloc, Some(object), least.name(), high.clone()?)?;
+    let mut words = Words::new(alloc);
+    words.field(least).put(" ").put_number(a).put(" and ");
+    words.field(most).put(" ").put_number(b).put(" exchanged");
     Ok(Some(Changed {
-        value: with(alloc, Some(&lowered), most, low.clone()?)?,
-        words: words.done()?,
+        value: with(alloc, Some(&lowered), most.name(), low.clone()?)?,
+        words: words.into_text()?,
     }))
 }
 

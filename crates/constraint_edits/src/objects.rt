@@ -4,6 +4,7 @@ use explanation_text::wording::put_few;
 use explanation_text::{Gathered, Words};
 use serde_json::{Map, Number, Value};
 use std::alloc::{AllocError, Global};
+use sysmem_counts::Field;
 
 pub(crate) const MEMORY: &str = "buffer_memory_constraints";
 
@@ -113,9 +114,9 @@ pub(crate) fn values_in(alloc: Global, entries: &[Value], key: &str) -> Result<W
 }
 
 /// `max_size 1920x1080 left out`.
-pub(crate) fn words_without(alloc: Global, key: &str, value: &Value) -> Words {
-    let mut words = Words::of(alloc, key);
-    words.put(" ");
+pub(crate) fn words_without(alloc: Global, field: Field, value: &Value) -> Words {
+    let mut words = Words::new(alloc);
+    words.field(field).put(" ");
     put_value(&mut words, value);
     words.put(" left out");
     words

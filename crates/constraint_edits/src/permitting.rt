@@ -5,6 +5,7 @@ use crate::objects::{MEMORY, number_value, text_value, with};
 use explanation_text::{Gathered, Words, nearest};
 use serde_json::Value;
 use std::alloc::{AllocError, Global};
+use sysmem_counts::Field;
 use sysmem_memory::{Heap, HeapInfo};
 
 const HEAPS: &str = "permitted_heaps";
@@ -92,7 +93,8 @@ pub(crate) fn permitting(
         copy.add(item.clone()?);
     }
     copy.add(heap_value(alloc, heap)?);
-    let mut words = Words::of(alloc, "permitted_heaps with ");
+    let mut words = Words::new(alloc);
+    words.field(Field::PermittedHeaps).put(" with ");
     words.put(&heap.heap_type).put("#").put_number(heap.id);
     words.put(" too");
     permitted(alloc, value, copy.done()?, words)
@@ -107,7 +109,7 @@ fn permitted(
     let memory = with(alloc, value.get(MEMORY), HEAPS, Value::Array(list))?;
     Ok(Some(Changed {
         value: with(alloc, Some(value), MEMORY, memory)?,
-        words: words.done()?,
+        words: words.into_text()?,
     }))
 }
 
@@ -161,7 +163,8 @@ pub(crate) fn meaning(
 
 /// `permitted_heaps with cma#0 in the place of cmma#0`.
 fn words_for(alloc: Global, heap: &Heap, item: &Value) -> Words {
-    let mut words = Words::of(alloc, "permitted_heaps with ");
+    let mut words = Words::new(alloc);
+    words.field(Field::PermittedHeaps).put(" with ");
     words.put(&heap.heap_type).put("#").put_number(heap.id);
     words.put(" in the place of ");
     words.put(type_in(item)).put("#").put_number(id_in(item));

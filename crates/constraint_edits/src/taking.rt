@@ -4,10 +4,11 @@
 use crate::edits::{Changed, with_entries};
 use crate::objects::{entries_of, lacking, text_value, with};
 use explanation_text::wording::put_few;
-use explanation_text::{Gathered, Words};
+use explanation_text::{Gathered, Text, Words};
 use serde_json::Value;
 use std::alloc::{AllocError, Global};
-use sysmem_formats::Pair;
+use sysmem_counts::Field;
+use sysmem_formats::{Modifier, Pair, PixelFormat};
 
 const COLOURS: &str = "color_spaces";
 
@@ -32,7 +33,7 @@ pub(crate) fn taking_colour(
     value: &Value,
     colour: &str,
 ) -> Result<Option<Changed>, AllocError> {
-    let mut words = String::new(alloc);
+    let mut words = Text::new(alloc);
     let mut copy = Gathered::new(alloc);
     for entry in entries_of(value) {
         let names = names_in(alloc, entry.get(COLOURS))?;
@@ -41,7 +42,7 @@ pub(crate) fn taking_colour(
             continue;
         }
         if words.is_empty() {
-            words = words_beside(alloc, colour, &names).done()?;
+            words = words_beside(alloc, colour, &names).into_text()?;
         }
         copy.add(with_colour(alloc, entry, colour)?);
     }
@@ -60,7 +61,8 @@ pub(crate) fn lacks_colour(alloc: Global, value: &Value, colour: &str) -> Result
 
 /// `color_spaces SRGB, with REC709 too`.
 fn words_beside(alloc: Global, colour: &str, names: &[&str]) -> Words {
-    let mut words = Words::of(alloc, "color_spaces ");
+    let mut words = Words::new(alloc);
+    words.field(Field::ColorSpaces).put(" ");
     put_few(&mut words, names, 3);
     words.put(", with ").put(colour).put(" too");
     words
@@ -97,7 +99,7 @@ pub(crate) fn taking_pair(
         copy.add(entry.clone()?);
     }
     let words = words_on(alloc, like, index, pair);
-    with_entries(alloc, value, copy.done()?, words.done()?)
+    with_entries(alloc, value, copy.done()?, words.into_text()?)
 }
 
 /// The index of the first entry that names a format as its own; 0 where none does.
@@ -144,7 +146,7 @@ pub(crate) fn putting_first(
     words.put_number(shown).put(" (");
     put_named(&mut words, entry);
     words.put(") put first");
-    with_entries(alloc, value, copy.done()?, words.done()?)
+    with_entries(alloc, value, copy.done()?, words.into_text()?)
 }
 
 /// An entry for a format and modifier alone, else like this one.
@@ -159,11 +161,9 @@ fn naming(alloc: Global, entry: &Value, pair: Pair) -> Result<Value, AllocError>
 /// `pixel_format NV12 LINEAR too, in an entry before the others that is else like the first
 /// (YUY2)`, or `like entry 2 (..)`.
 fn words_on(alloc: Global, like: &Value, index: usize, pair: Pair) -> Words {
-    let mut words = Words::of(alloc, "pixel_format ");
-    words
-        .put(pair.format.name())
-        .put(" ")
-        .put(pair.modifier.name());
+    let mut words = Words::new(alloc);
+    words.field(Field::PixelFormat).put(" ");
+    words.format(pair.format).put(" ").modifier(pair.modifier);
     words.put(" too, in an entry before the others that is else like ");
     if index == 0 {
         words.put("the first (");
@@ -178,9 +178,17 @@ fn words_on(alloc: Global, like: &Value, index: usize, pair: Pair) -> Words {
 
 /// Puts the format and the modifier that an entry names after a text.
 fn put_named(text: &mut Words, entry: &Value) {
-    text.put(text_in(entry, FORMAT).unwrap_or("several pairs"));
-    if let Some(modifier) = text_in(entry, MODIFIER) {
-        text.put(" ").put(modifier);
+    let name = text_in(entry, FORMAT).unwrap_or("several pairs");
+    match PixelFormat::from_name(name) {
+        Some(format) => text.format(format),
+        None => text.put(name),
+    };
+    if let Some(name) = text_in(entry, MODIFIER) {
+        text.put(" ");
+        match Modifier::from_name(name) {
+            Some(modifier) => text.modifier(modifier),
+            None => text.put(name),
+        };
     }
 }
 

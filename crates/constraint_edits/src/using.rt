@@ -32,7 +32,7 @@ pub(crate) fn without_cpu(alloc: Global, value: &Value) -> Result<Option<Changed
     };
     Ok(Some(Changed {
         value: with(alloc, Some(value), USAGE, Value::Array(others))?,
-        words: String::from_str(alloc, words)?,
+        words: Words::of(alloc, words).into_text()?,
     }))
 }
 
@@ -77,7 +77,8 @@ pub(crate) fn asking_for(
         return Ok(None);
     }
     let name = Field::MinBufferCount.name();
-    let mut words = Words::of(alloc, name);
+    let mut words = Words::new(alloc);
+    words.field(Field::MinBufferCount);
     match value.get(name).and_then(Value::as_u64) {
         Some(least) => words.put(" ").put_number(least),
         None => words.put(" (absent)"),
@@ -85,6 +86,6 @@ pub(crate) fn asking_for(
     words.put(" becomes ").put_number(count);
     Ok(Some(Changed {
         value: with(alloc, Some(value), name, number_value(u64::from(count)))?,
-        words: words.done()?,
+        words: words.into_text()?,
     }))
 }

@@ -6,7 +6,7 @@ use script_story::{Made, Story, put_domain, refused_calls};
 use std::alloc::{AllocError, Global};
 
 /// The answer: how many calls were refused, and what became of each domain.
-pub fn answer_of(alloc: Global, story: &Story<'_>) -> Result<String, AllocError> {
+pub fn answer_of(alloc: Global, story: &Story<'_>) -> Words {
     let mut words = Words::new(alloc);
     put_count(&mut words, story.calls.len(), "call", "calls");
     match refused_calls(story) {
@@ -21,7 +21,7 @@ pub fn answer_of(alloc: Global, story: &Story<'_>) -> Result<String, AllocError>
             .put(" answered otherwise than ok");
     }
     put_verdicts(&mut words, story);
-    words.done()
+    words
 }
 
 /// How many verdicts were asked for in vain, where the domain's own section doesn't tell why.

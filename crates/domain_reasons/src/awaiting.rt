@@ -1,7 +1,7 @@
 //! Who is awaited, and what helps.
 
 use explanation_text::wording::put_count;
-use explanation_text::{Gathered, Items, Words};
+use explanation_text::{Gathered, Items, Text, Words};
 use script_reading::Act;
 use script_story::{Deed, Domain, Story, put_domain};
 use std::alloc::{AllocError, Global};
@@ -14,8 +14,8 @@ const MOST_ROWS: usize = 6;
 #[derive(Drop)]
 struct Awaited {
     node: usize,
-    what: String,
-    help: String,
+    what: Text,
+    help: Text,
 }
 
 /// Tells who a domain waits for.
@@ -48,7 +48,7 @@ fn tell_host(items: &mut Items, story: &Story<'_>, domain: &Domain<'_>, above: u
     put_domain(&mut words, story, above);
     words
         .put(", to which ")
-        .put(story.name(domain.root))
+        .name(story.called(domain.root))
         .put(" was attached");
     items.say(1, "awaits", words)
 }
@@ -101,9 +101,9 @@ fn tell_awaited(items: &mut Items, story: &Story<'_>, awaited: &[Awaited]) {
 }
 
 /// Whether the same helps for one of the first so many.
-fn helps_before(awaited: &[Awaited], count: usize, help: &str) -> bool {
+fn helps_before(awaited: &[Awaited], count: usize, help: &Text) -> bool {
     for one in awaited.iter().take(count) {
-        if one.help.as_str() == help {
+        if one.help == *help {
             return true;
         }
     }
@@ -111,10 +111,10 @@ fn helps_before(awaited: &[Awaited], count: usize, help: &str) -> bool {
 }
 
 /// Tells those who are awaited for whom this helps.
-fn tell_those(items: &mut Items, story: &Story<'_>, awaited: &[Awaited], help: &str) {
+fn tell_those(items: &mut Items, story: &Story<'_>, awaited: &[Awaited], help: &Text) {
     let mut seen = 0usize;
     for one in awaited {
-        if one.help.as_str() != help {
+        if one.help != *help {
             continue;
         }
         seen = seen.saturating_add(1);
@@ -125,15 +125,19 @@ fn tell_those(items: &mut Items, story: &Story<'_>, awaited: &[Awaited], help: &
     let more = seen.saturating_sub(MOST_ROWS);
     if more > 0 {
         let mut words = Words::new(items.alloc());
-        words.put_number(more).put(" more: ").put(help);
+        words.put_number(more).put(" more: ").put_text(help);
         items.say(1, "awaits", words);
     }
 }
 
 fn tell_one(items: &mut Items, story: &Story<'_>, one: &Awaited) {
-    let mut words = Words::of(items.alloc(), story.name(one.node));
+    let mut words = Words::of_name(items.alloc(), story.called(one.node));
     words.put(" ").put(story.path(one.node));
-    words.put(", a ").put(&one.what).put(": ").put(&one.help);
+    words
+        .put(", a ")
+        .put_text(&one.what)
+        .put(": ")
+        .put_text(&one.help);
     items.say(1, "awaits", words)
 }
 
@@ -160,7 +164,7 @@ fn awaited_of(alloc: Global, story: &Story<'_>, node: usize) -> Result<Awaited, 
     let kind = story.kind_before(node, usize::MAX);
     let tried = refused_on(story, node);
     let help = help_of(alloc, story, node, kind, tried)?;
-    let what = what_of(alloc, story, node, kind, tried).done()?;
+    let what = what_of(alloc, story, node, kind, tried).into_text()?;
     Ok(Awaited { node, what, help })
 }
 
@@ -209,11 +213,7 @@ fn put_origin(text: &mut Words, story: &Story<'_>, number: Option<usize>) {
     match number {
         Some(number) => {
             let actor = story.actor(number);
-            text.put("call ")
-                .put_number(number)
-                .put(" (")
-                .put(actor)
-                .put(")")
+            text.put("call ").call(number).put(" (").put(actor).put(")")
         }
         None => text.put("the program"),
     };
@@ -226,9 +226,9 @@ fn help_of(
     node: usize,
     kind: NodeKind,
     tried: Option<usize>,
-) -> Result<String, AllocError> {
+) -> Result<Text, AllocError> {
     if let Some(number) = tried {
-        return help_after(alloc, story, node, kind, number).done();
+        return help_after(alloc, story, node, kind, number).into_text();
     }
     let help = match kind {
         NodeKind::Token => "bind it and set_constraints, or release it",
@@ -239,7 +239,7 @@ fn help_of(
             "all_children_present"
         },
     };
-    Words::of(alloc, help).done()
+    Words::of(alloc, help).into_text()
 }
 
 /// What helps after the call of a number was refused.
@@ -256,16 +256,16 @@ fn help_after(
     };
     let mut words = Words::new(alloc);
     if is_set && kind == NodeKind::Token {
-        words.put("bind it before call ").put_number(number);
+        words.put("bind it before call ").call(number);
     } else if is_set && story.kind_before(node, number) == NodeKind::Token {
         let bound = story.deed(node, Deed::Bind).unwrap_or(0);
-        words.put("move call ").put_number(number);
+        words.put("move call ").call(number);
         words
             .put(" after call ")
-            .put_number(bound)
+            .call(bound)
             .put(", which binds it");
     } else {
-        words.put("correct call ").put_number(number);
+        words.put("correct call ").call(number);
     }
     words
 }

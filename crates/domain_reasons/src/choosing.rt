@@ -2,12 +2,12 @@
 
 use crate::passed_over::tell_passed_over;
 use crate::selecting::{Empty, tell_left_out};
-use explanation_text::{Gathered, Items, Words};
+use explanation_text::wording::put_few;
+use explanation_text::{Gathered, Items, Text, Words};
 use script_story::{Domain, Story, asked_in, put_domain};
 use settings_reasons::tell_settings;
 use std::alloc::{AllocError, Global};
 use sysmem_sanitise::Platform;
-use value_sources::put_texts;
 
 /// How many choices are named.
 pub(crate) const MOST_CHOICES: usize = 6;
@@ -57,17 +57,17 @@ fn tell_children(items: &mut Items, story: &Story<'_>, index: usize) -> Result<(
         return Ok(());
     }
     let mut words = Words::new(alloc);
-    put_texts(&mut words, &texts, MOST_CHOICES);
+    put_few(&mut words, &texts, MOST_CHOICES);
     items.say(1, "choice", words);
     Ok(())
 }
 
 /// The child that was chosen of each group of a domain that is selected.
-fn choices_of(alloc: Global, story: &Story<'_>, index: usize) -> Result<Vec<String>, AllocError> {
-    let mut texts: Gathered<String> = Gathered::new(alloc);
+fn choices_of(alloc: Global, story: &Story<'_>, index: usize) -> Result<Vec<Text>, AllocError> {
+    let mut texts: Gathered<Text> = Gathered::new(alloc);
     for group in &groups_in(alloc, story, index)? {
         if let Some(words) = choice_of(alloc, story, *group)? {
-            texts.add_words(words);
+            texts.add_text(words);
         }
     }
     texts.done()
@@ -111,8 +111,8 @@ fn choice_text(
     child: usize,
     count: usize,
 ) -> Words {
-    let mut words = Words::of(alloc, story.name(group));
-    words.put(": ").put(story.name(child));
+    let mut words = Words::of_name(alloc, story.called(group));
+    words.put(": ").name(story.called(child));
     if count > 1 {
         words.put(" (first of ").put_number(count).put(")");
     }

@@ -4,11 +4,12 @@ use crate::awaiting::tell_pending;
 use crate::choosing::tell_choice;
 use crate::exchanged::{are_exchanged, is_named_so, states_usage, usage_meant, usages_of};
 use crate::failing::{tell_failed, tell_none, tell_too_many};
-use explanation_text::{Gathered, Items, Kind, Words};
+use explanation_text::wording::put_few;
+use explanation_text::{Gathered, Items, Kind, Text, Words};
 use script_story::{Deed, Domain, Story, asked_in, put_domain};
 use std::alloc::{AllocError, Global};
 use sysmem_sanitise::Platform;
-use value_sources::{Asked, put_texts};
+use value_sources::Asked;
 
 /// How many participants are named.
 const MOST_WHO: usize = 8;
@@ -69,13 +70,11 @@ fn put_title(items: &mut Items, story: &Story<'_>, domain: &Domain<'_>) {
 
 /// Puts after which call a verdict came after a text.
 fn put_ended(text: &mut Words, story: &Story<'_>, number: usize) {
-    text.put(", after call ").put_number(number);
+    text.put(", after call ").call(number);
     if let Some(call) = story.call(number) {
-        text.put(" (")
-            .put(call.name())
-            .put(" ")
-            .put(call.on)
-            .put(")");
+        text.put(" (").put(call.name()).put(" ");
+        call.put_on(text);
+        text.put(")");
     }
 }
 
@@ -142,18 +141,15 @@ fn note_of(
     usage: &str,
     other: Option<Asked<'_>>,
 ) -> Words {
-    let mut words = Words::of(alloc, one.name);
-    words.put(" (call ").put_number(setting(story, one));
+    let mut words = Words::of_name(alloc, one.called());
+    words.put(" (call ").call(setting(story, one));
     words.put(") doesn't state usage ").put(usage);
     words.put(": are these the constraints that are meant for it?");
     if let Some(other) = other {
         words
             .put(" They may be exchanged with those of ")
-            .put(other.name);
-        words
-            .put(" (call ")
-            .put_number(setting(story, other))
-            .put(")");
+            .name(other.called());
+        words.put(" (call ").call(setting(story, other)).put(")");
     }
     words
 }
@@ -163,13 +159,13 @@ fn who_text(alloc: Global, story: &Story<'_>, people: &[Asked<'_>]) -> Words {
     if people.is_empty() {
         return Words::of(alloc, "nobody has constraints");
     }
-    let mut names: Gathered<String> = Gathered::new(alloc);
+    let mut names: Gathered<Text> = Gathered::new(alloc);
     for one in people {
-        names.add_words(who(alloc, story, one.node));
+        names.add_text(who(alloc, story, one.node));
     }
     let mut words = Words::new(alloc);
     match names.done() {
-        Ok(names) => put_texts(&mut words, &names, MOST_WHO),
+        Ok(names) => put_few(&mut words, &names, MOST_WHO),
         Err(AllocError) => words.refuse(),
     }
     words
@@ -178,7 +174,7 @@ fn who_text(alloc: Global, story: &Story<'_>, people: &[Asked<'_>]) -> Words {
 /// A participant with its path, its actor and what it uses the buffers for:
 /// `camera /0 (actor camera, usage video)`.
 fn who(alloc: Global, story: &Story<'_>, node: usize) -> Words {
-    let mut words = Words::of(alloc, story.name(node));
+    let mut words = Words::of_name(alloc, story.called(node));
     words.put(" ").put(story.path(node));
     if let Some(number) = story.deed(node, Deed::SetConstraints) {
         put_setter(&mut words, story, node, number);

@@ -4,14 +4,15 @@
 use crate::choosing::groups_in;
 use crate::selecting::{Empty, MOST_TOLD, tell_empty};
 use explanation_text::wording::{MOST_NAMES, put_few};
-use explanation_text::{Gathered, Items, Words};
+use explanation_text::{Gathered, Items, Name, Text, Words};
 use script_reading::Act;
 use script_story::{Deed, Domain, Made, Story, asked_in, left_out};
 use settings_reasons::{failing, tell_misfits};
 use std::alloc::{AllocError, Global};
+use sysmem_counts::Field;
 use sysmem_merge::Settings;
 use sysmem_sanitise::Platform;
-use value_sources::{Asked, put_texts, why_needed};
+use value_sources::{Asked, why_needed};
 
 /// Tells why a domain failed.
 pub(crate) fn tell_failed(items: &mut Items, story: &Story<'_>, domain: &Domain<'_>) {
@@ -29,7 +30,9 @@ pub(crate) fn tell_failed(items: &mut Items, story: &Story<'_>, domain: &Domain<
 /// Why a domain failed that a call closed.
 fn why_of_close(alloc: Global, story: &Story<'_>, domain: &Domain<'_>, call: &Made<'_>) -> Words {
     let mut words = Words::of(alloc, call.actor);
-    words.put(" closed ").put(call.on).put(" while ");
+    words.put(" closed ");
+    call.put_on(&mut words);
+    words.put(" while ");
     put_awaited(&mut words, story, domain);
     words.put(" still awaited: a close then fails its domain, a release doesn't");
     words
@@ -49,7 +52,7 @@ fn awaited_names<'a>(
     alloc: Global,
     story: &Story<'a>,
     domain: &Domain<'_>,
-) -> Result<Vec<&'a str>, AllocError> {
+) -> Result<Vec<Name<'a>>, AllocError> {
     let number = domain.ended.unwrap_or(0);
     let index = match story.nodes.get(domain.root) {
         Some(root) => root.domain,
@@ -60,7 +63,7 @@ fn awaited_names<'a>(
 }
 
 /// Puts who were awaited after a text; nobody but the domain above where there are no names.
-fn put_waiting(text: &mut Words, names: &[&str]) {
+fn put_waiting(text: &mut Words, names: &[Name<'_>]) {
     if names.is_empty() {
         text.put("the domain that it was attached to was");
         return;
@@ -87,7 +90,7 @@ fn why_of_host(alloc: Global, story: &Story<'_>, host: usize) -> Words {
         None => "",
     };
     let mut words = Words::of(alloc, "it was attached to ");
-    words.put(story.name(host));
+    words.name(story.called(host));
     match verdict {
         "failed" => words.put(", whose domain failed"),
         "chosen" => words.put(": ").put_words(&left_out(alloc, story, host)),
@@ -111,24 +114,24 @@ pub(crate) fn tell_too_many(items: &mut Items, story: &Story<'_>, index: usize) 
 fn groups_text(alloc: Global, story: &Story<'_>, index: usize) -> Words {
     let mut words = Words::of(alloc, "children: ");
     match groups_of(alloc, story, index) {
-        Ok(parts) => put_texts(&mut words, &parts, 12),
+        Ok(parts) => put_few(&mut words, &parts, 12),
         Err(AllocError) => words.refuse(),
     }
     words
 }
 
 /// Each of a domain's groups, with how many children it has.
-fn groups_of(alloc: Global, story: &Story<'_>, index: usize) -> Result<Vec<String>, AllocError> {
-    let mut parts: Gathered<String> = Gathered::new(alloc);
+fn groups_of(alloc: Global, story: &Story<'_>, index: usize) -> Result<Vec<Text>, AllocError> {
+    let mut parts: Gathered<Text> = Gathered::new(alloc);
     for group in &groups_in(alloc, story, index)? {
-        parts.add_words(children_of(alloc, story, *group));
+        parts.add_text(children_of(alloc, story, *group));
     }
     parts.done()
 }
 
 /// How many children a group has: `layouts 2`.
 fn children_of(alloc: Global, story: &Story<'_>, group: usize) -> Words {
-    let mut words = Words::of(alloc, story.name(group));
+    let mut words = Words::of_name(alloc, story.called(group));
     match story.children(alloc, group) {
         Ok(children) => {
             words.put(" ").put_number(children.len());
@@ -324,9 +327,12 @@ fn tell_fewer(items: &mut Items, people: &[Asked<'_>], count: u32) {
     for one in people {
         let most = one.asked.counts().max_buffer_count;
         if most < count {
-            let mut words = Words::of(items.alloc(), one.name);
+            let mut words = Words::of_name(items.alloc(), one.called());
             words.put(" takes at most ").put_number(most);
-            words.put(" buffers (max_buffer_count), ");
+            words
+                .put(" buffers (")
+                .field(Field::MaxBufferCount)
+                .put("), ");
             words.put_number(count).put(" were decided");
             items.say(1, "count", words);
         }

@@ -97,11 +97,11 @@ fn tell_why(
     child: usize,
     reached: &Reached<'_>,
 ) -> Result<(), AllocError> {
-    let (later, before) = (empty.story.name(child), empty.story.name(chosen.child));
-    let mut words = Words::of(items.alloc(), later);
+    let (later, before) = (empty.story.called(child), empty.story.called(chosen.child));
+    let mut words = Words::of_name(items.alloc(), later);
     words
         .put(", which comes after ")
-        .put(before)
+        .name(before)
         .put(", can't be met:");
     items.say(2, "", words);
     tell_conflict(

@@ -1,13 +1,13 @@
 //! Why no selection of groups' children has settings.
 
 use crate::choosing::MOST_CHOICES;
-use explanation_text::wording::put_joined;
-use explanation_text::{Gathered, Items, Words, are_same};
+use explanation_text::wording::{put_few, put_joined};
+use explanation_text::{Gathered, Items, Name, Text, Words, are_same};
 use script_story::{Story, asked_by};
 use settings_reasons::{is_unmet, tell_conflict};
 use std::alloc::{AllocError, Global};
 use sysmem_sanitise::Platform;
-use value_sources::{Asked, put_texts};
+use value_sources::Asked;
 
 /// How many failing selections are told.
 pub(crate) const MOST_TOLD: usize = 12;
@@ -179,21 +179,21 @@ fn tell_group(
             told,
             levels,
         )?;
-        add_case(&mut cases, empty.story.name(child), below)?;
+        add_case(&mut cases, empty.story.called(child), below)?;
     }
-    put_cases(items, depth, empty.story.name(group), cases);
+    put_cases(items, depth, empty.story.called(group), cases);
     Ok(())
 }
 
 /// Children of a group of which the same is told.
 #[derive(Drop)]
 struct Case<'a> {
-    names: Vec<&'a str>,
+    names: Vec<Name<'a>>,
     below: Items,
 }
 
 /// Adds what is told of a child, to the last case where it is the same.
-fn add_case<'a>(cases: &mut Vec<Case<'a>>, name: &'a str, below: Items) -> Result<(), AllocError> {
+fn add_case<'a>(cases: &mut Vec<Case<'a>>, name: Name<'a>, below: Items) -> Result<(), AllocError> {
     if let Some(last) = cases.last_mut() {
         if are_same(&last.below, &below) {
             last.names.push(name)?;
@@ -206,22 +206,22 @@ fn add_case<'a>(cases: &mut Vec<Case<'a>>, name: &'a str, below: Items) -> Resul
 }
 
 /// Puts what holds for each child of a group after the items.
-fn put_cases(items: &mut Items, depth: usize, group: &str, cases: Vec<Case<'_>>) {
+fn put_cases(items: &mut Items, depth: usize, group: Name<'_>, cases: Vec<Case<'_>>) {
     for case in cases {
         put_case(items, depth, group, case);
     }
 }
 
 /// Puts what holds for some children of a group after the items.
-fn put_case(items: &mut Items, depth: usize, group: &str, case: Case<'_>) {
+fn put_case(items: &mut Items, depth: usize, group: Name<'_>, case: Case<'_>) {
     let head = head_of(items.alloc(), group, &case.names);
     items.say(depth, "", head);
     items.append(case.below)
 }
 
 /// What stands above what is told of some children of a group.
-fn head_of(alloc: Global, group: &str, names: &[&str]) -> Words {
-    let mut words = Words::of(alloc, group);
+fn head_of(alloc: Global, group: Name<'_>, names: &[Name<'_>]) -> Words {
+    let mut words = Words::of_name(alloc, group);
     words.put(" as ");
     put_joined(&mut words, names, "or");
     words.put(":");
@@ -274,7 +274,7 @@ fn tell_not(
     other: Choice,
 ) -> Result<(), AllocError> {
     let mut words = Words::of(items.alloc(), "not ");
-    words.put(empty.story.name(other.child)).put(":");
+    words.name(empty.story.called(other.child)).put(":");
     items.say(2, "", words);
     let longer = with_choice(items.alloc(), choices, other.group, other.child)?;
     tell_empty(items, 3, empty, &longer, told, empty.story.nodes.len())
@@ -287,17 +287,17 @@ pub fn choices_in(
     story: &Story<'_>,
     root: usize,
     line: &str,
-) -> Result<String, AllocError> {
-    let mut texts: Gathered<String> = Gathered::new(alloc);
+) -> Result<Text, AllocError> {
+    let mut texts: Gathered<Text> = Gathered::new(alloc);
     for choice in &choices_of(alloc, story, root, line)? {
-        let mut words = Words::of(alloc, story.name(choice.group));
-        words.put(": ").put(story.name(choice.child));
-        texts.add_words(words);
+        let mut words = Words::of_name(alloc, story.called(choice.group));
+        words.put(": ").name(story.called(choice.child));
+        texts.add_text(words);
     }
     let texts = texts.done()?;
     let mut words = Words::new(alloc);
-    put_texts(&mut words, &texts, MOST_CHOICES);
-    words.done()
+    put_few(&mut words, &texts, MOST_CHOICES);
+    words.into_text()
 }
 
 /// The choices of a line on a domain.

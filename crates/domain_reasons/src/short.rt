@@ -3,7 +3,7 @@
 use crate::answer::answer_of;
 use crate::domains::tell_domain;
 use crate::selecting::{Empty, tell_left_out};
-use explanation_text::{Items, Kind};
+use explanation_text::{Items, Kind, Words};
 use script_story::{Story, refused_words};
 use std::alloc::AllocError;
 use sysmem_sanitise::Platform;
@@ -19,9 +19,9 @@ pub fn tell_in_short(
     story: &Story<'_>,
 ) -> Result<(), AllocError> {
     let alloc = items.alloc();
-    items.say_text(2, "", &answer_of(alloc, story)?);
+    items.say(2, "", answer_of(alloc, story));
     for text in &refused_words(alloc, story)? {
-        items.say_text(2, "", text);
+        items.say(2, "", Words::of_text(alloc, text));
     }
     for index in 0..story.domains.len() {
         tell_shortly(items, platform, story, index)?;

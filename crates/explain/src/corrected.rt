@@ -7,6 +7,8 @@ use script_faults::{Document, tell_fault};
 use script_reading::{ParseFault, Script, ScriptFault, parse_script, read_script};
 use script_story::{Effort, Setting, story_of};
 use std::alloc::{AllocError, Global};
+use sysmem_counts::Field;
+use sysmem_formats::{Modifier, PixelFormat};
 
 /// A text of the script, by the bytes between its quotes, and the one that it may mean.
 #[derive(Drop)]
@@ -14,6 +16,8 @@ pub(crate) struct Meant {
     start: usize,
     end: usize,
     is: String,
+    /// Whether it is the name of a node.
+    is_name: bool,
 }
 
 /// What the faults that are shown may mean; nothing where one of them has no known text near it, or
@@ -58,8 +62,12 @@ fn meant_by(
     if bytes.get(at).copied() != Some(b'"') || bytes.get(end).copied() != Some(b'"') {
         return Ok(None);
     }
-    let is = String::from_str(alloc, is)?;
-    Ok(Some(Meant { start, end, is }))
+    Ok(Some(Meant {
+        start,
+        end,
+        is: String::from_str(alloc, is)?,
+        is_name: is_at_node(shown),
+    }))
 }
 
 /// How many bytes stand before the first quote or backslash.
@@ -117,6 +125,15 @@ fn place_of(bytes: &[u8], file: &str, shown: &str) -> Option<usize> {
     }
 }
 
+/// Whether the fault is in the name of the node on which a call is made: `  -->
+/// camera.json:13:17: calls[2].on`.
+fn is_at_node(shown: &str) -> bool {
+    match shown.lines().next() {
+        Some(line) => line.ends_with("].on"),
+        None => false,
+    }
+}
+
 /// The byte at a line and a column, both from 1, a column for each character.
 fn byte_at(bytes: &[u8], line: usize, column: usize) -> Option<usize> {
     let mut at_line = 1usize;
@@ -166,6 +183,7 @@ fn tell_bytes(
                 file: document.file,
                 bytes,
                 value: &value,
+                whole: document.whole,
             };
             tell_answer(items, &other)
         }
@@ -206,9 +224,27 @@ fn put_meant(text: &mut Words, bytes: &[u8], meant: &[Meant]) {
     }
 }
 
+/// Puts what is meant after a text: a field, a format, a modifier or another word.
+fn put_known(text: &mut Words, word: &str) {
+    if let Some(field) = Field::from_name(word) {
+        text.field(field);
+    } else if let Some(format) = PixelFormat::from_name(word) {
+        text.format(format);
+    } else if let Some(modifier) = Modifier::from_name(word) {
+        text.modifier(modifier);
+    } else {
+        text.put(word);
+    }
+}
+
 fn put_one(text: &mut Words, bytes: &[u8], one: &Meant) {
     let line = line_of(bytes, one.start.min(bytes.len()));
-    text.put(&one.is).put(" in the place of ");
+    if one.is_name {
+        text.put(&one.is);
+    } else {
+        put_known(text, &one.is);
+    }
+    text.put(" in the place of ");
     let was = bytes.get(one.start..one.end).unwrap_or(&[]);
     match String::from_utf8_lossy(text.alloc(), was) {
         Ok(was) => put_visible(text, &was),
@@ -257,12 +293,7 @@ fn tell_refusal(
     tell_fault(&mut told, document, fault)?;
     for item in told.into_list()? {
         if item.kind == Kind::Answer {
-            items.add(Item {
-                label: "",
-                text: item.into_text(),
-                depth: 2,
-                kind: Kind::Words,
-            });
+            items.say_text(2, "", &item.text);
         }
     }
     Ok(())

@@ -170,7 +170,8 @@ impl Teller<'_, '_> {
         self.say_first(items, item, "it would be:");
         let choice = choices_in(items.alloc(), self.story, root, &line)?;
         put_promised(items, trial, line);
-        put_choice(items, 2, choice)
+        put_choice(items, 2, choice);
+        Ok(())
     }
 
     fn say_first(&self, items: &mut Items, item: usize, end: &str) {
@@ -178,10 +179,10 @@ impl Teller<'_, '_> {
         words
             .put_number(item.saturating_add(1))
             .put(" of ")
-            .put(self.one.name);
+            .name(self.one.called());
         words
             .put(" (call ")
-            .put_number(self.number)
+            .call(self.number)
             .put(") put first ")
             .put(end);
         items.say(1, "then", words)
@@ -203,8 +204,8 @@ impl Teller<'_, '_> {
     /// `camera (call 5): entry 2 (NV12 LINEAR, line 18) is never used: entry 1 (any format
     /// DO_NOT_CARE, line 17) comes before it and holds for ..`.
     fn sentence(&self, alloc: Global, index: usize, holder: Holder) -> Words {
-        let mut words = Words::of(alloc, self.one.name);
-        words.put(" (call ").put_number(self.number).put("): ");
+        let mut words = Words::of_name(alloc, self.one.called());
+        words.put(" (call ").call(self.number).put("): ");
         self.put_entry(&mut words, index);
         words.put(" is never used: ");
         self.put_entry(&mut words, holder.index);
@@ -255,7 +256,13 @@ fn put_promised(items: &mut Items, trial: Trial<'_, '_>, line: String)
 
 /// Puts a format and a modifier after a text.
 fn put_pair(text: &mut Words, format: Option<PixelFormat>, modifier: Option<Modifier>) {
-    let format = format.map_or("any format", PixelFormat::name);
-    let modifier = modifier.map_or("DO_NOT_CARE", Modifier::name);
-    text.put(format).put(" ").put(modifier);
+    match format {
+        Some(format) => text.format(format),
+        None => text.put("any format"),
+    };
+    text.put(" ");
+    match modifier {
+        Some(modifier) => text.modifier(modifier),
+        None => text.put("DO_NOT_CARE"),
+    };
 }

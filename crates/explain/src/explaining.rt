@@ -1,12 +1,20 @@
 //! What a script's text means.
 
+ghost use Rattle.std.specs.Prelude.{IfOk, IfSome};
+ghost use Rattle.std.specs.String.{string_bytes};
+ghost use Rattle.explain.specs.Lines.{IsToldBy, item_texts};
+
 use crate::corrected::{meant_in, tell_corrected};
 use crate::domains::tell_domains;
+use crate::json::{Played, Scene, objects_of};
 use crate::lines::with_lines;
+use crate::page::page_of_scene;
 use domain_reasons::answer_of;
-use explanation_text::{Item, Items, Kind, Span, Words, column_of, line_of, repeated_keys};
+use explanation_text::{
+    Item, Items, Kind, Span, Words, column_of, line_of, repeated_keys, text_of,
+};
 use other_outcomes::tell_moved;
-use script_faults::{Document, tell_fault, tell_no_json};
+use script_faults::{Document, Whole, tell_fault, tell_no_json};
 use script_reading::{ParseFault, Script, ScriptFault, parse_script, read_script};
 use script_story::{Effort, Setting, Story, refused_calls, story_of, tell_refused};
 use serde_json::Value;
@@ -26,43 +34,110 @@ pub enum Outcome {
     Refused,
 }
 
-/// What a script means, told.
+/// What is wanted of an explanation.
+#[derive(Clone, Copy)]
+pub struct Outputs {
+    pub text: bool,
+    /// A line of JSON for each item.
+    pub objects: bool,
+    pub page: bool,
+}
+
+/// What a script means, as it is wanted.
 #[derive(Drop)]
-pub struct Explanation {
+pub struct Explained {
     pub outcome: Outcome,
     /// What is told, in order.
     pub items: Vec<Item>,
+    pub text: Option<String>,
+    pub objects: Option<String>,
+    pub page: Option<String>,
 }
 
-/// Explains a script: where it has a fault, or what its report means. The file's name, as it was
-/// given, stands before lines and columns. `AllocError` where memory is refused, also where it is
-/// within the run.
-pub fn explain(alloc: Global, file: &str, bytes: &[u8]) -> Result<Explanation, AllocError> {
+/// Explains a script: where it has a fault, or what its report means, in the forms that are wanted.
+/// It is read once and its calls are made once, and once more with their certificate for a page.
+/// The file's name, as it was given, stands before lines and columns. `AllocError` where memory is
+/// refused, also where it is within the run.
+pub fn explain(
+    alloc: Global,
+    file: &str,
+    bytes: &[u8],
+    wanted: Outputs,
+) -> Result<Explained, AllocError>
+    ensures { IfOk result (λ told. IfSome told.objects
+        (λ text. IsToldBy (item_texts told.items.items) (string_bytes text))) }
+{
     match parse_script(alloc, bytes) {
-        Ok(value) => explain_value(alloc, file, bytes, &value),
+        Ok(value) => explain_value(alloc, file, bytes, &value, wanted),
         Err(ParseFault::NoMemory) => Err(AllocError),
-        Err(ParseFault::Refused(ScriptFault::NotJson)) => {
-            let mut items = Items::new(alloc);
-            tell_no_json(&mut items, file, bytes)?;
-            refusal(items)
-        }
         Err(ParseFault::Refused(fault)) => {
             let document = Document {
                 file,
                 bytes,
                 value: &Value::Null,
+                whole: Whole::Script,
             };
             let mut items = Items::new(alloc);
-            tell_fault(&mut items, &document, fault)?;
-            refusal(items)
+            if fault == ScriptFault::NotJson {
+                tell_no_json(&mut items, file, bytes)?;
+            } else {
+                tell_fault(&mut items, &document, fault)?;
+            }
+            refusal(alloc, document, items, wanted)
         }
     }
 }
 
-fn refusal(items: Items) -> Result<Explanation, AllocError> {
-    Ok(Explanation {
-        outcome: Outcome::Refused,
-        items: items.into_list()?,
+/// A script that is refused, printed.
+fn refusal(
+    alloc: Global,
+    document: Document<'_>,
+    items: Items,
+    wanted: Outputs,
+) -> Result<Explained, AllocError>
+    ensures { IfOk result (λ told. IfSome told.objects
+        (λ text. IsToldBy (item_texts told.items.items) (string_bytes text))) }
+{
+    let scene = Scene {
+        document,
+        played: None,
+    };
+    let items = items.into_list()?;
+    printed(alloc, scene, Outcome::Refused, items, wanted)
+}
+
+/// What is told, in the forms that are wanted.
+fn printed(
+    alloc: Global,
+    scene: Scene<'_, '_>,
+    outcome: Outcome,
+    items: Vec<Item>,
+    wanted: Outputs,
+) -> Result<Explained, AllocError>
+    ensures { IfOk result (λ told. IfSome told.objects
+        (λ text. IsToldBy (item_texts told.items.items) (string_bytes text))) }
+{
+    let text = if wanted.text {
+        Some(text_of(alloc, &items)?)
+    } else {
+        None
+    };
+    let page = if wanted.page {
+        Some(page_of_scene(alloc, scene, &items)?)
+    } else {
+        None
+    };
+    let objects = if wanted.objects {
+        Some(objects_of(alloc, scene, outcome, &items)?)
+    } else {
+        None
+    };
+    Ok(Explained {
+        outcome,
+        items,
+        text,
+        objects,
+        page,
     })
 }
 
@@ -72,28 +147,40 @@ fn explain_value(
     file: &str,
     bytes: &[u8],
     value: &Value,
-) -> Result<Explanation, AllocError> {
-    let document = Document { file, bytes, value };
+    wanted: Outputs,
+) -> Result<Explained, AllocError>
+    ensures { IfOk result (λ told. IfSome told.objects
+        (λ text. IsToldBy (item_texts told.items.items) (string_bytes text))) }
+{
+    let document = Document {
+        file,
+        bytes,
+        value,
+        whole: Whole::Script,
+    };
     match read_script(alloc, value) {
-        Ok(script) => explain_script(alloc, &document, &script),
+        Ok(script) => explain_script(alloc, document, &script, wanted),
         Err(ParseFault::NoMemory) => Err(AllocError),
-        Err(ParseFault::Refused(fault)) => explain_fault(alloc, &document, fault),
+        Err(ParseFault::Refused(fault)) => {
+            let items = fault_items(alloc, &document, fault)?;
+            refusal(alloc, document, items, wanted)
+        }
     }
 }
 
-/// Explains a script that is refused.
-fn explain_fault(
+/// What is told of a script that is refused.
+fn fault_items(
     alloc: Global,
     document: &Document<'_>,
     fault: ScriptFault,
-) -> Result<Explanation, AllocError> {
+) -> Result<Items, AllocError> {
     let mut told = Items::new(alloc);
     tell_fault(&mut told, document, fault)?;
     let told = told.into_list()?;
     let meant = meant_in(alloc, document, &told)?;
     let mut items = with_repeats(alloc, document, told)?;
     tell_corrected(&mut items, document, &meant)?;
-    refusal(items)
+    Ok(items)
 }
 
 /// What is told of a fault, with the keys that are given twice before where it stands: one of them
@@ -126,9 +213,13 @@ fn tell_repeats_first(items: &mut Items, document: &Document<'_>) -> Result<(), 
 /// Explains what a script's calls do.
 fn explain_script<'a>(
     alloc: Global,
-    document: &Document<'a>,
+    document: Document<'a>,
     script: &Script<'a>,
-) -> Result<Explanation, AllocError> {
+    wanted: Outputs,
+) -> Result<Explained, AllocError>
+    ensures { IfOk result (λ told. IfSome told.objects
+        (λ text. IsToldBy (item_texts told.items.items) (string_bytes text))) }
+{
     let effort = Effort::new();
     let setting = Setting {
         platform: &script.platform,
@@ -140,22 +231,25 @@ fn explain_script<'a>(
         return Err(AllocError);
     }
     let story = story_of(alloc, document.value, &script.calls, &told)?;
-    explain_story(alloc, document, &setting, &story)
+    let items = story_items(alloc, &document, &setting, &story)?;
+    let played = Some(Played {
+        story: &story,
+        platform: &script.platform,
+    });
+    let scene = Scene { document, played };
+    printed(alloc, scene, outcome_of(&story), items, wanted)
 }
 
-/// Explains what calls did.
-fn explain_story(
+/// What is told of what calls did.
+fn story_items(
     alloc: Global,
     document: &Document<'_>,
     setting: &Setting<'_>,
     story: &Story<'_>,
-) -> Result<Explanation, AllocError> {
+) -> Result<Vec<Item>, AllocError> {
     let mut items = Items::new(alloc);
     tell_story(&mut items, document, setting, story)?;
-    Ok(Explanation {
-        outcome: outcome_of(story),
-        items: with_lines(alloc, document, story, items.into_list()?)?,
-    })
+    with_lines(alloc, document, story, items.into_list()?)
 }
 
 /// Tells what calls did.
@@ -165,7 +259,7 @@ fn tell_story(
     setting: &Setting<'_>,
     story: &Story<'_>,
 ) -> Result<(), AllocError> {
-    put_answer(items, story)?;
+    items.push(Kind::Answer, 0, "", answer_of(items.alloc(), story));
     tell_repeats(items, document)?;
     tell_calls(items, document, story)?;
     tell_moved(items, setting, document.value, story)?;
@@ -200,18 +294,6 @@ fn outcome_of(story: &Story<'_>) -> Outcome {
     } else {
         Outcome::Faulty
     }
-}
-
-/// The answer: how many calls were refused, and what became of each domain.
-fn put_answer(items: &mut Items, story: &Story<'_>) -> Result<(), AllocError> {
-    let text = answer_of(items.alloc(), story)?;
-    items.add(Item {
-        label: "",
-        text,
-        depth: 0,
-        kind: Kind::Answer,
-    });
-    Ok(())
 }
 
 /// Tells the keys that an object has twice.

@@ -11,5 +11,6 @@ mod telling;
 mod values;
 mod written;
 
-pub use objects::objects_of;
+pub(crate) use objects::objects_of;
+pub(crate) use scene::{Played, Scene};
 pub use written::{explain_as_json, explain_as_json_to_page};

@@ -1,9 +1,10 @@
 //! Where the fields stand in the script's text that the section of an empty domain names.
 
-use explanation_text::{Gathered, Item, Kind, Step, Words, line_of};
-use script_faults::{Document, Part};
-use script_story::{Deed, Story, put_domain};
+use explanation_text::{Item, Kind, Step, Text, Thing, Words, line_of};
+use script_faults::{Document, Part, Whole};
+use script_story::{Deed, Story};
 use std::alloc::{AllocError, Global};
+use sysmem_counts::Field;
 
 /// How many participants' fields are told.
 const MOST: usize = 6;
@@ -13,33 +14,33 @@ const MOST_ENTRIES: usize = 8;
 const LONGEST: usize = 262_144;
 
 /// The fields that reasons and changes name.
-const FIELDS: [&str; 26] = [
-    "min_buffer_count_for_camping",
-    "min_buffer_count_for_dedicated_slack",
-    "min_buffer_count_for_shared_slack",
-    "min_buffer_count",
-    "max_buffer_count",
-    "min_size_bytes",
-    "max_size_bytes",
-    "physically_contiguous_required",
-    "secure_required",
-    "cpu_domain_supported",
-    "ram_domain_supported",
-    "inaccessible_domain_supported",
-    "permitted_heaps",
-    "pixel_format",
-    "color_spaces",
-    "min_size",
-    "max_size",
-    "size_alignment",
-    "min_bytes_per_row",
-    "max_bytes_per_row",
-    "bytes_per_row_divisor",
-    "start_offset_divisor",
-    "display_rect_alignment",
-    "required_min_size",
-    "required_max_size",
-    "max_width_times_height",
+const FIELDS: [Field; 26] = [
+    Field::MinBufferCountForCamping,
+    Field::MinBufferCountForDedicatedSlack,
+    Field::MinBufferCountForSharedSlack,
+    Field::MinBufferCount,
+    Field::MaxBufferCount,
+    Field::MinSizeBytes,
+    Field::MaxSizeBytes,
+    Field::PhysicallyContiguousRequired,
+    Field::SecureRequired,
+    Field::CpuDomainSupported,
+    Field::RamDomainSupported,
+    Field::InaccessibleDomainSupported,
+    Field::PermittedHeaps,
+    Field::PixelFormat,
+    Field::ColorSpaces,
+    Field::MinSize,
+    Field::MaxSize,
+    Field::SizeAlignment,
+    Field::MinBytesPerRow,
+    Field::MaxBytesPerRow,
+    Field::BytesPerRowDivisor,
+    Field::StartOffsetDivisor,
+    Field::DisplayRectAlignment,
+    Field::RequiredMinSize,
+    Field::RequiredMaxSize,
+    Field::MaxWidthTimesHeight,
 ];
 
 /// The section that is gone through: whose domain's it is, if that is empty, and where its items
@@ -71,7 +72,7 @@ pub(crate) fn with_lines(
         if item.kind == Kind::Title {
             add_lines(document, story, &mut lined, section)?;
             section = Section {
-                domain: empty_domain(alloc, story, &item.text)?,
+                domain: empty_domain(story, &item),
                 start: lined.len().saturating_add(1),
             };
         }
@@ -82,20 +83,16 @@ pub(crate) fn with_lines(
 }
 
 /// The empty domain whose section has this title.
-fn empty_domain(
-    alloc: Global,
-    story: &Story<'_>,
-    title: &str,
-) -> Result<Option<usize>, AllocError> {
+fn empty_domain(story: &Story<'_>, title: &Item) -> Option<usize> {
+    let Thing::Node(root) = title.mentions.first()?.thing else {
+        return None;
+    };
     for (index, domain) in story.domains.iter().enumerate() {
-        let mut words = Words::new(alloc);
-        put_domain(&mut words, story, domain.root);
-        let name = words.done()?;
-        if domain.verdict() == "empty" && title.starts_with(name.as_str()) {
-            return Ok(Some(index));
+        if domain.root == root && domain.verdict() == "empty" {
+            return Some(index);
         }
     }
-    Ok(None)
+    None
 }
 
 /// Adds the lines of each participant that a section names.
@@ -116,13 +113,8 @@ fn add_lines(
         domain,
         lined.get(section.start..).unwrap_or(&[]),
     )?;
-    for text in rows {
-        lined.push(Item {
-            label: "lines",
-            text,
-            depth: 1,
-            kind: Kind::Words,
-        })?;
+    for row in rows {
+        lined.push(Item::new(Kind::Words, 1, "lines", row))?;
     }
     Ok(())
 }
@@ -134,51 +126,36 @@ fn rows_of(
     story: &Story<'_>,
     domain: usize,
     told: &[Item],
-) -> Result<Vec<String>, AllocError> {
-    let mut rows: Vec<String> = Vec::new(alloc);
-    let words = words_in(alloc, told)?;
-    let fields = fields_in(alloc, &words)?;
+) -> Result<Vec<Text>, AllocError> {
+    let mut rows: Vec<Text> = Vec::new(alloc);
+    let fields = fields_in(alloc, told)?;
     for (node, known) in story.nodes.iter().enumerate() {
-        if known.domain != domain || rows.len() >= MOST || !words.contains(&known.name) {
+        if known.domain != domain || rows.len() >= MOST || !is_named(told, Thing::Node(node)) {
             continue;
         }
         if let Some(number) = story.deed(node, Deed::SetConstraints) {
             let lines = lines_of(alloc, document, &fields, number)?;
             if !lines.is_empty() {
-                let mut text = Words::of(alloc, known.name);
-                text.put(": ").put(&lines);
-                rows.push(text.done()?)?;
+                let mut text = Words::of_name(alloc, story.called(node));
+                text.put(": ").put_text(&lines);
+                rows.push(text.into_text()?)?;
             }
         }
     }
     Ok(rows)
 }
 
-/// The words of items other than those that list who has constraints, each apart from marks beside
-/// it.
-fn words_in<'a>(alloc: Global, told: &'a [Item]) -> Result<Vec<&'a str>, AllocError> {
-    let mut words = Gathered::new(alloc);
-    for item in told {
-        if item.label != "who" {
-            add_words(&mut words, &item.text);
-        }
-    }
-    words.done()
+/// Whether some items name a thing; those are left out that list who has constraints.
+fn is_named(told: &[Item], thing: Thing) -> bool {
+    told.iter().any(|item| item.label != "who"
+        && item.mentions.iter().any(|mention| mention.thing == thing))
 }
 
-fn add_words<'a>(words: &mut Gathered<&'a str>, text: &'a str) {
-    for part in text.split(' ') {
-        let end = part.trim_end_matches(';').trim_end_matches(':');
-        let inner = end.trim_end_matches(',').trim_end_matches(')');
-        words.add(inner.trim_start_matches('('));
-    }
-}
-
-/// The fields that are among some words.
-fn fields_in(alloc: Global, words: &[&str]) -> Result<Vec<&'static str>, AllocError> {
+/// The fields that some items name.
+fn fields_in(alloc: Global, told: &[Item]) -> Result<Vec<Field>, AllocError> {
     let mut fields = Vec::new(alloc);
     for field in FIELDS {
-        if words.contains(&field) {
+        if is_named(told, Thing::Field(field)) {
             fields.push(field)?;
         }
     }
@@ -189,9 +166,9 @@ fn fields_in(alloc: Global, words: &[&str]) -> Result<Vec<&'static str>, AllocEr
 fn lines_of(
     alloc: Global,
     document: &Document<'_>,
-    fields: &[&str],
+    fields: &[Field],
     number: usize,
-) -> Result<String, AllocError> {
+) -> Result<Text, AllocError> {
     let call = number.saturating_sub(1);
     let path = [
         Step::Key("calls"),
@@ -200,31 +177,35 @@ fn lines_of(
     ];
     let span = document.span(alloc, &path, Part::Value)?;
     let (Some(value), Some(span)) = (document.at(&path), span) else {
-        return Ok(String::new(alloc));
+        return Ok(Text::new(alloc));
     };
     let record = Document {
         file: document.file,
         bytes: span.within(document.bytes),
         value,
+        whole: Whole::Record,
     };
     let begin = line_of(document.bytes, span.start.min(document.bytes.len()));
     let mut words = Words::new(alloc);
     for field in fields {
-        put_lines(&mut words, &record, begin, field);
+        put_lines(&mut words, &record, begin, *field);
     }
-    words.done()
+    words.into_text()
 }
 
 /// Puts in which lines constraints, which begin in a line of the text, state a field after a text.
-fn put_lines(text: &mut Words, record: &Document<'_>, begin: usize, field: &str) {
-    put_line(text, record, begin, &[Step::Key(field)], field, 0);
-    let memory = [Step::Key("buffer_memory_constraints"), Step::Key(field)];
+fn put_lines(text: &mut Words, record: &Document<'_>, begin: usize, field: Field) {
+    put_line(text, record, begin, &[Step::Key(field.name())], field, 0);
+    let memory = [
+        Step::Key("buffer_memory_constraints"),
+        Step::Key(field.name()),
+    ];
     put_line(text, record, begin, &memory, field, 0);
     for entry in 0..MOST_ENTRIES {
         let path = [
             Step::Key("image_format_constraints"),
             Step::Item(entry),
-            Step::Key(field),
+            Step::Key(field.name()),
         ];
         put_line(text, record, begin, &path, field, entry);
     }
@@ -237,7 +218,7 @@ fn put_line(
     record: &Document<'_>,
     begin: usize,
     path: &[Step<'_>],
-    field: &str,
+    field: Field,
     entry: usize,
 ) {
     if record.at(path).is_none() {
@@ -251,7 +232,10 @@ fn put_line(
     let within = line_of(record.bytes, span.start.min(record.bytes.len()));
     let line = begin.saturating_add(within).saturating_sub(1);
     let mark = if text.as_str().is_empty() { "" } else { ", " };
-    text.put(mark).put(field).put(" in line ").put_number(line);
+    text.put(mark)
+        .field(field)
+        .put(" in line ")
+        .put_number(line);
     if entry > 0 {
         let place = entry.saturating_add(1);
         text.put(" (entry ").put_number(place).put(")");

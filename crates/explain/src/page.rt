@@ -7,4 +7,5 @@ mod proofs;
 mod written;
 
 pub use ending::explained_ending;
+pub(crate) use paged::page_of_scene;
 pub use written::explain_to_page;

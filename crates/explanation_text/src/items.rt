@@ -1,8 +1,6 @@
 //! What is told, as one list of items.
 
-ghost use Rattle.std.specs.Prelude.{◌≡◌};
-
-use crate::words::Words;
+use crate::words::{Mention, Text, Words};
 use std::alloc::{AllocError, Global};
 
 /// How an item is shown.
@@ -26,6 +24,8 @@ pub struct Item {
     pub label: &'static str,
     /// May have several lines where it is `Source`.
     pub text: String,
+    /// What the text names, in order.
+    pub mentions: Vec<Mention>,
     /// Below how many items it stands.
     pub depth: usize,
     pub kind: Kind,
@@ -36,6 +36,7 @@ impl Drop for Item {
         let Item {
             label: _,
             text: _,
+            mentions: _,
             depth: _,
             kind: _,
         } = self;
@@ -43,17 +44,15 @@ impl Drop for Item {
 }
 
 impl Item {
-    /// Its text alone.
-    pub fn into_text(self) -> String
-        ensures { result ≡ self.text }
-    {
-        let Item {
+    pub fn new(kind: Kind, depth: usize, label: &'static str, text: Text) -> Item {
+        let (text, mentions) = text.into_parts();
+        Item {
+            label,
             text,
-            label: _,
-            depth: _,
-            kind: _,
-        } = self;
-        text
+            mentions,
+            depth,
+            kind,
+        }
     }
 }
 
@@ -100,13 +99,8 @@ impl Items {
     }
 
     pub fn push(&mut self, kind: Kind, depth: usize, label: &'static str, words: Words) {
-        match words.done() {
-            Ok(text) => self.add(Item {
-                label,
-                text,
-                depth,
-                kind,
-            }),
+        match words.into_text() {
+            Ok(text) => self.add(Item::new(kind, depth, label, text)),
             Err(AllocError) => self.refuse(),
         }
     }
@@ -135,9 +129,11 @@ impl Items {
 
     /// Puts a line of a report after the list, as one that would come of what stands above it.
     pub fn promise(&mut self, depth: usize, line: String) {
+        let mentions = Vec::new(self.alloc);
         self.add(Item {
             label: "->",
             text: line,
+            mentions,
             depth,
             kind: Kind::Decision,
         })
@@ -195,5 +191,8 @@ pub fn are_same(a: &Items, b: &Items) -> bool {
 }
 
 fn is_same(a: &Item, b: &Item) -> bool {
-    a.label == b.label && a.depth == b.depth && a.text.as_str() == b.text.as_str()
+    a.label == b.label
+        && a.depth == b.depth
+        && a.text.as_str() == b.text.as_str()
+        && a.mentions == b.mentions
 }

@@ -30,4 +30,4 @@ pub use places::{
 };
 pub use printing::text_of;
 pub use snippet::{Mark, show};
-pub use words::{Gathered, Words};
+pub use words::{Gathered, Mention, Name, Phrase, Text, Thing, Words};

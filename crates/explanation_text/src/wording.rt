@@ -1,12 +1,12 @@
 //! Lists of names and counts, in words.
 
-use crate::words::Words;
+use crate::words::{Phrase, Words};
 
 /// How many names one list has; one more is shown rather than counted.
 pub const MOST_NAMES: usize = 4;
 
 /// Puts the names after the text, as `a, b and c`.
-pub fn put_joined(text: &mut Words, names: &[&str], word: &str) {
+pub fn put_joined<T: Phrase + Drop>(text: &mut Words, names: &[T], word: &str) {
     let Some((last, others)) = names.split_last() else {
         return;
     };
@@ -14,14 +14,15 @@ pub fn put_joined(text: &mut Words, names: &[&str], word: &str) {
     if !others.is_empty() {
         text.put(" ").put(word).put(" ");
     }
-    text.put(last);
+    last.put_into(text);
 }
 
 /// Puts the names after the text, with commas between them.
-fn put_listed(text: &mut Words, names: &[&str]) {
+fn put_listed<T: Phrase + Drop>(text: &mut Words, names: &[T]) {
     for (k, name) in names.iter().enumerate() {
         let before = if k == 0 { "" } else { ", " };
-        text.put(before).put(name);
+        text.put(before);
+        name.put_into(text);
     }
 }
 
@@ -35,7 +36,7 @@ pub fn mark_after(index: usize, count: usize) -> &'static str {
 }
 
 /// Puts at most so many of the names after the text, and counts the others: `a, b and 3 more`.
-pub fn put_few(text: &mut Words, names: &[&str], most: usize) {
+pub fn put_few<T: Phrase + Drop>(text: &mut Words, names: &[T], most: usize) {
     if names.len() <= most.saturating_add(1) {
         return put_joined(text, names, "and");
     }

@@ -2,18 +2,99 @@
 
 use std::alloc::{AllocError, Global};
 use std::fmt::Display;
+use sysmem_counts::Field;
+use sysmem_formats::{Modifier, PixelFormat};
+
+/// What words can name.
+#[derive(Clone, Copy, PartialEq, Eq)]
+pub enum Thing {
+    /// A node, by number.
+    Node(usize),
+    /// A call, by number, from 1.
+    Call(usize),
+    Field(Field),
+    Format(PixelFormat),
+    Modifier(Modifier),
+}
+
+/// What a text names at one of its bytes.
+#[derive(Clone, Copy, PartialEq, Eq)]
+pub struct Mention {
+    pub at: usize,
+    pub thing: Thing,
+}
+
+/// A node, by number, with its name.
+#[derive(Clone, Copy, PartialEq, Eq)]
+pub struct Name<'a> {
+    pub node: usize,
+    pub text: &'a str,
+}
+
+/// What may stand in a list of words.
+pub trait Phrase {
+    /// Puts it after words.
+    fn put_into(&self, words: &mut Words);
+}
+
+impl Phrase for &str {
+    fn put_into(&self, words: &mut Words) {
+        words.put(self);
+    }
+}
+
+impl Phrase for Name<'_> {
+    fn put_into(&self, words: &mut Words) {
+        words.name(*self);
+    }
+}
+
+impl Phrase for Text {
+    fn put_into(&self, words: &mut Words) {
+        words.put_text(self);
+    }
+}
+
+/// A text, with what it names.
+#[derive(Drop, PartialEq, Eq)]
+pub struct Text {
+    text: String,
+    mentions: Vec<Mention>,
+}
+
+impl Text {
+    pub fn new(alloc: Global) -> Text {
+        Text {
+            text: String::new(alloc),
+            mentions: Vec::new(alloc),
+        }
+    }
+
+    pub fn alloc(&self) -> Global {
+        *self.text.allocator()
+    }
+
+    pub fn is_empty(&self) -> bool {
+        self.text.is_empty()
+    }
+
+    /// The text, and what it names, in order.
+    pub fn into_parts(self) -> (String, Vec<Mention>) {
+        (self.text, self.mentions)
+    }
+}
 
 /// A text that grows by its parts. Where memory is refused to one of them, no text comes of it.
 #[derive(Drop)]
 pub struct Words {
-    text: String,
+    text: Text,
     is_refused: bool,
 }
 
 impl Words {
     pub fn new(alloc: Global) -> Words {
         Words {
-            text: String::new(alloc),
+            text: Text::new(alloc),
             is_refused: false,
         }
     }
@@ -25,13 +106,27 @@ impl Words {
         words
     }
 
+    /// Words with a name first.
+    pub fn of_name(alloc: Global, name: Name<'_>) -> Words {
+        let mut words = Words::new(alloc);
+        words.name(name);
+        words
+    }
+
+    /// Words with a text first.
+    pub fn of_text(alloc: Global, text: &Text) -> Words {
+        let mut words = Words::new(alloc);
+        words.put_text(text);
+        words
+    }
+
     pub fn alloc(&self) -> Global {
-        *self.text.allocator()
+        self.text.alloc()
     }
 
     /// The text so far.
     pub fn as_str(&self) -> &str {
-        &self.text
+        &self.text.text
     }
 
     /// Memory was refused to something that is a part of the text.
@@ -41,7 +136,7 @@ impl Words {
 
     /// Puts a part after the text.
     pub fn put(&mut self, part: &str) -> &mut Words {
-        if self.text.push_str(part).is_err() {
+        if self.text.text.push_str(part).is_err() {
             self.is_refused = true;
         }
         self
@@ -49,7 +144,7 @@ impl Words {
 
     /// Puts a character after the text.
     pub fn put_char(&mut self, c: char) -> &mut Words {
-        if self.text.push(c).is_err() {
+        if self.text.text.push(c).is_err() {
             self.is_refused = true;
         }
         self
@@ -57,7 +152,7 @@ impl Words {
 
     /// Puts a number after the text, in decimal.
     pub fn put_number<N: Display + Drop>(&mut self, number: N) -> &mut Words {
-        if write!(self.text, "{number}").is_err() {
+        if write!(self.text.text, "{number}").is_err() {
             self.is_refused = true;
         }
         self
@@ -68,15 +163,68 @@ impl Words {
         if words.is_refused {
             self.is_refused = true;
         }
-        self.put(&words.text)
+        self.put_text(&words.text)
     }
 
-    /// The text; `AllocError` where memory was refused to a part of it.
-    pub fn done(self) -> Result<String, AllocError> {
+    /// Puts another text after the text.
+    pub fn put_text(&mut self, text: &Text) -> &mut Words {
+        let before = self.text.text.len();
+        for mention in &text.mentions {
+            self.mention(before.saturating_add(mention.at), mention.thing);
+        }
+        self.put(&text.text)
+    }
+
+    /// Puts the name of a node after the text.
+    pub fn name(&mut self, name: Name<'_>) -> &mut Words {
+        self.named(Thing::Node(name.node)).put(name.text)
+    }
+
+    /// Puts the number of a call after the text.
+    pub fn call(&mut self, number: usize) -> &mut Words {
+        self.named(Thing::Call(number)).put_number(number)
+    }
+
+    /// Puts the name of a field after the text.
+    pub fn field(&mut self, field: Field) -> &mut Words {
+        self.named(Thing::Field(field)).put(field.name())
+    }
+
+    /// Puts the name of a format after the text.
+    pub fn format(&mut self, format: PixelFormat) -> &mut Words {
+        self.named(Thing::Format(format)).put(format.name())
+    }
+
+    /// Puts the name of a modifier after the text.
+    pub fn modifier(&mut self, modifier: Modifier) -> &mut Words {
+        self.named(Thing::Modifier(modifier)).put(modifier.name())
+    }
+
+    /// Names a thing by what comes next.
+    fn named(&mut self, thing: Thing) -> &mut Words {
+        let at = self.text.text.len();
+        self.mention(at, thing);
+        self
+    }
+
+    fn mention(&mut self, at: usize, thing: Thing) {
+        if self.text.mentions.push(Mention { at, thing }).is_err() {
+            self.is_refused = true;
+        }
+    }
+
+    /// The text with what it names; `AllocError` where memory was refused to a part of it.
+    pub fn into_text(self) -> Result<Text, AllocError> {
         if self.is_refused {
             return Err(AllocError);
         }
         Ok(self.text)
+    }
+
+    /// The text alone; `AllocError` where memory was refused to a part of it.
+    pub fn done(self) -> Result<String, AllocError> {
+        let (text, _mentions) = self.into_text()?.into_parts();
+        Ok(text)
     }
 }
 
@@ -124,6 +272,17 @@ impl Gathered<String> {
     /// Puts a text after the list; refuses the list where memory was refused to the text.
     pub fn add_words(&mut self, words: Words) {
         match words.done() {
+            Ok(text) => self.add(text),
+            Err(AllocError) => self.is_refused = true,
+        }
+    }
+}
+
+impl Gathered<Text> {
+    /// Puts a text with what it names after the list; refuses the list where memory was refused to
+    /// the text.
+    pub fn add_text(&mut self, words: Words) {
+        match words.into_text() {
             Ok(text) => self.add(text),
             Err(AllocError) => self.is_refused = true,
         }

@@ -9,9 +9,13 @@ pub record CollectionFacts : Type 0 where
   pub book : BookFacts
   pub names : List NamedNode
 
+-- the collection of a book, without names
+abbrev pub collection_of : BookFacts → CollectionFacts
+collection_of b = record { book = b; names = [] }
+
 -- a new collection
 abbrev pub new_collection : PlatformFacts → CollectionFacts
-new_collection platform = record { book = new_book platform; names = [] }
+new_collection platform = collection_of (new_book platform)
 
 -- the collection with another book
 abbrev pub with_book : CollectionFacts → BookFacts → CollectionFacts

@@ -1,7 +1,7 @@
 //! A live collection.
 
 ghost use Rattle.std.specs.Prelude.{◌≡◌, IfOk};
-ghost use Rattle.live_book.specs.Collection.{new_collection};
+ghost use Rattle.live_book.specs.Collection.{collection_of, new_collection};
 ghost use Rattle.live_book.specs.Eager.{IsEager};
 
 use node_names::Names;
@@ -43,6 +43,15 @@ impl Collection {
         let book = Book::new(alloc, platform)?;
         let names = Names::new(alloc);
         Ok(Collection { book, names })
+    }
+
+    /// A collection of a book, without names.
+    pub fn of(alloc: Global, book: Book) -> Collection
+        requires { IsEager book.history }
+        ensures { result ≡ collection_of book }
+    {
+        let names = Names::new(alloc);
+        Collection { book, names }
     }
 
     /// The book.

@@ -1,3 +1,4 @@
+pub mod Homes
 pub mod Named
 pub mod OneDecision
 pub mod ReadingBack
@@ -6,3 +7,4 @@ pub mod Refusing
 pub mod Replying
 pub mod Telling
 pub mod Texts
+pub mod Unmet

@@ -1,12 +1,16 @@
--- What is true of one of a list, and of the numbers below one.
-use Rattle.std.proofs.Common.{◌≡◌, ℕ, zero, suc, ◌+◌, ◌<◌, ◌≤◌, ◌||◌, List, [], ◌∷◌, ◌++◌, Bool, true, false, length, map, take, slice_get, Option, Some, None, arith, refl, sym, ◌∙◌, ap, cond, get_or}
-use Rattle.std.specs.List.{cons_option, filter, filter_map, list_any, range_with_len}
+-- What is true of one of a list, and of those of its nodes that ask in a domain.
+use Rattle.std.proofs.Common.{◌≡◌, ℕ, zero, suc, ◌+◌, ◌<◌, ◌≤◌, ◌||◌, List, [], ◌∷◌, ◌++◌, Bool, true, false, length, map, take, slice_get, Option, Some, None, arith, refl, sym, ◌∙◌, ap, get_or}
+use Rattle.std.specs.Prelude.{if◌then◌else◌}
+use Rattle.std.specs.List.{cons_option, enumerate_from, filter, filter_map, list_any}
+use Rattle.std.specs.Option.{option_map_or}
 use Rattle.std.proofs.Math.Bool.{or-true}
-use Rattle.std.proofs.lemmas.List.Elements.{filter-append, filter_map-append}
-use Rattle.std.proofs.lemmas.List.Folds.{list_any-append, list_any_at}
-use Rattle.std.proofs.lemmas.List.FromFn.{get_or-range_with_len, length-range_with_len}
-use Rattle.std.proofs.lemmas.List.{take_more}
+use Rattle.std.proofs.lemmas.List.Elements.{filter_map-append}
+use Rattle.std.proofs.lemmas.List.Folds.{list_any-append}
+use Rattle.std.proofs.lemmas.List.FromFn.{length-enumerate_from}
+use Rattle.std.proofs.lemmas.List.{length-map, take_more}
 use Rattle.std.proofs.lemmas.Option.{same_Some}
+use Rattle.sysmem_tree.specs.Node.{NodeFacts}
+use Rattle.live_script.specs.Refusing.{asking_in, asks_in}
 use Rattle.live_script.proofs.ReadingBack.{mapped_more}
 
 -- one more entry isn't of the kind
@@ -23,40 +27,72 @@ found p f [] k x at is = absurd (cc at)
 found p f (y ∷ xs) zero x at is = ap (λ b. b || list_any p (map f xs)) (ap (λ z. p (f z)) (same_Some y x at) ∙ is)
 found p f (y ∷ xs) (suc k) x at is = ap (λ b. p (f y) || b) (found p f xs k x at is) ∙ or-true (p (f y))
 
--- one more number
-last_of : (a n k : ℕ) → a + n ≡ k → range_with_len a (suc n) ≡ range_with_len a n ++ k ∷ []
-last_of a zero k e = let same : a ≡ k = omega (arith, e) in ap (λ j. j ∷ []) same
-last_of a (suc n) k e = ap (λ l. a ∷ l) (last_of (a + 1) n k (omega (arith, e)))
+-- one more isn't
+none_so : {A : Type 0} (p : A → Bool) (xs : List A) (k : ℕ) → option_map_or p (slice_get xs k) false ≡ false → list_any p (take k xs) ≡ false → list_any p (take (suc k) xs) ≡ false
+none_so p [] zero isnt none = refl
+none_so p [] (suc k) isnt none = refl
+none_so p (x ∷ xs) zero isnt none = ap (λ b. b || false) isnt
+none_so p (x ∷ xs) (suc k) isnt none = by (p x) (none_so p xs k isnt) none where
+  by : (b : Bool) → (list_any p (take k xs) ≡ false → list_any p (take (suc k) xs) ≡ false) → (b || list_any p (take k xs)) ≡ false → (b || list_any p (take (suc k) xs)) ≡ false
+  by true rest e = absurd (cc e)
+  by false rest e = rest e
 
-one_more : (k : ℕ) → range_with_len 0 (k + 1) ≡ range_with_len 0 k ++ k ∷ []
-one_more k = let next : k + 1 ≡ suc k = omega arith in ap (range_with_len 0) next ∙ last_of 0 k k (omega arith)
+next_of : (k : ℕ) → suc k ≡ k + 1
+next_of k = omega arith
 
--- it doesn't pass
-pub none_below : (p : ℕ → Bool) (k : ℕ) → p k ≡ false → list_any p (range_with_len 0 k) ≡ false → list_any p (range_with_len 0 (k + 1)) ≡ false
-none_below p k isnt none =
-    ap (list_any p) (one_more k)
-    ∙ (list_any-append p (range_with_len 0 k) (k ∷ []) ∙ (ap (λ b. b || (p k || false)) none ∙ ap (λ b. b || false) isnt))
+pub none_yet : {A : Type 0} (p : A → Bool) (xs : List A) (k : ℕ) → option_map_or p (slice_get xs k) false ≡ false → list_any p (take k xs) ≡ false → list_any p (take (k + 1) xs) ≡ false
+none_yet p xs k isnt none = ap (λ m. list_any p (take m xs)) (sym (next_of k)) ∙ none_so p xs k isnt none
 
--- one of them passes
-pub one_below : (p : ℕ → Bool) (n k : ℕ) → k < n → p k ≡ true → list_any p (range_with_len 0 n) ≡ true
-one_below p n k below is =
-    let own : 0 + k ≡ k = omega arith in
-    list_any_at p (range_with_len 0 n) k 0 (omega (arith, below, length-range_with_len 0 n)) (ap p (get_or-range_with_len 0 n k 0 below ∙ own) ∙ is)
+-- one is
+pub one_is : {A : Type 0} (p : A → Bool) (xs : List A) (k : ℕ) → option_map_or p (slice_get xs k) false ≡ true → list_any p xs ≡ true
+one_is p [] k is = absurd (cc is)
+one_is p (x ∷ xs) zero is = ap (λ b. b || list_any p xs) is
+one_is p (x ∷ xs) (suc k) is = ap (λ b. p x || b) (one_is p xs k is) ∙ or-true (p x)
 
--- those that pass, and then the next if it does
-pub kept_more : (p : ℕ → Bool) (k : ℕ) → filter p (range_with_len 0 (k + 1)) ≡ filter p (range_with_len 0 k) ++ filter p (k ∷ [])
-kept_more p k = ap (filter p) (one_more k) ∙ filter-append p (range_with_len 0 k) (k ∷ [])
+-- those that pass with their numbers, from one on, and the numbers alone
+abbrev pub kept_from : (NodeFacts → Bool) → ℕ → List NodeFacts → List (ℕ × NodeFacts)
+kept_from p i nodes = filter (λ (q : ℕ × NodeFacts). p q.1) (enumerate_from i nodes)
 
-few_by : (b : Bool) (x : ℕ) (ys : List ℕ) (n : ℕ) → length ys ≤ n → length (cond b (x ∷ ys) ys) ≤ suc n
-few_by true x ys n few = omega (arith, few)
-few_by false x ys n few = omega (arith, few)
+abbrev pub firsts : List (ℕ × NodeFacts) → List ℕ
+firsts qs = map (λ (q : ℕ × NodeFacts). q.0) qs
 
-few : (p : ℕ → Bool) (xs : List ℕ) → length (filter p xs) ≤ length xs
+abbrev pub numbers_from : (NodeFacts → Bool) → ℕ → List NodeFacts → List ℕ
+numbers_from p i nodes = firsts (kept_from p i nodes)
+
+one_more : (p : NodeFacts → Bool) (i : ℕ) (nodes : List NodeFacts) (k j : ℕ) → i + k ≡ j
+    → numbers_from p i (take (suc k) nodes) ≡ numbers_from p i (take k nodes) ++ (if option_map_or p (slice_get nodes k) false then j ∷ [] else [])
+one_more p i [] zero j is = refl
+one_more p i [] (suc k) j is = refl
+one_more p i (n ∷ nodes) zero j is = by (p n) where
+  same : i ≡ j
+  same = omega (arith, is)
+
+  by : (b : Bool) → firsts (if b then (i, n) ∷ [] else []) ≡ (if b then j ∷ [] else [])
+  by true = ap (λ m. m ∷ []) same
+  by false = refl
+one_more p i (n ∷ nodes) (suc k) j is = by (p n) (one_more p (i + 1) nodes k j (omega (arith, is))) where
+  by : (b : Bool) → numbers_from p (i + 1) (take (suc k) nodes) ≡ numbers_from p (i + 1) (take k nodes) ++ (if option_map_or p (slice_get nodes k) false then j ∷ [] else [])
+      → firsts (if b then (i, n) ∷ kept_from p (i + 1) (take (suc k) nodes) else kept_from p (i + 1) (take (suc k) nodes))
+      ≡ firsts (if b then (i, n) ∷ kept_from p (i + 1) (take k nodes) else kept_from p (i + 1) (take k nodes)) ++ (if option_map_or p (slice_get nodes k) false then j ∷ [] else [])
+  by true rest = ap (λ ms. i ∷ ms) rest
+  by false rest = rest
+
+-- those that ask in a domain, and the next node's if it does
+pub asking_more : (nodes : List NodeFacts) (r k : ℕ) → asking_in (take (k + 1) nodes) r ≡ asking_in (take k nodes) r ++ (if option_map_or (asks_in r) (slice_get nodes k) false then k ∷ [] else [])
+asking_more nodes r k = ap (λ m. asking_in (take m nodes) r) (sym (next_of k)) ∙ one_more (asks_in r) 0 nodes k k (omega arith)
+
+kept_by : {A : Type 0} (b : Bool) (x : A) (ys : List A) (n : ℕ) → length ys ≤ n → length (if b then x ∷ ys else ys) ≤ suc n
+kept_by true x ys n few = omega (arith, few)
+kept_by false x ys n few = omega (arith, few)
+
+few : {A : Type 0} (p : A → Bool) (xs : List A) → length (filter p xs) ≤ length xs
 few p [] = omega arith
-few p (x ∷ xs) = few_by (p x) x (filter p xs) (length xs) (few p xs)
+few p (x ∷ xs) = kept_by (p x) x (filter p xs) (length xs) (few p xs)
 
-pub kept_few : (p : ℕ → Bool) (n : ℕ) → length (filter p (range_with_len 0 n)) ≤ n
-kept_few p n = omega (arith, few p (range_with_len 0 n), length-range_with_len 0 n)
+-- they are no more than the nodes
+pub asking_few : (nodes : List NodeFacts) (r : ℕ) → length (asking_in nodes r) ≤ length nodes
+asking_few nodes r =
+    omega (arith, length-map (kept_from (asks_in r) 0 nodes) (λ (q : ℕ × NodeFacts). q.0), few (λ (q : ℕ × NodeFacts). asks_in r q.1) (enumerate_from 0 nodes), length-enumerate_from 0 nodes)
 
 -- what is known of some, and then of the next
 pub known_more : {A B : Type 0} (h : A → Option B) (xs : List A) (k : ℕ) (d : A) → k < length xs → filter_map h (take (k + 1) xs) ≡ filter_map h (take k xs) ++ filter_map h (get_or xs k d ∷ [])

@@ -1,7 +1,7 @@
 -- How the call ends that tells who is in the way of a domain without settings.
-use Rattle.std.specs.Prelude.{◌≡◌, ◌≤◌, ◌==◌, ◌&&◌, ℕ, Bool, true, false, not, List, length, filter}
-use Rattle.std.specs.Prelude.{Option, Some, None, is_none, is_some, option_map, slice_get, unwrap_or}
-use Rattle.std.specs.List.{list_any, range_with_len}
+use Rattle.std.specs.Prelude.{◌≡◌, ◌≤◌, ◌==◌, ◌&&◌, ℕ, Bool, true, false, not, List, length, map}
+use Rattle.std.specs.Prelude.{Option, Some, filter, is_none, is_some, slice_get}
+use Rattle.std.specs.List.{enumerate_from, list_any}
 use Rattle.std.specs.Option.{option_map_or}
 use Rattle.flat_negotiation.specs.Blame.{IsBlamed}
 use Rattle.flat_negotiation.specs.Refusals.{flat_refusal}
@@ -24,29 +24,21 @@ use Rattle.verdict_claims.specs.Asked.{asked_in}
 use Rattle.verdict_claims.specs.declared.verdict.Verdict.{Verdict}
 use Rattle.verdict_claims.specs.declared.verdict.Verdict.TheVariants as verdicts
 
--- the numbers of nodes, in the order in which these were made
-abbrev pub numbers : List NodeFacts → List ℕ
-numbers nodes = range_with_len 0 (length nodes)
-
--- whether this is true of node k
-abbrev pub is_at : (NodeFacts → Bool) → List NodeFacts → ℕ → Bool
-is_at test nodes k = unwrap_or (option_map test (slice_get nodes k)) false
-
 -- whether a node is a group of the domain of this root
 abbrev pub is_group_of : ℕ → NodeFacts → Bool
 is_group_of r n = (n.domain == r) && is_group n.state.kind
 
--- whether a node of that domain set constraints
+-- whether a domain has a group
+abbrev pub has_group : List NodeFacts → ℕ → Bool
+has_group nodes r = list_any (is_group_of r) nodes
+
+-- whether a node is one of that domain, and set constraints
 abbrev pub asks_in : ℕ → NodeFacts → Bool
 asks_in r n = (n.domain == r) && is_some n.constraints
 
--- whether the domain has a group
-abbrev pub has_group : List NodeFacts → ℕ → Bool
-has_group nodes r = list_any (is_at (is_group_of r) nodes) (numbers nodes)
-
--- the numbers of its nodes that set constraints
+-- the numbers of the nodes of a domain that set constraints, in the order in which these were made
 abbrev pub asking_in : List NodeFacts → ℕ → List ℕ
-asking_in nodes r = filter (is_at (asks_in r) nodes) (numbers nodes)
+asking_in nodes r = map (λ p. p.0) (filter (λ p. asks_in r p.1) (enumerate_from 0 nodes))
 
 -- whether a verdict is that no settings meet everybody
 abbrev pub is_empty : Option Verdict → Bool

@@ -1,14 +1,15 @@
 //! Who is in the way of a domain that has no settings.
 
-ghost use Rattle.std.specs.Prelude.{◌≡◌, ◌<◌, ◌≤◌, ◌++◌, ◌∷◌, ℕ, [], IfErr, IfOk, IfSome, IsSome, List, OnOk, Some, filter, length, option_map, slice_get, true};
+ghost use Rattle.std.specs.Prelude.{◌≡◌, ◌<◌, ◌≤◌, ◌++◌, ◌∷◌, ℕ, [], IfErr, IfOk, IfSome, IsSome, List, OnOk, Some, false, if◌then◌else◌, length, option_map, slice_get, true};
 ghost use Rattle.std.specs.Arc.{arc_value};
 ghost use Rattle.std.specs.List.{list_any};
+ghost use Rattle.std.specs.Option.{option_map_or};
 ghost use Rattle.flat_negotiation.specs.Refusals.{flat_refusal};
 ghost use Rattle.flat_negotiation.specs.Unsettled.{AreUnmet};
 ghost use Rattle.flat_negotiation.specs.declared.unsettled.Refusal.{Refusal};
 ghost use Rattle.flat_negotiation.specs.declared.unsettled.Unsettled.TheVariants.{NoMemory, Unmet};
 ghost use Rattle.live_book.specs.declared.object.Object.TheVariants.{Snapshot as Copied};
-ghost use Rattle.live_script.specs.Refusing.{TellsRefusal, TellsWho, asking_in, asks_in, by_number, has_group, is_at, is_emptied, is_empty, is_group_of, is_told};
+ghost use Rattle.live_script.specs.Refusing.{TellsRefusal, TellsWho, asking_in, asks_in, by_number, has_group, is_emptied, is_empty, is_group_of, is_told};
 ghost use Rattle.sysmem_alloc.specs.Decision.{verdict_in};
 ghost use Rattle.sysmem_alloc.specs.Entry.{entry_in};
 ghost use Rattle.sysmem_merge.specs.Best.{IsBest};
@@ -66,7 +67,7 @@ fn has_emptied(snapshot: &Snapshot, domain: DomainId) -> bool
 
 /// Whether the node of a number is a group of a domain.
 fn is_group_at(tree: &Tree, number: u32, domain: DomainId) -> bool
-    ensures { result ≡ is_at (is_group_of domain) tree.now.nodes number }
+    ensures { result ≡ option_map_or (is_group_of domain) (slice_get tree.now.nodes number) false }
 {
     match tree.node(number) {
         Some(node) => {
@@ -90,7 +91,7 @@ fn has_group(tree: &Tree, domain: DomainId) -> bool
 
 /// Whether the node of a number is one of a domain, and set constraints.
 fn is_asking(tree: &Tree, number: u32, domain: DomainId) -> bool
-    ensures { result ≡ is_at (asks_in domain) tree.now.nodes number }
+    ensures { result ≡ option_map_or (asks_in domain) (slice_get tree.now.nodes number) false }
 {
     match tree.node(number) {
         Some(node) => tree.domain_of(node) == domain && tree.constraints_of(node).is_some(),
@@ -105,8 +106,9 @@ fn add_asking(
     domain: DomainId,
     numbers: &mut Vec<u32>,
 ) -> Result<(), AllocError>
-    ensures { OnOk result (numbers.new.items
-        ≡ numbers.old.items ++ filter (is_at (asks_in domain) tree.now.nodes) (number ∷ [])) }
+    ensures { OnOk result (numbers.new.items ≡ numbers.old.items
+        ++ (if option_map_or (asks_in domain) (slice_get tree.now.nodes number) false
+        then number ∷ [] else [])) }
 {
     if is_asking(tree, number, domain) {
         Ok(numbers.push(number)?)

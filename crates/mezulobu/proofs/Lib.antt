@@ -1,3 +1,4 @@
 mod Endings
 mod Explanations
+mod RecordSayings
 mod Sayings

@@ -1,5 +1,6 @@
 pub mod Ends
 pub mod Explains
 pub mod Negotiated
+pub mod RecordFaults
 pub mod Says
 pub mod Words

@@ -5,7 +5,7 @@ ghost use Rattle.serde_json.specs.View.{view};
 ghost use Rattle.mezulobu.specs.Explains.{ExplanationSays, HasFault, IsFaultOf};
 
 use crate::told::Told;
-use explain::{Outcome, explain, objects_of, text_of};
+use explain::{Outcome, Outputs, explain};
 use script_reading::{ParseFault, ScriptFault, parse_script, read_script};
 use serde_json::Value;
 use std::alloc::{AllocError, Global};
@@ -71,16 +71,20 @@ fn explained_of(
     is_json: bool,
 ) -> Result<Explained, AllocError> {
     let file = String::from_utf8_lossy(alloc, file)?;
-    let explanation = explain(alloc, file.as_str(), script)?;
-    let text = if is_json {
-        objects_of(alloc, file.as_str(), script, &explanation)?
-    } else {
-        text_of(alloc, &explanation.items)?
+    let wanted = Outputs {
+        text: !is_json,
+        objects: is_json,
+        page: false,
     };
-    Ok(Explained {
-        is_faulty: explanation.outcome == Outcome::Faulty,
-        text: text.into_bytes(),
-    })
+    let told = explain(alloc, file.as_str(), script, wanted)?;
+    let is_faulty = told.outcome == Outcome::Faulty;
+    match told.objects.or(told.text) {
+        Some(text) => Ok(Explained {
+            is_faulty,
+            text: text.into_bytes(),
+        }),
+        None => Err(AllocError),
+    }
 }
 
 /// What is told of a script that has this fault, or none.

@@ -1,12 +1,13 @@
 //! The negotiator for C: the bytes of a script in, the bytes of its report and of its certificate
-//! out, or of what it means in words; and a list of participants as structs in, their settings as a
-//! struct out.
+//! out, or of what it means in words; a record in, what is wrong with it in words out; and a list of
+//! participants as structs in, their settings as a struct out.
 //!
 //! `c/mezulobu.c` is what a program calls: it turns null pointers into what these functions take.
 #![tactic(auto)]
 
 mod explained;
 mod live;
+mod records;
 mod told;
 mod words;
 

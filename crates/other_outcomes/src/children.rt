@@ -56,12 +56,12 @@ fn tell_exchanged(
 }
 
 fn say_exchanged(items: &mut Items, story: &Story<'_>, pair: Siblings) {
-    let mut words = Words::of(items.alloc(), story.name(pair.later));
+    let mut words = Words::of_name(items.alloc(), story.called(pair.later));
     words.put(" would do too, but is created after ");
-    words.put(story.name(pair.chosen));
+    words.name(story.called(pair.chosen));
     words.put(", and the first child that does is chosen; with their names exchanged in calls ");
-    words.put_number(pair.first).put(" and ");
-    words.put_number(pair.second).put(" it would be:");
+    words.call(pair.first).put(" and ");
+    words.call(pair.second).put(" it would be:");
     items.say(1, "then", words)
 }
 

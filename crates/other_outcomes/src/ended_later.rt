@@ -134,9 +134,7 @@ fn put_head(items: &mut Items, story: &Story<'_>, ends: &[End], decided: usize) 
 fn put_tried(text: &mut Words, ends: &[End], decided: usize) {
     text.put("; with ");
     put_calls(text, ends);
-    text.put(" before call ")
-        .put_number(decided)
-        .put(" it would be:");
+    text.put(" before call ").call(decided).put(" it would be:");
 }
 
 /// That those still count.
@@ -150,7 +148,7 @@ fn still_text(alloc: Global, story: &Story<'_>, ends: &[End]) -> Words {
 fn put_names(text: &mut Words, story: &Story<'_>, ends: &[End]) {
     let mut names = Gathered::new(text.alloc());
     for end in ends {
-        names.add(story.name(end.node));
+        names.add(story.called(end.node));
     }
     match names.done() {
         Ok(names) => put_few(text, &names, MOST_NAMES),
@@ -191,7 +189,7 @@ fn ending(story: &Story<'_>, ends: &[End]) -> &'static str {
 fn put_calls(text: &mut Words, ends: &[End]) {
     text.put(if ends.len() == 1 { "call " } else { "calls " });
     for (k, end) in ends.iter().enumerate() {
-        text.put_number(end.call).put(mark_after(k, ends.len()));
+        text.call(end.call).put(mark_after(k, ends.len()));
     }
 }
 

@@ -73,11 +73,11 @@ fn pair_of(story: &Story<'_>, index: usize) -> Option<Pair> {
 }
 
 fn say_pair(items: &mut Items, pair: Pair, chosen: Pair) {
-    let mut words = Words::of(items.alloc(), pair.format.name());
-    words.put(" ").put(pair.modifier.name());
+    let mut words = Words::new(items.alloc());
+    words.format(pair.format).put(" ").modifier(pair.modifier);
     words.put(" would do too, but stands after ");
-    words.put(chosen.format.name()).put(" ");
-    words.put(chosen.modifier.name());
+    words.format(chosen.format).put(" ");
+    words.modifier(chosen.modifier);
     words.put(" on the platform, whose order decides, not the entries'; ");
     words.put("with it first there it would be:");
     items.say(1, "then", words)

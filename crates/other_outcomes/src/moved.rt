@@ -91,8 +91,8 @@ fn say_moves(items: &mut Items, moves: &[Move], end: &str) {
 fn put_moves(text: &mut Words, moves: &[Move]) {
     for (k, one) in moves.iter().enumerate() {
         text.put(if k > 0 { " and call " } else { "call " });
-        text.put_number(one.call).put(" moved after call ");
-        text.put_number(one.after);
+        text.call(one.call).put(" moved after call ");
+        text.call(one.after);
     }
 }
 

@@ -2,7 +2,7 @@
 
 use domain_reasons::who_holds_up;
 use explanation_text::wording::{MOST_NAMES, put_few};
-use explanation_text::{Items, Words};
+use explanation_text::{Items, Name, Words};
 use script_reading::{Act, Call};
 use script_story::{Setting, Story};
 use std::alloc::{AllocError, Global};
@@ -92,11 +92,11 @@ fn names_of<'a>(
     story: &Story<'a>,
     nodes: &[usize],
     are_groups: bool,
-) -> Result<Vec<&'a str>, AllocError> {
+) -> Result<Vec<Name<'a>>, AllocError> {
     let mut names = Vec::new(alloc);
     for node in nodes {
         if story.is_group(*node) == are_groups {
-            names.push(story.name(*node))?;
+            names.push(story.called(*node))?;
         }
     }
     Ok(names)

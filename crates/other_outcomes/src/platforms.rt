@@ -33,8 +33,8 @@ pub fn tell_platform(
 
 fn say_pair(items: &mut Items, pair: Pair) {
     let mut words = Words::of(items.alloc(), "with ");
-    words.put(pair.format.name()).put(" ");
-    words.put(pair.modifier.name());
+    words.format(pair.format).put(" ");
+    words.modifier(pair.modifier);
     words.put(" on the platform it would be:");
     items.say(1, "then", words)
 }

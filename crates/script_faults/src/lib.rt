@@ -3,17 +3,24 @@
 //!
 //! ```
 //! let mut items = Items::new(rt.alloc());
-//! tell_fault(&mut items, &Document { file: "camera.json", bytes, value: &value }, fault)?;
+//! let (file, whole) = ("camera.json", Whole::Script);
+//! tell_fault(&mut items, &Document { file, bytes, value: &value, whole }, fault)?;
 //! print!(rt; "{}", text_of(rt.alloc(), &items.into_list()?)?)?;
+//! if let Some(words) = record_fault(rt.alloc(), RecordKind::Platform, record, "pixel.json")? {
+//!     print!(rt; "{words}")?;
+//! }
 //! ```
 #![tactic(auto)]
 
 mod call_fault;
 mod keys;
+mod no_json;
 mod record;
+mod record_alone;
 mod script_fault;
 
 pub use call_fault::actor_of;
 pub use explanation_text::{Item, Items, Kind, Mark, are_same, show, text_of, wording};
-pub use record::{Document, Part, tell_record_fault};
+pub use record::{Document, Part, Whole, tell_record_fault};
+pub use record_alone::{RecordFault, RecordKind, record_fault};
 pub use script_fault::{tell_fault, tell_no_json};

@@ -2,8 +2,9 @@
 
 use crate::call_fault::tell_call_fault;
 use crate::keys::SCRIPT;
+use crate::no_json::{Broken, is_blank, tell_break};
 use crate::record::{Document, Part, first_unknown, key_of, tell_record_fault, wrong_kind};
-use explanation_text::{Item, Items, Kind, Mark, Span, Step, Words, nearest, show, stop_of};
+use explanation_text::{Item, Items, Kind, Step, Words, nearest};
 use script_reading::{LONGEST, ScriptFault};
 use serde_json::Value;
 use std::alloc::{AllocError, Global};
@@ -44,6 +45,7 @@ fn put_answer(items: &mut Items, fault: ScriptFault) {
         Ok(text) => items.add(Item {
             label: "",
             text,
+            mentions: Vec::new(alloc),
             depth: 0,
             kind: Kind::Answer,
         }),
@@ -67,7 +69,7 @@ fn tell_calls(items: &mut Items, document: &Document<'_>) {
     items.say(1, "", words)
 }
 
-/// Tells where a text stops being JSON.
+/// Tells where a script stops being JSON.
 pub fn tell_no_json(items: &mut Items, file: &str, bytes: &[u8]) -> Result<(), AllocError> {
     put_answer(items, ScriptFault::NotJson);
     if is_blank(bytes) {
@@ -75,93 +77,8 @@ pub fn tell_no_json(items: &mut Items, file: &str, bytes: &[u8]) -> Result<(), A
         items.say_text(1, "", text);
         return Ok(());
     }
-    tell_break(items, file, bytes)
-}
-
-fn is_blank(bytes: &[u8]) -> bool {
-    for byte in bytes {
-        if !byte.is_ascii_whitespace() {
-            return false;
-        }
-    }
-    true
-}
-
-/// Tells where a text that isn't empty stops being UTF-8 or JSON.
-fn tell_break(items: &mut Items, file: &str, bytes: &[u8]) -> Result<(), AllocError> {
-    let valid = match std::str::from_utf8(bytes) {
-        Ok(_) => bytes.len(),
-        Err(error) => error.valid_up_to(),
-    };
-    let front = bytes.get(..valid).unwrap_or(bytes);
-    match stop_of(items.alloc(), front)? {
-        Some(stop) if stop.at < valid || valid == bytes.len() => {
-            tell_stop(
-                items,
-                file,
-                bytes,
-                stop.at,
-                stop.expected.words(),
-                stop.help,
-            )
-        }
-        _ => tell_byte(items, file, bytes, valid),
-    }
-}
-
-fn tell_stop(
-    items: &mut Items,
-    file: &str,
-    bytes: &[u8],
-    at: usize,
-    expected: &str,
-    help: String,
-) -> Result<(), AllocError> {
-    let helps = helps_of(items.alloc(), help)?;
-    let end = if at >= bytes.len() {
-        ", found the end"
-    } else {
-        ""
-    };
-    let mut words = Words::of(items.alloc(), "expected ");
-    words.put(expected).put(end);
-    let note = words.done()?;
-    let mark = Mark {
-        span: byte_at(at),
-        said: "",
-        note: &note,
-    };
-    show(items, 1, file, bytes, mark, &helps);
-    Ok(())
-}
-
-/// A list of what helps, where something does.
-fn helps_of(alloc: Global, help: String) -> Result<Vec<String>, AllocError> {
-    if help.is_empty() {
-        return Ok(Vec::new(alloc));
-    }
-    Ok(vec![in alloc; help]?)
-}
-
-fn byte_at(at: usize) -> Span {
-    Span {
-        start: at,
-        end: at.saturating_add(1),
-    }
-}
-
-/// Tells a byte that isn't UTF-8.
-fn tell_byte(items: &mut Items, file: &str, bytes: &[u8], at: usize) -> Result<(), AllocError> {
-    let alloc = items.alloc();
-    let byte = bytes.get(at).copied().unwrap_or(0);
-    let note = format!(in alloc; "the byte 0x{byte:02x} isn't UTF-8")?;
-    let mark = Mark {
-        span: byte_at(at),
-        said: "",
-        note: &note,
-    };
-    show(items, 1, file, bytes, mark, &[]);
-    Ok(())
+    let depth = 1;
+    tell_break(items, Broken { file, bytes, depth })
 }
 
 /// Tells a script that is no object with a platform and a list of calls.

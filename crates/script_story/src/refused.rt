@@ -2,10 +2,11 @@
 
 use crate::story::{Deed, Made, Story};
 use explanation_text::wording::{MOST_NAMES, mark_after, put_few, put_joined};
-use explanation_text::{Gathered, Items, Step, Words};
+use explanation_text::{Gathered, Items, Name, Step, Text, Words};
 use script_faults::{Document, tell_record_fault};
 use script_reading::Act;
 use std::alloc::{AllocError, Global};
+use sysmem_counts::Field;
 use sysmem_sanitise::{Code, Fault, read_constraints};
 use sysmem_tree::NodeKind;
 
@@ -20,7 +21,7 @@ const MOST_NUMBERS: usize = 8;
 struct Row {
     /// Their numbers.
     numbers: Vec<usize>,
-    cause: String,
+    cause: Text,
     /// The fault of the constraints.
     fault: Option<Fault>,
 }
@@ -94,12 +95,12 @@ fn tell_more(items: &mut Items, more: usize) {
 
 /// What is told of the calls that were refused, those with one cause together; where their
 /// constraints have a fault only its field and its code.
-pub fn refused_words(alloc: Global, story: &Story<'_>) -> Result<Vec<String>, AllocError> {
+pub fn refused_words(alloc: Global, story: &Story<'_>) -> Result<Vec<Text>, AllocError> {
     let rows = rows_of(alloc, story)?;
     let mut texts = Gathered::new(alloc);
     for row in &rows {
         if let Some(call) = story.call(number_of(row)) {
-            texts.add_words(row_text(alloc, call, row));
+            texts.add_text(row_text(alloc, story, call, row));
         }
     }
     texts.done()
@@ -139,7 +140,7 @@ fn row_of(
     put_cause(&mut words, story, call, number);
     Ok(Row {
         numbers: vec![in alloc; number]?,
-        cause: words.done()?,
+        cause: words.into_text()?,
         fault,
     })
 }
@@ -197,7 +198,7 @@ fn tell_row(items: &mut Items, document: &Document<'_>, story: &Story<'_>, row: 
     let Some(call) = story.call(number) else {
         return;
     };
-    let words = row_text(items.alloc(), call, row);
+    let words = row_text(items.alloc(), story, call, row);
     items.say(1, "", words);
     let Some(fault) = row.fault else {
         return;
@@ -213,48 +214,70 @@ fn tell_row(items: &mut Items, document: &Document<'_>, story: &Story<'_>, row: 
 
 /// Calls and why they were refused, and behind it their reply; of a fault only its field and its
 /// code, for it is told below.
-fn row_text(alloc: Global, call: &Made<'_>, row: &Row) -> Words {
+fn row_text(alloc: Global, story: &Story<'_>, call: &Made<'_>, row: &Row) -> Words {
     let mut words = Words::new(alloc);
-    put_calls(&mut words, call, &row.numbers);
+    put_calls(&mut words, story, call, &row.numbers);
     let (code, reply) = (call.code(), call.reply);
-    let (cause, field, answer) = match row.fault {
-        None => (row.cause.as_str(), "", reply),
-        Some(_) if code == "S2" => ("a key that isn't known", "", code),
-        Some(_) => ("a fault in ", faulty_field(reply), code),
+    words.put(": ");
+    let answer = match row.fault {
+        None => {
+            words.put_text(&row.cause);
+            reply
+        }
+        Some(_) => {
+            put_fault(&mut words, code, reply);
+            code
+        }
     };
-    words.put(": ").put(cause).put(field);
     words.put(" (").put(answer).put(")");
     words
 }
 
-/// The field of a reply that names a fault: `S4 usage`.
-fn faulty_field<'a>(reply: &'a str) -> &'a str {
-    match reply.split_once(' ') {
-        Some((_, field)) if field != "whole" => field,
-        _ => "its constraints",
+/// Puts the fault that a reply names after a text: `S4 usage`.
+fn put_fault(text: &mut Words, code: &str, reply: &str) {
+    if code == "S2" {
+        text.put("a key that isn't known");
+        return;
     }
+    text.put("a fault in ");
+    match reply.split_once(' ') {
+        Some((_, name)) if name != "whole" => match Field::from_name(name) {
+            Some(field) => text.field(field),
+            None => text.put(name),
+        },
+        _ => text.put("its constraints"),
+    };
 }
 
 /// Puts which calls they are after a text: `call 3, bind a`, or `calls 3, 4 and 5`.
-fn put_calls(text: &mut Words, call: &Made<'_>, numbers: &[usize]) {
+fn put_calls(text: &mut Words, story: &Story<'_>, call: &Made<'_>, numbers: &[usize]) {
     let Some((number, others)) = numbers.split_first() else {
         return;
     };
     if others.is_empty() {
-        return put_call(text, call, *number);
+        return put_call(text, story, call, *number);
     }
     text.put("calls ");
     put_numbers(text, numbers)
 }
 
-fn put_call(text: &mut Words, call: &Made<'_>, number: usize) {
-    let (space, made) = match call.act.name_made() {
-        Some(made) => (" ", made),
-        None => ("", ""),
+/// Puts the name of a node after a text, or one that no node has.
+fn put_name(text: &mut Words, story: &Story<'_>, name: &str) {
+    match node_of(story, name) {
+        Some(node) => text.name(story.called(node)),
+        None => text.put(name),
     };
-    text.put("call ").put_number(number).put(", ");
-    text.put(call.name()).put(" ").put(call.on);
-    text.put(space).put(made);
+}
+
+fn put_call(text: &mut Words, story: &Story<'_>, call: &Made<'_>, number: usize) {
+    text.put("call ").call(number).put(", ");
+    text.put(call.name()).put(" ");
+    call.put_on(text);
+    let Some(made) = call.act.name_made() else {
+        return;
+    };
+    text.put(" ");
+    put_name(text, story, made)
 }
 
 /// Puts the numbers of calls after a text: `3, 4 and 5`.
@@ -267,7 +290,7 @@ fn put_numbers(text: &mut Words, numbers: &[usize]) {
     let more = numbers.len().saturating_sub(most);
     let parts = most.saturating_add(usize::from(more > 0));
     for (k, number) in numbers.iter().take(most).enumerate() {
-        text.put_number(*number).put(mark_after(k, parts));
+        text.call(*number).put(mark_after(k, parts));
     }
     if more == 0 {
         return;
@@ -277,14 +300,14 @@ fn put_numbers(text: &mut Words, numbers: &[usize]) {
 
 /// Puts why a call was refused after a text.
 fn put_cause(text: &mut Words, story: &Story<'_>, call: &Made<'_>, number: usize) {
-    let on = call.on;
     let Some(node) = call.node else {
-        return put_unmade(text, story, on);
+        return put_unmade(text, story, call.on);
     };
     match call.code() {
         "E2" => put_wrong_state(text, story, call, node, number),
         "E4" => {
-            text.put(on).put(" has no child: create_child comes first");
+            call.put_on(text);
+            text.put(" has no child: create_child comes first");
         }
         "E5" => put_left_out(text, story, node),
         "E6" => put_ended(text, story, node),
@@ -309,7 +332,7 @@ fn put_unmade(text: &mut Words, story: &Story<'_>, on: &str) {
     for (index, other) in story.calls.iter().enumerate() {
         if other.act.name_made() == Some(on) {
             let number = index.saturating_add(1);
-            text.put("call ").put_number(number);
+            text.put("call ").call(number);
             text.put(", which makes ").put(on).put(", wasn't made");
             return;
         }
@@ -320,7 +343,7 @@ fn put_unmade(text: &mut Words, story: &Story<'_>, on: &str) {
 /// Puts a domain with its root's name after a text: `domain /0 (camera)`.
 pub fn put_domain(text: &mut Words, story: &Story<'_>, root: usize) {
     text.put("domain ").put(story.path(root));
-    text.put(" (").put(story.name(root)).put(")");
+    text.put(" (").name(story.called(root)).put(")");
 }
 
 /// Puts what became of the domain of a node, and after which call, after a text.
@@ -332,9 +355,9 @@ fn put_ended(text: &mut Words, story: &Story<'_>, node: usize) {
     let number = domain.ended.unwrap_or(0);
     let verdict = domain.verdict();
     if verdict == "failed" {
-        text.put(" failed after call ").put_number(number);
+        text.put(" failed after call ").call(number);
     } else {
-        text.put(" was decided after call ").put_number(number);
+        text.put(" was decided after call ").call(number);
         text.put(": ").put(verdict);
     }
 }
@@ -356,10 +379,10 @@ fn put_left_out(text: &mut Words, story: &Story<'_>, node: usize) {
         Err(AllocError) => return text.refuse(),
     };
     let number = end_of(story, node).unwrap_or(0);
-    text.put(story.name(group)).put(" chose ");
-    text.put(story.name(other)).put(" and not ");
-    text.put(story.name(below)).put(", after call ");
-    text.put_number(number);
+    text.name(story.called(group)).put(" chose ");
+    text.name(story.called(other)).put(" and not ");
+    text.name(story.called(below)).put(", after call ");
+    text.call(number);
 }
 
 /// The next selected node above a node, with its child above the node or the node itself.
@@ -407,7 +430,7 @@ fn put_too_early(text: &mut Words, story: &Story<'_>, node: usize, number: usize
         return;
     }
     let last = domain.ended.unwrap_or(0);
-    text.put(": move it after call ").put_number(last);
+    text.put(": move it after call ").call(last);
     text.put(", or use wait");
 }
 
@@ -425,12 +448,12 @@ fn awaited<'a>(
     story: &Story<'a>,
     index: usize,
     number: usize,
-) -> Result<Vec<&'a str>, AllocError> {
+) -> Result<Vec<Name<'a>>, AllocError> {
     let nodes = story.awaited(alloc, index, number)?;
     story.names(alloc, &nodes)
 }
 
-fn put_those_awaited(text: &mut Words, names: &[&str]) {
+fn put_those_awaited(text: &mut Words, names: &[Name<'_>]) {
     if names.is_empty() {
         text.put("the domain that it was attached to is still awaited");
         return;
@@ -440,7 +463,7 @@ fn put_those_awaited(text: &mut Words, names: &[&str]) {
 }
 
 /// Puts words on one name after a text, or those on several.
-fn put_by_count(text: &mut Words, names: &[&str], one: &str, many: &str) {
+fn put_by_count(text: &mut Words, names: &[Name<'_>], one: &str, many: &str) {
     text.put(if names.len() == 1 { one } else { many });
 }
 
@@ -452,14 +475,14 @@ fn put_wrong_state(
     node: usize,
     number: usize,
 ) {
-    let on = call.on;
     if let Some(gone) = story.deed_before(node, Deed::End, number) {
         return put_gone(text, story, call, number, gone);
     }
     let makes = matches!(call.act, Act::CreateChild(_) | Act::AllChildrenPresent);
     match story.kind_before(node, number) {
         NodeKind::Token if makes => {
-            text.put(on).put(" is a token, no group");
+            call.put_on(text);
+            text.put(" is a token, no group");
         }
         NodeKind::Token => put_unbound(text, story, call, node, number),
         NodeKind::Group => put_wrong_group(text, story, call, node, number, makes),
@@ -469,28 +492,29 @@ fn put_wrong_state(
 
 /// A call on a node that the call of the number `gone` released or closed.
 fn put_gone(text: &mut Words, story: &Story<'_>, call: &Made<'_>, number: usize, gone: usize) {
-    let on = call.on;
     let actor = story.actor(gone);
     let how = match story.call(gone) {
         Some(deed) if matches!(deed.act, Act::Close) => "closed",
         _ => "released",
     };
-    text.put(on).put(" was ").put(how);
-    text.put(" by call ").put_number(gone);
+    call.put_on(text);
+    text.put(" was ").put(how);
+    text.put(" by call ").call(gone);
     text.put(" (").put(actor).put(")");
     put_unset(text, story, call, number, "; it may mean ")
 }
 
 /// A call that needs a collection, on a token.
 fn put_unbound(text: &mut Words, story: &Story<'_>, call: &Made<'_>, node: usize, number: usize) {
-    let on = call.on;
     let Some(later) = story.deed(node, Deed::Bind) else {
-        text.put(on).put(" is a token: bind makes it a collection");
+        call.put_on(text);
+        text.put(" is a token: bind makes it a collection");
         return;
     };
-    text.put(on).put(" is a token until call ");
-    text.put_number(later).put(" binds it: ");
-    text.put("move this call after call ").put_number(later);
+    call.put_on(text);
+    text.put(" is a token until call ");
+    text.call(later).put(" binds it: ");
+    text.put("move this call after call ").call(later);
     put_unset(text, story, call, number, ", or it means ")
 }
 
@@ -507,18 +531,18 @@ fn put_unset(text: &mut Words, story: &Story<'_>, call: &Made<'_>, number: usize
 }
 
 /// The names of those who were bound before the call of a number and have no constraints.
-fn unset<'a>(alloc: Global, story: &Story<'a>, number: usize) -> Result<Vec<&'a str>, AllocError> {
+fn unset<'a>(alloc: Global, story: &Story<'a>, number: usize) -> Result<Vec<Name<'a>>, AllocError> {
     let mut names = Vec::new(alloc);
     for node in 0..story.nodes.len() {
         let is_bound = story.deed_before(node, Deed::Bind, number).is_some();
         if is_bound && story.is_awaited(node, usize::MAX) {
-            names.push(story.name(node))?;
+            names.push(story.called(node))?;
         }
     }
     Ok(names)
 }
 
-fn put_those_unset(text: &mut Words, names: &[&str], before: &str) {
+fn put_those_unset(text: &mut Words, names: &[Name<'_>], before: &str) {
     if names.is_empty() {
         return;
     }
@@ -535,11 +559,11 @@ fn put_wrong_group(
     number: usize,
     makes: bool,
 ) {
-    let on = call.on;
     if makes {
         let last = story.deed_before(node, Deed::Complete, number).unwrap_or(0);
-        text.put(on).put(" got its last child before call ");
-        text.put_number(last).put(", all_children_present");
+        call.put_on(text);
+        text.put(" got its last child before call ");
+        text.call(last).put(", all_children_present");
         return;
     }
     let why = if matches!(call.act, Act::Release) {
@@ -547,7 +571,8 @@ fn put_wrong_group(
     } else {
         "is a group: only create_child, all_children_present, release and close suit it"
     };
-    text.put(on).put(" ").put(why);
+    call.put_on(text);
+    text.put(" ").put(why);
 }
 
 fn put_wrong_collection(
@@ -557,28 +582,28 @@ fn put_wrong_collection(
     node: usize,
     number: usize,
 ) {
-    let on = call.on;
     match call.act {
         Act::SetConstraints(_) => put_set_before(text, story, call, node, number),
         Act::Duplicate(_) | Act::CreateGroup(_) | Act::Bind => {
             put_bound(text, story, call, node, number)
         }
         _ => {
-            text.put(on).put(" is a collection, no group");
+            call.put_on(text);
+            text.put(" is a collection, no group");
         }
     }
 }
 
 /// A call that needs a token, on a collection.
 fn put_bound(text: &mut Words, story: &Story<'_>, call: &Made<'_>, node: usize, number: usize) {
-    let on = call.on;
     let bound = story.deed_before(node, Deed::Bind, number).unwrap_or(0);
-    text.put(on).put(" is no token any more: call ");
-    text.put_number(bound).put(" bound it");
+    call.put_on(text);
+    text.put(" is no token any more: call ");
+    text.call(bound).put(" bound it");
     if call.act.name_made().is_none() {
         return;
     }
-    text.put("; move call ").put_number(bound);
+    text.put("; move call ").call(bound);
     text.put(" after this call");
 }
 
@@ -591,33 +616,33 @@ fn put_set_before(
     node: usize,
     number: usize,
 ) {
-    let on = call.on;
     let actor = call.actor;
     let first = story
         .deed_before(node, Deed::SetConstraints, number)
         .unwrap_or(0);
-    text.put("call ").put_number(first);
-    text.put(" already set ").put(on).put("; call ");
-    text.put_number(number).put(" changed nothing");
-    if actor != on && is_name(story, actor) {
-        put_meant(text, actor)
-    } else {
-        put_unset(text, story, call, number, ": it may mean ")
+    text.put("call ").call(first);
+    text.put(" already set ");
+    call.put_on(text);
+    text.put("; call ");
+    text.call(number).put(" changed nothing");
+    match node_of(story, actor) {
+        Some(node) if actor != call.on => put_meant(text, story.called(node)),
+        _ => put_unset(text, story, call, number, ": it may mean "),
     }
 }
 
-/// Whether a node has this name.
-fn is_name(story: &Story<'_>, name: &str) -> bool {
-    for node in &story.nodes {
+/// The node of a name, by number.
+fn node_of(story: &Story<'_>, name: &str) -> Option<usize> {
+    for (number, node) in story.nodes.iter().enumerate() {
         if node.name == name {
-            return true;
+            return Some(number);
         }
     }
-    false
+    None
 }
 
-/// Puts who may be meant after a text.
-fn put_meant(text: &mut Words, actor: &str) {
-    text.put(" (is ").put(actor);
-    text.put(" meant? its actor is ").put(actor).put(")");
+/// Puts who may be meant after a text: a node that is called as the actor is.
+fn put_meant(text: &mut Words, name: Name<'_>) {
+    text.put(" (is ").name(name);
+    text.put(" meant? its actor is ").put(name.text).put(")");
 }

@@ -3,6 +3,7 @@
 ghost use Rattle.std.specs.Prelude.{◌≡◌};
 ghost use Rattle.script_story.specs.Paths.{path_at};
 
+use explanation_text::{Name, Words};
 use script_reading::Act;
 use std::alloc::{AllocError, Global};
 use sysmem_merge::Settings;
@@ -24,6 +25,17 @@ pub struct Made<'a> {
 }
 
 impl<'a> Made<'a> {
+    /// Puts the name on which it is made after a text.
+    pub fn put_on(&self, text: &mut Words) {
+        match self.node {
+            Some(node) => text.name(Name {
+                node,
+                text: self.on,
+            }),
+            None => text.put(self.on),
+        };
+    }
+
     /// Whether it was made.
     pub fn is_accepted(&self) -> bool {
         self.reply == "ok"
@@ -211,6 +223,14 @@ impl<'a> Story<'a> {
         }
     }
 
+    /// A node, by number, with its name.
+    pub fn called(&self, node: usize) -> Name<'a> {
+        Name {
+            node,
+            text: self.name(node),
+        }
+    }
+
     /// The parent of a node, by number.
     pub fn parent(&self, node: usize) -> Option<usize> {
         self.nodes.get(node)?.parent
@@ -337,10 +357,10 @@ impl<'a> Story<'a> {
     }
 
     /// The names of nodes.
-    pub fn names(&self, alloc: Global, nodes: &[usize]) -> Result<Vec<&'a str>, AllocError> {
+    pub fn names(&self, alloc: Global, nodes: &[usize]) -> Result<Vec<Name<'a>>, AllocError> {
         let mut names = Vec::new(alloc);
         for node in nodes {
-            names.push(self.name(*node))?;
+            names.push(self.called(*node))?;
         }
         Ok(names)
     }

@@ -8,6 +8,7 @@ use crate::refusing::{place_rows, tell_offers};
 use crate::rows::tell_rows;
 use explanation_text::{Items, Words};
 use std::alloc::{AllocError, Global};
+use sysmem_counts::Field;
 use sysmem_formats::{Offer, Pair, bytes_per_pixel};
 use sysmem_merge::Settings;
 use sysmem_sanitise::Platform;
@@ -56,7 +57,10 @@ fn tell_derived(items: &mut Items, label: &'static str, derived: Result<Derived,
 /// Tells a number, and where it comes from.
 fn tell_number(items: &mut Items, label: &'static str, derived: &Derived) {
     let mut words = Words::new(items.alloc());
-    words.put_number(derived.value).put(": ").put(&derived.why);
+    words
+        .put_number(derived.value)
+        .put(": ")
+        .put_text(&derived.why);
     items.say(1, label, words)
 }
 
@@ -81,7 +85,10 @@ fn note_side(items: &mut Items, wishes: Wishes<'_, '_>, side: Side) -> Result<()
     let mut words = Words::of(items.alloc(), "the ");
     words.put(side.name()).put(" is ").put_number(value);
     words.put(", more than twice the ").put_number(asked);
-    words.put(" that are asked for: is the size_alignment meant?");
+    words
+        .put(" that are asked for: is the ")
+        .field(Field::SizeAlignment)
+        .put(" meant?");
     items.say(1, "note", words);
     Ok(())
 }
@@ -210,7 +217,7 @@ fn tell_width(items: &mut Items, width: &Derived, height: &Derived) {
             .put_number(width.value)
             .put("x")
             .put_number(height.value);
-        words.put(": ").put(&width.why);
+        words.put(": ").put_text(&width.why);
         return items.say(1, "pixels", words);
     }
     tell_number(items, "width", width);

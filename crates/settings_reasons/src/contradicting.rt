@@ -34,28 +34,32 @@ pub(crate) fn tell_contradictions(items: &mut Items, depth: usize, people: &[Ask
     let most = items.len().saturating_add(MOST);
     for one in people {
         if let Some(clash) = whole_clash(one.asked) {
-            tell_clash(items, depth, one.name, clash, None);
+            tell_clash(items, depth, *one, clash, None);
         }
         for entry in one.asked.entries() {
             if items.len() >= most {
                 return;
             }
             if let Some(clash) = entry_clash(&entry.bounds.asked) {
-                tell_clash(items, depth, one.name, clash, Some(entry));
+                tell_clash(items, depth, *one, clash, Some(entry));
             }
         }
     }
 }
 
-fn tell_clash(items: &mut Items, depth: usize, name: &str, clash: Clash, entry: Option<&Entry>) {
-    let mut text = Words::of(items.alloc(), name);
+fn tell_clash(
+    items: &mut Items,
+    depth: usize,
+    one: Asked<'_>,
+    clash: Clash,
+    entry: Option<&Entry>,
+) {
+    let mut text = Words::of_name(items.alloc(), one.called());
     text.put(" contradicts itself: ")
-        .put(clash.least.name())
+        .field(clash.least)
         .put(" ");
     put_amount(&mut text, clash.low);
-    text.put(" is above its own ")
-        .put(clash.most.name())
-        .put(" ");
+    text.put(" is above its own ").field(clash.most).put(" ");
     put_amount(&mut text, clash.high);
     if let Some(entry) = entry {
         put_entry(&mut text, entry);

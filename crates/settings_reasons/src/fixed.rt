@@ -221,9 +221,9 @@ fn put_size(text: &mut Words, settings: &Settings, one: &Asked<'_>, field: Field
         Field::MinSizeBytes => memory.min_size_bytes,
         _ => memory.max_size_bytes,
     };
-    text.put(one.name)
+    text.name(one.called())
         .put(" says ")
-        .put(field.name())
+        .field(field)
         .put(" ")
         .put_number(mine);
     text.put(": the buffers have ")
@@ -232,7 +232,7 @@ fn put_size(text: &mut Words, settings: &Settings, one: &Asked<'_>, field: Field
 }
 
 fn put_bound(text: &mut Words, settings: &Settings, one: &Asked<'_>, field: Field) {
-    text.put(one.name).put(" says ").put(field.name()).put(" ");
+    text.name(one.called()).put(" says ").field(field).put(" ");
     if let Some(entry) = entry_for(one.asked.entries(), &settings.offer) {
         put_amount(text, amount_at(&entry.bounds.asked, field));
     }

@@ -3,7 +3,7 @@
 use crate::listed::is_taken;
 use crate::offer_words::pair_name;
 use crate::rows::{Row, add, tell_rows};
-use explanation_text::{Items, Words};
+use explanation_text::{Items, Text, Words};
 use std::alloc::AllocError;
 use sysmem_image::{ColourSet, Entry};
 use sysmem_memory::Heap;
@@ -13,7 +13,7 @@ use value_sources::{Asked, put_has};
 /// Something that a participant names.
 #[derive(Drop)]
 struct Named<'a> {
-    name: String,
+    name: Text,
     people: Vec<Asked<'a>>,
 }
 
@@ -49,7 +49,7 @@ fn add_lacked<'a>(
     if has_pair {
         name.put(" in any of its colour spaces");
     }
-    add_named(lacked, name.done()?, one)
+    add_named(lacked, name.into_text()?, one)
 }
 
 /// Tells which heaps participants permit and the platform lacks, those that most permit first.
@@ -66,7 +66,7 @@ pub(crate) fn tell_no_heaps(
             if !has_heap(platform, heap) {
                 let mut name = Words::of(alloc, &heap.heap_type);
                 name.put("#").put_number(heap.id);
-                add_named(&mut lacked, name.done()?, one)?;
+                add_named(&mut lacked, name.into_text()?, one)?;
             }
         }
     }
@@ -112,10 +112,10 @@ fn has_heap(platform: &Platform, heap: &Heap) -> bool {
 /// Adds that a participant names something.
 fn add_named<'a>(
     lacked: &mut Vec<Named<'a>>,
-    name: String,
+    name: Text,
     one: &Asked<'a>,
 ) -> Result<(), AllocError> {
-    let alloc = *name.allocator();
+    let alloc = name.alloc();
     for known in lacked.iter_mut() {
         if known.name == name {
             known.people.push(*one)?;
@@ -164,7 +164,7 @@ fn add_lacked_row(
     let alloc = *rows.allocator();
     let mut text = Words::new(alloc);
     put_has(&mut text, &named.people, one, many);
-    let reasons = vec![in alloc; text.done()?]?;
-    let name = Words::of(alloc, &named.name).done()?;
+    let reasons = vec![in alloc; text.into_text()?]?;
+    let name = Words::of_text(alloc, &named.name).into_text()?;
     add(rows, name, reasons, far, 1)
 }

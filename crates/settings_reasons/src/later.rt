@@ -37,14 +37,14 @@ fn put_would_take(text: &mut Words, people: &[Asked<'_>]) {
 pub(crate) fn put_later_size(
     text: &mut Words,
     wishes: Wishes<'_, '_>,
-    name: &str,
+    who: &Asked<'_>,
     side: Side,
     least: u128,
 ) {
     for one in wishes.people {
-        if one.name == name && takes_later(one, &wishes.offer, Some((side, least))) {
+        if one.node == who.node && takes_later(one, &wishes.offer, Some((side, least))) {
             text.put(", though a later entry of ")
-                .put(name)
+                .name(who.called())
                 .put(" takes more");
             return;
         }

@@ -5,12 +5,12 @@ use crate::later::{put_later, put_later_size};
 use crate::listed::has_format;
 use crate::rows::{mark_after, put_those};
 use explanation_text::wording::{put_few, put_joined};
-use explanation_text::{Gathered, Words};
+use explanation_text::{Gathered, Text, Words};
 use std::alloc::{AllocError, Global};
 use sysmem_counts::Field;
 use sysmem_formats::{ColourSpace, Modifier, Offer, PixelFormat};
 use sysmem_image::{ColourSet, entry_for};
-use value_sources::{Asked, Derived, Side, Wish, Wishes, format_of, put_has, put_texts};
+use value_sources::{Asked, Derived, Side, Wish, Wishes, format_words, put_has};
 
 const COLOURS: &[ColourSpace] = &[
     ColourSpace::Srgb,
@@ -28,12 +28,9 @@ pub(crate) fn offer_name(alloc: Global, offer: &Offer) -> Words {
     match offer {
         Offer::NoImage => Words::of(alloc, "without an image"),
         Offer::Image(pair, colour) => {
-            let mut words = Words::of(alloc, pair.format.name());
-            words
-                .put(" ")
-                .put(pair.modifier.name())
-                .put(" ")
-                .put(colour.name());
+            let mut words = Words::new(alloc);
+            words.format(pair.format).put(" ");
+            words.modifier(pair.modifier).put(" ").put(colour.name());
             words
         }
     }
@@ -45,10 +42,15 @@ pub(crate) fn pair_name(
     format: Option<PixelFormat>,
     modifier: Option<Modifier>,
 ) -> Words {
-    let mut words = Words::of(alloc, format.map_or("any format", PixelFormat::name));
-    words
-        .put(" ")
-        .put(modifier.map_or("DO_NOT_CARE", Modifier::name));
+    let mut words = Words::new(alloc);
+    match format {
+        Some(format) => words.format(format).put(" "),
+        None => words.put("any format "),
+    };
+    match modifier {
+        Some(modifier) => words.modifier(modifier),
+        None => words.put("DO_NOT_CARE"),
+    };
     words
 }
 
@@ -100,12 +102,12 @@ fn put_no_entry(text: &mut Words, offer: &Offer, people: &[Asked<'_>]) {
 }
 
 /// Puts with which modifiers alone a participant takes a format after a text.
-fn put_only_as(text: &mut Words, one: &Asked<'_>, format: PixelFormat, modifiers: &[&str]) {
+fn put_only_as(text: &mut Words, one: &Asked<'_>, format: PixelFormat, modifiers: &[Text]) {
     let mark = mark_after(text.as_str());
     text.put(mark)
-        .put(one.name)
+        .name(one.called())
         .put(" takes ")
-        .put(format.name())
+        .format(format)
         .put(" only as ");
     put_joined(text, modifiers, "and")
 }
@@ -115,14 +117,24 @@ fn modifiers_of(
     alloc: Global,
     one: &Asked<'_>,
     format: PixelFormat,
-) -> Result<Vec<&'static str>, AllocError> {
-    let mut names = Vec::new(alloc);
+) -> Result<Vec<Text>, AllocError> {
+    let mut names = Gathered::new(alloc);
     for entry in one.asked.entries() {
         if has_format(entry, format) {
-            names.push(entry.modifier.map_or("DO_NOT_CARE", Modifier::name))?;
+            names.add_text(modifier_words(alloc, entry.modifier));
         }
     }
-    Ok(names)
+    names.done()
+}
+
+/// The name of a modifier that an entry takes.
+fn modifier_words(alloc: Global, modifier: Option<Modifier>) -> Words {
+    let mut words = Words::new(alloc);
+    match modifier {
+        Some(modifier) => words.modifier(modifier),
+        None => words.put("DO_NOT_CARE"),
+    };
+    words
 }
 
 /// Puts in which colour spaces participants take an offer after a text.
@@ -207,14 +219,21 @@ fn put_required_side(text: &mut Words, wishes: Wishes<'_, '_>, side: Side) {
         return;
     }
     let mark = mark_after(text.as_str());
-    text.put(mark).put(takes).put(" takes a ").put(side.name());
+    text.put(mark)
+        .name(takes.called())
+        .put(" takes a ")
+        .put(side.name());
     text.put(" of ")
         .put_number(least)
-        .put(" or more (min_size), ");
-    text.put(puts)
+        .put(" or more (")
+        .field(Field::MinSize)
+        .put("), ");
+    text.name(puts.called())
         .put(" will put ")
         .put_number(most)
-        .put(" (required_min_size)");
+        .put(" (")
+        .field(Field::RequiredMinSize)
+        .put(")");
 }
 
 /// Puts that the smallest image is larger than somebody takes after a text.
@@ -241,13 +260,15 @@ fn put_too_large_side(text: &mut Words, wishes: Wishes<'_, '_>, side: Side) {
         .put(" is ");
     text.put_number(least.value)
         .put(": ")
-        .put(&least.why)
+        .put_text(&least.why)
         .put("; ");
-    text.put(who)
+    text.name(who.called())
         .put(" takes at most ")
         .put_number(most)
-        .put(" (max_size)");
-    put_later_size(text, wishes, who, side, least.value)
+        .put(" (")
+        .field(Field::MaxSize)
+        .put(")");
+    put_later_size(text, wishes, &who, side, least.value)
 }
 
 /// The least width or height of an image.
@@ -284,10 +305,10 @@ fn put_too_great(text: &mut Words, wishes: Wishes<'_, '_>, field: Field) {
     };
     if let Some((who, most)) = most {
         text.put("; ")
-            .put(who)
+            .name(who.called())
             .put(" takes at most ")
             .put_number(most);
-        text.put(" (").put(field.name()).put(")");
+        text.put(" (").field(field).put(")");
     }
 }
 
@@ -302,7 +323,7 @@ fn put_pixels(text: &mut Words, wishes: Wishes<'_, '_>) {
                 .put("x")
                 .put_number(height);
             text.put(" = ").put_number(width.saturating_mul(height));
-            text.put(" pixels: ").put(&why);
+            text.put(" pixels: ").put_text(&why);
         }
         _ => text.refuse(),
     }
@@ -319,7 +340,7 @@ fn put_derived(text: &mut Words, start: &str, derived: Result<Derived, AllocErro
                 .put(" ")
                 .put(unit)
                 .put(": ")
-                .put(&why);
+                .put_text(&why);
         }
         Err(AllocError) => text.refuse(),
     }
@@ -327,14 +348,14 @@ fn put_derived(text: &mut Words, start: &str, derived: Result<Derived, AllocErro
 
 /// Puts that what participants want multiples of has no common multiple after a text.
 fn put_no_multiple(text: &mut Words, wishes: Wishes<'_, '_>, field: Field) {
-    text.put(field.name()).put(" of ");
+    text.field(field).put(" of ");
     match amounts_of(text.alloc(), wishes, field) {
-        Ok(amounts) => put_texts(text, &amounts, 4),
+        Ok(amounts) => put_few(text, &amounts, 4),
         Err(AllocError) => text.refuse(),
     }
-    let format = format_of(&wishes.offer);
+    let format = format_words(text.alloc(), &wishes.offer);
     text.put(" have no common multiple up to 4294967295 (")
-        .put(format)
+        .put_words(&format)
         .put(")");
 }
 
@@ -343,14 +364,14 @@ fn amounts_of(
     alloc: Global,
     wishes: Wishes<'_, '_>,
     field: Field,
-) -> Result<Vec<String>, AllocError> {
-    let mut amounts: Gathered<String> = Gathered::new(alloc);
+) -> Result<Vec<Text>, AllocError> {
+    let mut amounts: Gathered<Text> = Gathered::new(alloc);
     for one in wishes.people {
         if let Some(entry) = entry_for(one.asked.entries(), &wishes.offer) {
-            let mut words = Words::of(alloc, one.name);
+            let mut words = Words::of_name(alloc, one.called());
             words.put(" ");
             put_amount(&mut words, amount_at(&entry.bounds.asked, field));
-            amounts.add_words(words);
+            amounts.add_text(words);
         }
     }
     amounts.done()

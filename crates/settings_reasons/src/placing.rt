@@ -158,25 +158,28 @@ pub(crate) fn put_place(text: &mut Words, platform: &Platform, place: Place) {
 
 /// Puts why participants refuse a place by a field into an empty text.
 pub(crate) fn put_place_reason(text: &mut Words, field: Field, people: &[Asked<'_>]) {
-    let name = field.name();
     match field {
         Field::PermittedHeaps => put_permits(text, people),
-        Field::PhysicallyContiguousRequired => put_needs(text, people, "contiguous", name),
-        Field::SecureRequired => put_needs(text, people, "secure", name),
+        Field::PhysicallyContiguousRequired => put_needs(text, people, "contiguous", field),
+        Field::SecureRequired => put_needs(text, people, "secure", field),
         Field::Usage => put_has(
             text,
             people,
             "uses the CPU (usage cpu), which doesn't reach it",
             "use the CPU (usage cpu), which doesn't reach it",
         ),
-        _ => put_unsupported(text, people, name),
+        _ => put_unsupported(text, people, field),
     }
 }
 
 /// Puts which memory participants need by a field after a text.
-fn put_needs(text: &mut Words, people: &[Asked<'_>], what: &str, field: &str) {
+fn put_needs(text: &mut Words, people: &[Asked<'_>], what: &str, field: Field) {
     put_has(text, people, "needs", "need");
-    text.put(" ").put(what).put(" memory (").put(field).put(")");
+    text.put(" ")
+        .put(what)
+        .put(" memory (")
+        .field(field)
+        .put(")");
 }
 
 /// Puts which heaps participants permit after a text; of several with other lists only that it
@@ -218,16 +221,16 @@ fn states(one: &Asked<'_>, field: &str) -> bool {
 
 /// Puts who says that it doesn't take a coherency domain into an empty text, and who doesn't say
 /// that it does.
-fn put_unsupported(text: &mut Words, people: &[Asked<'_>], field: &str) {
+fn put_unsupported(text: &mut Words, people: &[Asked<'_>], field: Field) {
     put_stating(text, people, field, true);
     put_stating(text, people, field, false)
 }
 
 /// Puts who states a field, or who doesn't, after a text, if somebody does.
-fn put_stating(text: &mut Words, people: &[Asked<'_>], field: &str, is_stated: bool) {
+fn put_stating(text: &mut Words, people: &[Asked<'_>], field: Field, is_stated: bool) {
     let mut those = Gathered::new(text.alloc());
     for one in people {
-        if states(one, field) == is_stated {
+        if states(one, field.name()) == is_stated {
             those.add(*one);
         }
     }
@@ -238,7 +241,7 @@ fn put_stating(text: &mut Words, people: &[Asked<'_>], field: &str, is_stated: b
 }
 
 /// Puts that participants state a field, or don't, after a text, if they are some.
-fn put_stated(text: &mut Words, people: &[Asked<'_>], field: &str, is_stated: bool) {
+fn put_stated(text: &mut Words, people: &[Asked<'_>], field: Field, is_stated: bool) {
     if people.is_empty() {
         return;
     }
@@ -248,5 +251,5 @@ fn put_stated(text: &mut Words, people: &[Asked<'_>], field: &str, is_stated: bo
         ("doesn't say", "don't say", ", so it's false")
     };
     put_those(text, people, one, many);
-    text.put(" ").put(field).put(end);
+    text.put(" ").field(field).put(end);
 }

@@ -4,7 +4,7 @@ use crate::offer_words::{offer_name, pair_name, put_offer_reason};
 use crate::offering::{distance_of, offer_reasons};
 use crate::placing::{place_name, place_reasons, put_place_reason};
 use crate::rows::{Reason, Row, add, tell_rows};
-use explanation_text::{Gathered, Items, Words};
+use explanation_text::{Gathered, Items, Text, Words};
 use std::alloc::{AllocError, Global};
 use std::mem;
 use sysmem_formats::Offer;
@@ -40,7 +40,7 @@ fn add_place(
     let reasons = place_reasons(alloc, platform, place, people)?;
     let far = if all { refusals(&reasons) } else { 0 };
     let texts = texts_of(alloc, None, &reasons, all)?;
-    let name = place_name(alloc, platform, place).done()?;
+    let name = place_name(alloc, platform, place).into_text()?;
     add(rows, name, texts, far, 1)
 }
 
@@ -51,11 +51,11 @@ fn texts_of(
     offer: Option<&Offer>,
     reasons: &[Reason<'_>],
     all: bool,
-) -> Result<Vec<String>, AllocError> {
+) -> Result<Vec<Text>, AllocError> {
     let most = if all { reasons.len() } else { 1 };
-    let mut texts: Gathered<String> = Gathered::new(alloc);
+    let mut texts: Gathered<Text> = Gathered::new(alloc);
     for reason in reasons.iter().take(most) {
-        texts.add_words(text_of(alloc, offer, reason));
+        texts.add_text(text_of(alloc, offer, reason));
     }
     texts.done()
 }
@@ -120,7 +120,7 @@ pub(crate) fn tell_offers(
 #[derive(Drop)]
 struct Refused {
     offer: Offer,
-    texts: Vec<String>,
+    texts: Vec<Text>,
     distance: usize,
 }
 
@@ -174,7 +174,7 @@ fn add_pair(
         offers.truncate(1);
     }
     for refused in mem::replace(offers, Vec::new(alloc)) {
-        let name = name_of(alloc, &refused.offer, is_one).done()?;
+        let name = name_of(alloc, &refused.offer, is_one).into_text()?;
         add(rows, name, refused.texts, refused.distance, count)?;
     }
     Ok(())

@@ -1,9 +1,10 @@
 //! Rows of what fails for the same reasons.
 
-use explanation_text::{Items, Words};
+use explanation_text::wording::put_few;
+use explanation_text::{Items, Text, Words};
 use std::alloc::{AllocError, Global};
 use sysmem_counts::Field;
-use value_sources::{Asked, put_has, put_texts};
+use value_sources::{Asked, put_has};
 
 /// How many rows of one kind are told; one more is shown rather than counted.
 const MOST_ROWS: usize = 6;
@@ -21,9 +22,9 @@ pub(crate) struct Reason<'a> {
 /// What fails for the same reasons.
 pub(crate) struct Row {
     /// The names of what fails.
-    pub(crate) names: Vec<String>,
+    pub(crate) names: Vec<Text>,
     /// Each reason in words.
-    pub(crate) reasons: Vec<String>,
+    pub(crate) reasons: Vec<Text>,
     /// How far these are from not failing: the less the nearer.
     pub(crate) distance: usize,
     /// How many fail; a name may stand for several.
@@ -44,12 +45,12 @@ impl Drop for Row {
 /// Puts what fails into the row of those with its reasons.
 pub(crate) fn add(
     rows: &mut Vec<Row>,
-    name: String,
-    reasons: Vec<String>,
+    name: Text,
+    reasons: Vec<Text>,
     distance: usize,
     count: usize,
 ) -> Result<(), AllocError> {
-    let alloc = *name.allocator();
+    let alloc = name.alloc();
     for row in rows.iter_mut() {
         if row.reasons == reasons {
             row.names.push(name)?;
@@ -161,24 +162,24 @@ fn tell_row(items: &mut Items, depth: usize, before: &str, row: &Row) {
     }
     let below = depth.saturating_add(1);
     for reason in &row.reasons {
-        items.say_text(below, "", reason);
+        items.say(below, "", Words::of_text(items.alloc(), reason));
     }
 }
 
 /// A row's names, with its reason where it has one alone.
 fn head_of(alloc: Global, before: &str, row: &Row) -> Words {
     let mut text = Words::of(alloc, before);
-    put_texts(&mut text, &row.names, MOST_ROW_NAMES);
+    put_few(&mut text, &row.names, MOST_ROW_NAMES);
     put_reason(&mut text, &row.reasons);
     text
 }
 
 /// Puts the reason of a row after its names, where it has one alone.
-fn put_reason(text: &mut Words, reasons: &[String]) {
+fn put_reason(text: &mut Words, reasons: &[Text]) {
     match reasons {
         [] => {}
         [reason] => {
-            text.put(": ").put(reason);
+            text.put(": ").put_text(reason);
         }
         _ => {
             text.put(":");

@@ -1,7 +1,7 @@
 //! Participants with what they ask, and lists of them in words.
 
 use explanation_text::wording::{MOST_NAMES, put_few};
-use explanation_text::{Gathered, Words};
+use explanation_text::{Gathered, Name, Words};
 use serde_json::Value;
 use std::alloc::AllocError;
 use sysmem_sanitise::Constraints;
@@ -17,6 +17,16 @@ pub struct Asked<'a> {
     pub stated: Option<&'a Value>,
 }
 
+impl<'a> Asked<'a> {
+    /// Its name, as that of its node.
+    pub fn called(&self) -> Name<'a> {
+        Name {
+            node: self.node,
+            text: self.name,
+        }
+    }
+}
+
 /// Puts the names of participants with a word after a text: `camera takes`,
 /// `camera and encoder take`.
 pub fn put_has(text: &mut Words, people: &[Asked<'_>], one: &str, many: &str) {
@@ -27,24 +37,12 @@ pub fn put_has(text: &mut Words, people: &[Asked<'_>], one: &str, many: &str) {
 
 /// Puts the names of participants after a text.
 pub fn put_people(text: &mut Words, people: &[Asked<'_>]) {
-    let mut names: Gathered<&str> = Gathered::new(text.alloc());
+    let mut names: Gathered<Name<'_>> = Gathered::new(text.alloc());
     for one in people {
-        names.add(one.name);
+        names.add(one.called());
     }
     match names.done() {
         Ok(names) => put_few(text, &names, MOST_NAMES),
-        Err(AllocError) => text.refuse(),
-    }
-}
-
-/// Puts at most so many of the texts after another.
-pub fn put_texts(text: &mut Words, texts: &[String], most: usize) {
-    let mut parts: Gathered<&str> = Gathered::new(text.alloc());
-    for one in texts {
-        parts.add(one.as_str());
-    }
-    match parts.done() {
-        Ok(parts) => put_few(text, &parts, most),
         Err(AllocError) => text.refuse(),
     }
 }

@@ -5,8 +5,9 @@ ghost use Rattle.sysmem_counts.specs.Bounds.{IsTallyOf};
 ghost use Rattle.sysmem_counts.specs.Counts.{IsCountLine};
 ghost use Rattle.value_sources.specs.Sources.{IsNumberOf, counts_of, part_of};
 
-use crate::asked::{Asked, put_has, put_texts};
-use explanation_text::{Gathered, Words};
+use crate::asked::{Asked, put_has};
+use explanation_text::wording::put_few;
+use explanation_text::{Gathered, Text, Words};
 use std::alloc::{AllocError, Global};
 use sysmem_counts::{BUFFER_COUNT_LIMIT, CountBounds, Field};
 
@@ -58,8 +59,8 @@ fn total(people: &[Asked<'_>], part: Part) -> u64 {
 }
 
 /// The first who asks for the most, with that, if anybody asks for some.
-fn greatest<'a>(people: &[Asked<'a>], part: Part) -> Option<(&'a str, u32)>
-    ensures from { IfSome result (λ r. IsNumberOf (part_of part) people.now r.0.now r.1) }
+fn greatest<'a>(people: &[Asked<'a>], part: Part) -> Option<(Asked<'a>, u32)>
+    ensures from { IfSome result (λ r. IsNumberOf (part_of part) people.now r.0.name.now r.1) }
     ensures most { IfSome result (λ r. All (λ one. part_of part one ≤ r.1) people.now) }
     ensures some { IfSome result (λ r. 0 < r.1) }
     ensures none { IfNone result (All (λ one. part_of part one ≡ 0) people.now) }
@@ -69,7 +70,7 @@ fn greatest<'a>(people: &[Asked<'a>], part: Part) -> Option<(&'a str, u32)>
     if most == 0 {
         return None;
     }
-    Some((one.name, most))
+    Some((*one, most))
 }
 
 /// What participants hold together.
@@ -95,8 +96,8 @@ fn put_held(text: &mut Words, people: &[Asked<'_>]) {
         Part::Dedicated,
         "dedicated slack",
     );
-    if let Some((name, value)) = greatest(people, Part::Shared) {
-        text.put(mark_after(both)).put(name).put(" ");
+    if let Some((one, value)) = greatest(people, Part::Shared) {
+        text.put(mark_after(both)).name(one.called()).put(" ");
         text.put_number(value).put(" (shared slack, the greatest)");
     }
 }
@@ -118,30 +119,30 @@ fn put_part(text: &mut Words, mark: &str, people: &[Asked<'_>], part: Part, word
 }
 
 /// Who asks for some of a part, each with how many: `camera 2`.
-fn parts_of(alloc: Global, people: &[Asked<'_>], part: Part) -> Result<Vec<String>, AllocError> {
-    let mut parts: Gathered<String> = Gathered::new(alloc);
+fn parts_of(alloc: Global, people: &[Asked<'_>], part: Part) -> Result<Vec<Text>, AllocError> {
+    let mut parts: Gathered<Text> = Gathered::new(alloc);
     for one in people {
         let value = value_of(one, part);
         if value > 0 {
-            let mut words = Words::of(alloc, one.name);
+            let mut words = Words::of_name(alloc, one.called());
             words.put(" ").put_number(value);
-            parts.add_words(words);
+            parts.add_text(words);
         }
     }
     parts.done()
 }
 
-fn put_many(text: &mut Words, mark: &str, parts: &[String], word: &str, sum: u64) {
+fn put_many(text: &mut Words, mark: &str, parts: &[Text], word: &str, sum: u64) {
     text.put(mark).put_number(sum).put(" (").put(word);
     text.put(" of ").put_number(parts.len()).put(": ");
-    put_texts(text, parts, MOST_PARTS.saturating_sub(1));
+    put_few(text, parts, MOST_PARTS.saturating_sub(1));
     text.put(")");
 }
 
-fn put_sum(text: &mut Words, mark: &str, parts: &[String], word: &str) {
+fn put_sum(text: &mut Words, mark: &str, parts: &[Text], word: &str) {
     let mut before = mark;
     for one in parts {
-        text.put(before).put(one);
+        text.put(before).put_text(one);
         before = " + ";
     }
     text.put(" (").put(word).put(")");
@@ -168,11 +169,13 @@ fn put_why(text: &mut Words, people: &[Asked<'_>]) {
     if sum >= needed(people) {
         return put_held(text, people);
     }
-    let Some((name, _)) = greatest(people, Part::Minimum) else {
+    let Some((one, _)) = greatest(people, Part::Minimum) else {
         text.put("nobody asks for more than one");
         return;
     };
-    text.put(name).put(" min_buffer_count");
+    text.name(one.called())
+        .put(" ")
+        .field(Field::MinBufferCount);
     if sum > 0 {
         text.put("; held are ").put_number(sum).put(": ");
         put_held(text, people);
@@ -209,21 +212,22 @@ fn put_limit(text: &mut Words, field: Field, people: &[Asked<'_>]) {
             .put_number(BUFFER_COUNT_LIMIT);
         return;
     }
-    if let Some((name, most)) = least_maximum(people) {
-        text.put("; ").put(name).put(" takes at most ");
-        text.put_number(most).put(" (max_buffer_count)");
+    if let Some((one, most)) = least_maximum(people) {
+        text.put("; ").name(one.called()).put(" takes at most ");
+        text.put_number(most).put(" (");
+        text.field(Field::MaxBufferCount).put(")");
     }
 }
 
 /// The first who takes the fewest buffers at most, with that.
-fn least_maximum<'a>(people: &[Asked<'a>]) -> Option<(&'a str, u32)>
+fn least_maximum<'a>(people: &[Asked<'a>]) -> Option<(Asked<'a>, u32)>
     ensures from { IfSome result (λ r. IsNumberOf (λ one. one.asked.now.counts.max_buffer_count)
-        people.now r.0.now r.1) }
+        people.now r.0.name.now r.1) }
     ensures least { IfSome result (λ r.
         All (λ one. r.1 ≤ one.asked.now.counts.max_buffer_count) people.now) }
 {
     let one = people
         .iter()
         .min_by_key(|one| one.asked.counts().max_buffer_count)?;
-    Some((one.name, one.asked.counts().max_buffer_count))
+    Some((*one, one.asked.counts().max_buffer_count))
 }

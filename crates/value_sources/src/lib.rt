@@ -15,7 +15,7 @@ mod multiples;
 mod sizes;
 mod wishes;
 
-pub use asked::{Asked, put_has, put_people, put_texts};
+pub use asked::{Asked, put_has, put_people};
 pub use counting::{MOST_COUNTED, count_text, is_count_line, why_needed};
-pub use sizes::{Derived, format_of};
+pub use sizes::{Derived, format_words};
 pub use wishes::{Side, Wish, Wishes};

@@ -1,16 +1,15 @@
 //! Numbers that others are multiples of, with who asks for each.
 
-use crate::asked::put_texts;
 use crate::sizes::Derived;
-use explanation_text::wording::MOST_NAMES;
-use explanation_text::{Gathered, Words};
+use explanation_text::wording::{MOST_NAMES, put_few};
+use explanation_text::{Gathered, Text, Words};
 use std::alloc::{AllocError, Global};
 
 /// A number that others are multiples of, and who asks for it.
 #[derive(Drop)]
 pub(crate) struct Multiple {
     pub(crate) value: u128,
-    pub(crate) who: String,
+    pub(crate) who: Text,
 }
 
 /// The least multiple of a number that isn't below a value.
@@ -55,12 +54,12 @@ pub(crate) fn multiple_of(alloc: Global, parts: Vec<Multiple>) -> Result<Derived
 }
 
 /// Those of the parts that are needed for the multiple of all, in words.
-fn who_asks(alloc: Global, parts: &[Multiple], whole: u128) -> Result<String, AllocError> {
+fn who_asks(alloc: Global, parts: &[Multiple], whole: u128) -> Result<Text, AllocError> {
     let left_out = needless(alloc, parts, whole)?;
     let texts = texts_of(alloc, parts, &left_out)?;
     let mut words = Words::new(alloc);
-    put_texts(&mut words, &texts, MOST_NAMES);
-    words.done()
+    put_few(&mut words, &texts, MOST_NAMES);
+    words.into_text()
 }
 
 /// The indices of parts without which the others have the same multiple, from the last to the
@@ -84,12 +83,12 @@ fn texts_of(
     alloc: Global,
     parts: &[Multiple],
     left_out: &[usize],
-) -> Result<Vec<String>, AllocError> {
+) -> Result<Vec<Text>, AllocError> {
     let kept = parts.len().saturating_sub(left_out.len());
-    let mut texts: Gathered<String> = Gathered::new(alloc);
+    let mut texts: Gathered<Text> = Gathered::new(alloc);
     for (k, part) in parts.iter().enumerate() {
         if !left_out.contains(&k) {
-            texts.add_words(text_of(alloc, part, kept == 1));
+            texts.add_text(text_of(alloc, part, kept == 1));
         }
     }
     texts.done()
@@ -97,7 +96,7 @@ fn texts_of(
 
 /// Who asks for a part, with its number where others are asked for too.
 fn text_of(alloc: Global, part: &Multiple, is_alone: bool) -> Words {
-    let mut words = Words::of(alloc, &part.who);
+    let mut words = Words::of_text(alloc, &part.who);
     if !is_alone {
         words.put(" ").put_number(part.value);
     }

@@ -1,9 +1,11 @@
 //! The sizes of the smallest image, each with where it comes from.
 
+use crate::asked::Asked;
 use crate::multiples::{Multiple, multiple_of, up};
 use crate::wishes::{Side, Wish, Wishes};
-use explanation_text::{Gathered, Words};
+use explanation_text::{Gathered, Text, Words};
 use std::alloc::{AllocError, Global};
+use sysmem_counts::Field;
 use sysmem_formats::{
     Modifier, Offer, PixelFormat, bytes_per_pixel, own_alignment, own_row_divisor,
 };
@@ -13,15 +15,17 @@ use sysmem_image::entry_for;
 #[derive(Drop)]
 pub struct Derived {
     pub value: u128,
-    pub why: String,
+    pub why: Text,
 }
 
 /// The name of an offer's format.
-pub fn format_of(offer: &Offer) -> &'static str {
+pub fn format_words(alloc: Global, offer: &Offer) -> Words {
+    let mut words = Words::new(alloc);
     match offer {
-        Offer::NoImage => "none",
-        Offer::Image(pair, _) => pair.format.name(),
-    }
+        Offer::NoImage => words.put("none"),
+        Offer::Image(pair, _) => words.format(pair.format),
+    };
+    words
 }
 
 fn modifier_of(offer: &Offer) -> Modifier {
@@ -66,17 +70,21 @@ impl<'a> Wishes<'a, '_> {
     fn add_multiples(
         &self,
         parts: &mut Gathered<Multiple>,
-        field: &str,
+        field: Option<Field>,
         wish: Wish,
     ) -> Result<(), AllocError> {
         for one in self.people {
             if let Some(entry) = entry_for(one.asked.entries(), &self.offer) {
                 let value = u128::from(wish.of(entry));
-                let mut words = Words::of(parts.alloc(), one.name);
-                words.put(" ").put(field);
+                let mut words = Words::of_name(parts.alloc(), one.called());
+                words.put(" ");
+                match field {
+                    Some(field) => words.field(field),
+                    None => words.put("whole pixels in a row"),
+                };
                 parts.add(Multiple {
                     value,
-                    who: words.done()?,
+                    who: words.into_text()?,
                 });
             }
         }
@@ -98,15 +106,18 @@ impl<'a> Wishes<'a, '_> {
 
     /// The least width or height that somebody asks for, with who does and by which field, where it
     /// is above 1.
-    fn side_asked(&self, side: Side) -> (u64, Option<(&'a str, &'static str)>) {
+    fn side_asked(&self, side: Side) -> (u64, Option<(Asked<'a>, Field)>) {
         let wish = self.greatest(Wish::RequiredMost(side));
         match self.greatest(Wish::Least(side)) {
-            Some((name, least)) if least > 1 => match wish {
-                Some((other, most)) if most > least => (most, Some((other, "required_max_size"))),
-                _ => (least, Some((name, "min_size"))),
+            Some((one, least)) if least > 1 => match wish {
+                Some((other, most)) if most > least => (
+                    most,
+                    Some((other, Field::RequiredMaxSize)),
+                ),
+                _ => (least, Some((one, Field::MinSize))),
             },
             _ => match wish {
-                Some((other, most)) if most > 1 => (most, Some((other, "required_max_size"))),
+                Some((other, most)) if most > 1 => (most, Some((other, Field::RequiredMaxSize))),
                 _ => (1, None),
             },
         }
@@ -118,20 +129,24 @@ impl<'a> Wishes<'a, '_> {
         let own = if side == Side::Width { width } else { height };
         let who = itself(alloc, &self.offer);
         let mut parts = own_multiple(who, u128::from(own))?;
-        self.add_multiples(&mut parts, "size_alignment", Wish::Alignment(side))?;
+        let field = Some(Field::SizeAlignment);
+        self.add_multiples(&mut parts, field, Wish::Alignment(side))?;
         multiple_of(alloc, parts.done()?)
     }
 
     /// Where the least width and height come from.
-    pub fn why_size(&self, alloc: Global) -> Result<String, AllocError> {
+    pub fn why_size(&self, alloc: Global) -> Result<Text, AllocError> {
         let width = self.side(alloc, Side::Width)?.why;
         let height = self.side(alloc, Side::Height)?.why;
         if width == height {
             return Ok(width);
         }
         let mut words = Words::of(alloc, "the width ");
-        words.put(&width).put("; the height ").put(&height);
-        words.done()
+        words
+            .put_text(&width)
+            .put("; the height ")
+            .put_text(&height);
+        words.into_text()
     }
 
     /// The least row in bytes; where the width comes from is said too if that is asked for.
@@ -148,8 +163,11 @@ impl<'a> Wishes<'a, '_> {
         let packed = self.packed_row(width.value);
         let mut words = Words::new(alloc);
         match self.greatest(Wish::LeastRow) {
-            Some((name, least)) if u128::from(least) > packed => {
-                words.put(name).put(" min_bytes_per_row");
+            Some((one, least)) if u128::from(least) > packed => {
+                words
+                    .name(one.called())
+                    .put(" ")
+                    .field(Field::MinBytesPerRow);
                 Ok((u128::from(least), words))
             }
             _ => {
@@ -170,7 +188,7 @@ impl<'a> Wishes<'a, '_> {
         let pixel = u128::from(bytes_per_pixel(&self.offer));
         put_pixels(text, width.value, pixel);
         if is_alone {
-            text.put(" (").put(&width.why).put(")");
+            text.put(" (").put_text(&width.why).put(")");
         }
         if self.packed_row(width.value) != width.value.saturating_mul(pixel) {
             let tile = tile_bytes(&self.offer);
@@ -193,9 +211,9 @@ impl<'a> Wishes<'a, '_> {
     }
 
     fn add_row_multiples(&self, parts: &mut Gathered<Multiple>) -> Result<(), AllocError> {
-        self.add_multiples(parts, "bytes_per_row_divisor", Wish::RowDivisor)?;
+        self.add_multiples(parts, Some(Field::BytesPerRowDivisor), Wish::RowDivisor)?;
         let whole = Wish::WholePixels(bytes_per_pixel(&self.offer));
-        self.add_multiples(parts, "whole pixels in a row", whole)
+        self.add_multiples(parts, None, whole)
     }
 
     /// The least size of a buffer in bytes; where the image's sides come from is said too if that
@@ -214,12 +232,12 @@ impl<'a> Wishes<'a, '_> {
         }
         let mut words = Words::new(alloc);
         match least {
-            Some((name, _)) => words.put(name).put(" min_size_bytes"),
+            Some((one, _)) => words.name(one.called()).put(" ").field(Field::MinSizeBytes),
             None => words.put("nobody asks for more"),
         };
         Ok(Derived {
             value: stated,
-            why: words.done()?,
+            why: words.into_text()?,
         })
     }
 
@@ -233,7 +251,7 @@ impl<'a> Wishes<'a, '_> {
         }
         Ok(Derived {
             value: image.bytes(),
-            why: words.done()?,
+            why: words.into_text()?,
         })
     }
 
@@ -252,7 +270,7 @@ impl<'a> Wishes<'a, '_> {
         text.put("x").put_number(image.height);
         match self.why_size(text.alloc()) {
             Ok(from) => {
-                text.put(" (").put(&from).put(")");
+                text.put(" (").put_text(&from).put(")");
             }
             Err(AllocError) => text.refuse(),
         }
@@ -294,16 +312,17 @@ impl Image {
             text.put(", rounded up to whole tiles)");
         }
         if has_half_plane(&self.offer) {
-            text.put(" x 3/2 (").put(format_of(&self.offer)).put(")");
+            let format = format_words(text.alloc(), &self.offer);
+            text.put(" x 3/2 (").put_words(&format).put(")");
         }
     }
 }
 
 /// Who asks for a side, and by which field.
-fn side_words(alloc: Global, first: Option<(&str, &str)>) -> Words {
+fn side_words(alloc: Global, first: Option<(Asked<'_>, Field)>) -> Words {
     let mut words = Words::new(alloc);
     match first {
-        Some((name, field)) => words.put(name).put(" ").put(field),
+        Some((one, field)) => words.name(one.called()).put(" ").field(field),
         None => words.put("nobody asks for more than 1"),
     };
     words
@@ -311,7 +330,7 @@ fn side_words(alloc: Global, first: Option<(&str, &str)>) -> Words {
 
 /// That an offer's format asks for it itself.
 fn itself(alloc: Global, offer: &Offer) -> Words {
-    let mut words = Words::of(alloc, format_of(offer));
+    let mut words = format_words(alloc, offer);
     words.put(" itself");
     words
 }
@@ -321,7 +340,7 @@ fn own_multiple(words: Words, value: u128) -> Result<Gathered<Multiple>, AllocEr
     let mut parts = Gathered::new(words.alloc());
     parts.add(Multiple {
         value,
-        who: words.done()?,
+        who: words.into_text()?,
     });
     Ok(parts)
 }
@@ -341,7 +360,7 @@ fn rounded(
     }
     Ok(Derived {
         value,
-        why: words.done()?,
+        why: words.into_text()?,
     })
 }
 
@@ -351,7 +370,7 @@ fn put_rounding(text: &mut Words, base: u128, multiple: &Derived, mark: Option<&
     }
     text.put(", rounded up to a multiple of ")
         .put_number(multiple.value);
-    text.put(" (").put(&multiple.why).put(")");
+    text.put(" (").put_text(&multiple.why).put(")");
 }
 
 /// Puts how many pixels of how many bytes after a text.

@@ -102,9 +102,9 @@ fn asked_or(one: &Asked<'_>, offer: &Offer, wish: Wish, absent: u64) -> u64
 impl<'a> Wishes<'a, '_> {
     /// The first who asks for the greatest of some numbers, with that, if anybody asks for more
     /// than 0.
-    pub fn greatest(&self, wish: Wish) -> Option<(&'a str, u64)>
+    pub fn greatest(&self, wish: Wish) -> Option<(Asked<'a>, u64)>
         ensures from { IfSome result (λ r.
-            IsNumberOf (wish_or 0 self.now.offer wish) self.now.people.now r.0.now r.1) }
+            IsNumberOf (wish_or 0 self.now.offer wish) self.now.people.now r.0.name.now r.1) }
         ensures most { IfSome result (λ r.
             All (λ one. wish_or 0 self.now.offer wish one ≤ r.1) self.now.people.now) }
         ensures some { IfSome result (λ r. 0 < r.1) }
@@ -121,14 +121,14 @@ impl<'a> Wishes<'a, '_> {
         if most == 0 {
             return None;
         }
-        Some((one.name, most))
+        Some((*one, most))
     }
 
     /// The first who asks for the least of some numbers, with that, if anybody asks for less than
     /// the greatest of 64 bits.
-    pub fn least(&self, wish: Wish) -> Option<(&'a str, u64)>
+    pub fn least(&self, wish: Wish) -> Option<(Asked<'a>, u64)>
         ensures from { IfSome result (λ r.
-            IsNumberOf (wish_or u64.MAX self.now.offer wish) self.now.people.now r.0.now r.1) }
+            IsNumberOf (wish_or u64.MAX self.now.offer wish) self.now.people.now r.0.name.now r.1) }
         ensures least { IfSome result (λ r.
             All (λ one. r.1 ≤ wish_or u64.MAX self.now.offer wish one) self.now.people.now) }
         ensures none { IfNone result
@@ -143,14 +143,14 @@ impl<'a> Wishes<'a, '_> {
         if least == u64::MAX {
             return None;
         }
-        Some((one.name, least))
+        Some((*one, least))
     }
 
     /// The first who states the greatest least size of a buffer, in bytes, with that, if anybody
     /// states more than 1.
-    pub(crate) fn least_size(&self) -> Option<(&'a str, u64)>
+    pub(crate) fn least_size(&self) -> Option<(Asked<'a>, u64)>
         ensures from { IfSome result (λ r. IsNumberOf (λ one. one.asked.now.memory.min_size_bytes)
-            self.now.people.now r.0.now r.1) }
+            self.now.people.now r.0.name.now r.1) }
         ensures most { IfSome result (λ r.
             All (λ one. one.asked.now.memory.min_size_bytes ≤ r.1) self.now.people.now) }
         ensures none { IfNone result
@@ -165,13 +165,13 @@ impl<'a> Wishes<'a, '_> {
         if most < 2 {
             return None;
         }
-        Some((one.name, most))
+        Some((*one, most))
     }
 
     /// The first who takes the fewest bytes of a buffer at most, with that, if anybody says so.
-    pub fn greatest_size(&self) -> Option<(&'a str, u64)>
+    pub fn greatest_size(&self) -> Option<(Asked<'a>, u64)>
         ensures from { IfSome result (λ r. IsNumberOf (λ one. one.asked.now.memory.max_size_bytes)
-            self.now.people.now r.0.now r.1) }
+            self.now.people.now r.0.name.now r.1) }
         ensures least { IfSome result (λ r.
             All (λ one. r.1 ≤ one.asked.now.memory.max_size_bytes) self.now.people.now) }
     {
@@ -179,6 +179,6 @@ impl<'a> Wishes<'a, '_> {
         let one = people
             .iter()
             .min_by_key(|one| one.asked.memory().max_size_bytes)?;
-        Some((one.name, one.asked.memory().max_size_bytes))
+        Some((*one, one.asked.memory().max_size_bytes))
     }
 }

@@ -7,9 +7,13 @@
 //! it is shown, in the words of a domain's line, and what the checker says of that. Then all
 //! handles are closed, and the last line is the audit's. A job prints nothing but where it says so.
 //!
+//! - `script`: playing the calls once, and printing what happened as a script, of the moment before
+//!   the handles are closed (`happened.rt`).
 //! - `handles`: playing the calls through the handles of a new collection, and closing these.
 //! - `audited`: the same, and an audit of what is left.
 //! - `book`: applying the calls to a new book, without a decision.
+//! - `decided`: the same, and deciding each domain that waits, by a search and its proof
+//!   (`settling.rt`).
 //! - `calls`: the calls of participants of a new collection, one for each `set_constraints` of the
 //!   script (`taking.rt`).
 //! - `applied`: the same calls on a new book.
@@ -23,22 +27,27 @@
 mod crowding;
 mod ending;
 mod hand;
+mod happened;
 mod naming;
 mod playing;
 mod repeating;
 mod script;
+mod settling;
 mod showing;
 mod taking;
 mod tokens;
 
 use crate::failure::Failure;
 use crowding::{Crowd, crowd_on};
+use happened::script_after;
 pub(crate) use repeating::book_after;
 use repeating::{repeat_book, repeat_handles};
 pub(crate) use script::all_stated;
 use script::report_of;
 use script_reading::Script;
+use settling::repeat_decided;
 use std::alloc::Global;
+use std::io::{self, Write};
 use std::sync::{Arc, Wait};
 use std::thread::Threads;
 use std::time::Clock;
@@ -56,6 +65,17 @@ pub(crate) fn play_script<R: Threads + Wait + Sync>(
     Ok(())
 }
 
+/// Plays a script, and prints what happened as a script.
+fn print_script<R: Threads + Wait + Sync>(
+    host: &HostRuntime,
+    rt: &R,
+    script: Script<'_>,
+) -> Result<(), Failure> {
+    let text = script_after(rt, host.alloc(), script)?;
+    io::writer(host).write_all(&text)?;
+    Ok(())
+}
+
 /// Does the job of this name for a script, so many times.
 pub(crate) fn repeat_job<R: Threads + Wait + Clock + Sync>(
     host: &HostRuntime,
@@ -65,12 +85,16 @@ pub(crate) fn repeat_job<R: Threads + Wait + Clock + Sync>(
     times: u32,
 ) -> Result<(), Failure> {
     let alloc = host.alloc();
+    if job == "script" {
+        return print_script(host, rt, script);
+    }
     let Script { platform, calls } = script;
     let asked = all_stated(alloc, &calls)?;
     match job {
         "handles" => return repeat_handles(rt, alloc, platform, &calls, &asked, false, times),
         "audited" => return repeat_handles(rt, alloc, platform, &calls, &asked, true, times),
         "book" => return Ok(repeat_book(alloc, &platform, &calls, &asked, times)?),
+        "decided" => return repeat_decided(alloc, &platform, &calls, &asked, times),
         _ => {}
     }
     let asked = all_asked(alloc, asked)?;

@@ -4,22 +4,25 @@
 use std::os::raw::{c_char, c_int, c_void};
 
 /// major 16 bits, minor 16 bits
-pub const MEZULOBU_VERSION: u32 = 0x00010004;
+pub const MEZULOBU_VERSION: u32 = 0x00010005;
 
 /// done; of a check: yes
 pub const MEZULOBU_DONE: c_int = 0;
-/// a null pointer where none may be, or a struct_size that this library
-/// doesn't know
+/// a null pointer where none may be, a handle that is spent or of
+/// another kind, a struct_size that this library doesn't know, or a
+/// number that says no record's kind
 pub const MEZULOBU_MISUSED: c_int = 2;
-/// the script or the certificate is refused, or a struct
+/// the script, the certificate, a struct, a record or a name is refused;
+/// of a text of a collection: its script would be too long
 pub const MEZULOBU_REFUSED: c_int = 3;
 /// memory was refused, to all of it or to a decision
 pub const MEZULOBU_NO_MEMORY: c_int = 4;
 /// a buffer is too small; each size says what is needed
 pub const MEZULOBU_TOO_SMALL: c_int = 5;
 /// a check: no; a strict explanation: not all went well; a negotiation:
-/// no settings meet everybody; a wait: nothing was decided in that
-/// time
+/// no settings meet everybody; a record: it has no fault; a name: it is
+/// another node's; a refusal: there is none to tell; a wait: nothing was
+/// decided in that time
 pub const MEZULOBU_NO: c_int = 6;
 /// E2: the handle isn't in a state that allows the call
 pub const MEZULOBU_WRONG_STATE: c_int = 18;
@@ -30,8 +33,9 @@ pub const MEZULOBU_TOO_MANY_NODES: c_int = 19;
 pub const MEZULOBU_NO_CHILDREN: c_int = 20;
 /// E5: another alternative was chosen
 pub const MEZULOBU_NOT_SELECTED: c_int = 21;
-/// E6: somebody closed too early, or what it was attached to
-/// has no settings
+/// E6: the domain failed (somebody closed too early, or what
+/// it was attached to has no settings), or no settings were
+/// chosen; explain says which
 pub const MEZULOBU_DOMAIN_FAILED: c_int = 22;
 /// E7: no settings meet everybody:
 /// mezulobu_collection_explain says who is in the way
@@ -72,8 +76,9 @@ pub struct mezulobu_size {
     pub height: u32,
 }
 
-/// A heap, which is named by its index in the platform's list. At least one of the three coherency
-/// domains is true.
+/// A heap, which is named by its index in the platform's list: in a script's records its type is
+/// `heap` and its id the index, so that `{"heap_type": "heap", "id": 1}` is the second one. At least
+/// one of the three coherency domains is true.
 #[repr(C)]
 #[derive(Clone, Copy, Debug)]
 pub struct mezulobu_heap {
@@ -108,8 +113,10 @@ pub struct mezulobu_platform {
     pub n_colors: usize,
 }
 
-/// One image format that a participant takes, and its bounds on such images. Somebody states the
-/// size that is wanted, as a mode, as its min_size: where nobody does, an image of 1 by 1 is enough.
+/// One image format that a participant takes, and its bounds on such images. No two entries of a
+/// participant have the same format and modifier, of which "any" counts as one: else it is REFUSED,
+/// by the field image_format_constraints. Somebody states the size that is wanted, as a mode, as its
+/// min_size: where nobody does, an image of 1 by 1 is enough.
 /// Alignments round up, so the image may be larger, and max_size bounds it with all that they add,
 /// those of others too: who has one mode alone states it as min_size, and no max_size.
 #[repr(C)]
@@ -316,10 +323,11 @@ pub const MEZULOBU_FIELD_CONTIGUOUS: u32 = 41;
 pub const MEZULOBU_FIELD_SECURE: u32 = 42;
 pub const MEZULOBU_FIELD_DOMAINS: u32 = 43;
 
-/// Why there are no settings. At REFUSED (the first three kinds) field is what is amiss in a struct,
-/// and index the item of its list. At MISUSED (kind PLATFORM or PARTICIPANT, or 0 of settings) it is
-/// whose struct is misused, and of an entry index is its own; of the participant's struct itself
-/// index is NOBODY; field is 0.
+/// Why there are no settings. At REFUSED (the first three kinds) field is what is amiss in a struct.
+/// index is the item of its list where that has a format, a modifier or a color that isn't known, or
+/// a pitch_divisor above 65536; whatever else is amiss, index is 0, of whichever item it is. At
+/// MISUSED (kind PLATFORM or PARTICIPANT, or 0 of settings) it is whose struct is misused, and of an
+/// entry index is its own; of the participant's struct itself index is NOBODY; field is 0.
 ///
 /// At NO the participants before who can share settings, and those up to who can't: who is the first
 /// with whom there are none. So the order of the participants is a ranking: those that can be done
@@ -467,8 +475,8 @@ extern "C" {
         status: c_int,
     ) -> *const c_char;
     /// What a status means, in one line for people, as "E9 Pending: nothing is decided yet; explain says
-    /// who is awaited"; of the call of this name, as "set_name", what would be right there. call may be
-    /// null. "?" of a number that is none.
+    /// who is awaited"; of the call of this name, as "mezulobu_token_set_name" or "set_name", what would
+    /// be right there. call may be null. "?" of a number that is none.
     pub fn mezulobu_status_text(
         status: c_int,
         call: *const c_char,
@@ -480,7 +488,7 @@ extern "C" {
     /// the platform states nothing that could be meant, and why, which may be null, has kind PLATFORM
     /// and says which field. Or from the JSON of a platform as scripts have it: at REFUSED code, which
     /// may be null, is the number of its fault, 1 of S1 and so on, and 0 where it is no JSON;
-    /// mezulobu_fault_name tells its name.
+    /// mezulobu_fault_name tells its name, and mezulobu_record_fault where it is.
     pub fn mezulobu_allocator_new(
         platform: *const mezulobu_platform,
         allocator: *mut *mut mezulobu_allocator,
@@ -501,9 +509,9 @@ extern "C" {
         allocator: *mut mezulobu_allocator,
         token: *mut *mut mezulobu_token,
     ) -> c_int;
-    /// Of a token: the right to take part. A call that acts, here and below, takes no memory but where
-    /// it is said, and is DONE or changes nothing: then its status is the first reason of its refusal,
-    /// from WRONG_STATE on, as a report has it of the same call.
+    /// Of a token: the right to take part. Each call is DONE or changes nothing, and takes no memory.
+    /// duplicate, create_group and bind are refused by DOMAIN_FAILED, and the two that make a node by
+    /// TOO_MANY_NODES; release and close of nothing. MISUSED.
     pub fn mezulobu_token_duplicate(
         token: *mut mezulobu_token,
         made: *mut *mut mezulobu_token,
@@ -522,7 +530,16 @@ extern "C" {
     pub fn mezulobu_token_close(
         token: *mut *mut mezulobu_token,
     ) -> c_int;
-    /// Of a group: alternatives, of which one is selected.
+    /// Of a group: alternatives, of which one is selected. It is made on a token. It has a child for
+    /// each alternative, made by create_child, the one that is liked best first; then comes
+    /// all_children_present, and the group is released. Each child is a token, which is bound and says
+    /// what it asks for. The token on which the group was made is awaited too: release it, or bind it
+    /// and ask for nothing. check of the child that was chosen is DONE, of the others NOT_SELECTED.
+    ///
+    /// Each call is DONE or changes nothing, and takes no memory. WRONG_STATE: create_child or
+    /// all_children_present after all_children_present, release before it. NO_CHILDREN:
+    /// all_children_present of a group without a child. TOO_MANY_NODES: create_child. DOMAIN_FAILED
+    /// and NOT_SELECTED refuse these two. close is refused of nothing. MISUSED.
     pub fn mezulobu_group_create_child(
         group: *mut mezulobu_group,
         made: *mut *mut mezulobu_token,
@@ -539,7 +556,12 @@ extern "C" {
     /// Of a collection: a participant. What it asks for it says once; where asked is null, for nothing.
     /// At REFUSED the participant states nothing that could be meant, why has kind PARTICIPANT, who 0,
     /// and says which field, and nothing was set. A record is the JSON of constraints as scripts have
-    /// it, and code as above. NO_MEMORY: nothing was set; it can be tried again.
+    /// it; at REFUSED code, which may be null, is the number of its fault, as of
+    /// mezulobu_allocator_new_record. NO_MEMORY: nothing was set; it can be tried again. WRONG_STATE: it
+    /// has said already what it asks for. attach_token makes a token for somebody who comes later; it
+    /// may be refused by TOO_MANY_NODES. DOMAIN_FAILED and NOT_SELECTED refuse these three. Each call is
+    /// DONE or changes nothing; attach_token, release and close take no memory, and release and close
+    /// are refused of nothing. MISUSED.
     pub fn mezulobu_collection_set_constraints(
         collection: *mut mezulobu_collection,
         asked: *const mezulobu_participant,
@@ -560,6 +582,30 @@ extern "C" {
     ) -> c_int;
     pub fn mezulobu_collection_close(
         collection: *mut *mut mezulobu_collection,
+    ) -> c_int;
+    /// What is wrong with a record, in words: the name of its first fault, as reports have it, or
+    /// "no JSON"; where it is, and what would be right. A text, with its size, TOO_SMALL and NO_MEMORY
+    /// as of mezulobu_run's:
+    ///
+    /// ```text
+    /// S4 pixel_format
+    ///  --> record:1:62: image_format_constraints[0].pixel_format
+    ///   |
+    /// 1 | ...aints":[{"pixel_format":"NV21","color_spaces":["SRGB"]}]}
+    ///   |                            ^^^^^^ unknown name
+    ///   = did you mean NV12?
+    /// ```
+    ///
+    /// kind says whose record it is, MEZULOBU_KIND_PLATFORM or MEZULOBU_KIND_PARTICIPANT; another number
+    /// is MISUSED, and nothing is written. DONE: text. NO: nothing is wrong with the record, and the
+    /// size is 0. mezulobu_allocator_new_record and mezulobu_collection_set_constraints_record refuse
+    /// exactly the records of which this has a text.
+    pub fn mezulobu_record_fault(
+        kind: u32,
+        record: *const c_void,
+        size: usize,
+        text: *mut c_char,
+        text_size: *mut usize,
     ) -> c_int;
     /// What was decided for a collection. DONE: settings, which may be null. Else why there are none, or
     /// PENDING; NO_MEMORY: the decision had no memory. The answer stays once it isn't PENDING. Of
@@ -598,7 +644,8 @@ extern "C" {
         collection: *mut mezulobu_collection,
         name: *const c_char,
     ) -> c_int;
-    /// The name of a handle's own node. A text as above.
+    /// The name of a handle's own node. A text, with its size, TOO_SMALL and NO_MEMORY as of
+    /// mezulobu_run's; DONE, MISUSED.
     pub fn mezulobu_token_name(
         token: *mut mezulobu_token,
         name: *mut c_char,
@@ -615,12 +662,13 @@ extern "C" {
         name_size: *mut usize,
     ) -> c_int;
     /// The number of the collection's node: 0 is the first token of all, and each call that makes one
-    /// takes the next.
+    /// takes the next. DONE, MISUSED.
     pub fn mezulobu_collection_node(
         collection: *mut mezulobu_collection,
         node: *mut u32,
     ) -> c_int;
-    /// The name of the node of a number. A text as above; MISUSED where there is no such node.
+    /// The name of the node of a number. A text, with its size, TOO_SMALL and NO_MEMORY as of
+    /// mezulobu_run's; DONE; MISUSED, also where there is no such node.
     pub fn mezulobu_collection_name_of(
         collection: *mut mezulobu_collection,
         node: u32,
@@ -645,13 +693,15 @@ extern "C" {
         why: *mut mezulobu_refusal,
     ) -> c_int;
     /// All calls of the whole collection that were done so far, as a script, and what proves its
-    /// decisions; texts as above, and certificate and certificate_size may be null. Both are of one
-    /// moment. mezulobu_run accepts each of its calls and decides the same, and mezulobu_check says yes
-    /// to the certificate; but a decision that had no memory is made by mezulobu_run, calls behind it may
-    /// be refused, and mezulobu_check says no. The actor of a call is the node on which it is made, where
-    /// that has a name and there are 15 names at most. REFUSED: the script would be longer than a script
-    /// may be; each size is 0. What isn't in it: calls that were refused, check and wait. Of two scripts
-    /// the later one begins with the calls of the earlier one, under the names of its own moment.
+    /// decisions. Texts, with their sizes, TOO_SMALL and NO_MEMORY as of mezulobu_run's; certificate and
+    /// certificate_size may be null. Between two calls a text may grow, and TOO_SMALL come again: so
+    /// make room and call until it doesn't. Both are of one moment. mezulobu_run accepts each of its
+    /// calls and decides the same, and mezulobu_check says yes to the certificate; but a decision that
+    /// had no memory is made by mezulobu_run, calls behind it may be refused, and mezulobu_check says
+    /// no. The actor of a call is the node on which it is made, where that has a name and there are 15
+    /// names at most. REFUSED: the script would be longer than a script may be; each size is 0. What
+    /// isn't in it: calls that were refused, check and wait. Of two scripts the later one begins with
+    /// the calls of the earlier one, under the names of its own moment.
     pub fn mezulobu_collection_script(
         collection: *mut mezulobu_collection,
         text: *mut c_char,
@@ -660,8 +710,10 @@ extern "C" {
         certificate_size: *mut usize,
     ) -> c_int;
     /// mezulobu_explain of the script, and mezulobu_explain_json, with "collection" for its file: who is
-    /// awaited, what decided each value, who is in the way and which changes help. Of a decision that had
-    /// no memory it says what it would be. REFUSED: there is no such script, and the size is 0.
+    /// awaited, what decided each value, who is in the way and which changes help. Of a decision that
+    /// had no memory it says what it would be. A text, with its size, TOO_SMALL, again and again as of
+    /// mezulobu_collection_script, and NO_MEMORY. REFUSED: there is no such script, which would be too
+    /// long, and the size is 0.
     pub fn mezulobu_collection_explain(
         collection: *mut mezulobu_collection,
         text: *mut c_char,

@@ -7,18 +7,21 @@ codes! {
     Status(i32) {
         /// done; of a check: yes
         DONE = sys::MEZULOBU_DONE,
-        /// a null pointer where none may be, or a struct_size that this library
-        /// doesn't know
+        /// a null pointer where none may be, a handle that is spent or of
+        /// another kind, a struct_size that this library doesn't know, or a
+        /// number that says no record's kind
         MISUSED = sys::MEZULOBU_MISUSED,
-        /// the script or the certificate is refused, or a struct
+        /// the script, the certificate, a struct, a record or a name is refused;
+        /// of a text of a collection: its script would be too long
         REFUSED = sys::MEZULOBU_REFUSED,
         /// memory was refused, to all of it or to a decision
         NO_MEMORY = sys::MEZULOBU_NO_MEMORY,
         /// a buffer is too small; each size says what is needed
         TOO_SMALL = sys::MEZULOBU_TOO_SMALL,
         /// a check: no; a strict explanation: not all went well; a negotiation:
-        /// no settings meet everybody; a wait: nothing was decided in that
-        /// time
+        /// no settings meet everybody; a record: it has no fault; a name: it is
+        /// another node's; a refusal: there is none to tell; a wait: nothing was
+        /// decided in that time
         NO = sys::MEZULOBU_NO,
         /// E2: the handle isn't in a state that allows the call
         WRONG_STATE = sys::MEZULOBU_WRONG_STATE,
@@ -29,8 +32,9 @@ codes! {
         NO_CHILDREN = sys::MEZULOBU_NO_CHILDREN,
         /// E5: another alternative was chosen
         NOT_SELECTED = sys::MEZULOBU_NOT_SELECTED,
-        /// E6: somebody closed too early, or what it was attached to
-        /// has no settings
+        /// E6: the domain failed (somebody closed too early, or what
+        /// it was attached to has no settings), or no settings were
+        /// chosen; explain says which
         DOMAIN_FAILED = sys::MEZULOBU_DOMAIN_FAILED,
         /// E7: no settings meet everybody:
         /// mezulobu_collection_explain says who is in the way

@@ -29,7 +29,7 @@ use crate::chosen::{Amiss, Conflict};
 use crate::negotiation::{no_refusal, no_settings};
 use crate::texts::{filled, text_of};
 use crate::waiting::waited;
-use crate::{name_of, Error, Participant, Platform, Settings, Status};
+use crate::{name_of, Error, Kind, Participant, Platform, Settings, Status};
 use mezulobu_sys as sys;
 use std::ffi::CString;
 use std::fmt;
@@ -70,15 +70,38 @@ pub enum Why {
 }
 
 /// The fault of a record.
-#[derive(Clone, Copy, Debug, PartialEq, Eq)]
+#[derive(Clone, Debug, PartialEq, Eq)]
 pub struct Fault {
     /// 1 is S1 and so on, and 0 no JSON.
     pub number: u32,
+    /// What it is, where, and what would be right; without memory for that its name alone.
+    pub text: String,
 }
 
 impl Fault {
+    fn of(kind: Kind, record: &[u8], number: u32) -> Self {
+        // Safety: the record lives, and so do the text and its size.
+        let (status, [text]) = filled(|[text], [size]| unsafe {
+            sys::mezulobu_record_fault(
+                kind.number(),
+                record.as_ptr().cast(),
+                record.len(),
+                text.as_mut_ptr().cast(),
+                size,
+            )
+        });
+        let mut fault = Self {
+            number,
+            text: text_of(&text).trim_end().to_owned(),
+        };
+        if status != sys::MEZULOBU_DONE {
+            fault.text = fault.name().to_owned();
+        }
+        fault
+    }
+
     /// The name of the fault, as `S5 BadUsage`.
-    pub fn name(self) -> &'static str {
+    pub fn name(&self) -> &'static str {
         // Safety: the library's names are its constants.
         unsafe { name_of(sys::mezulobu_fault_name(self.number)) }
     }
@@ -86,7 +109,7 @@ impl Fault {
 
 impl fmt::Display for Fault {
     fn fmt(&self, f: &mut fmt::Formatter<'_>) -> fmt::Result {
-        f.write_str(self.name())
+        f.write_str(&self.text)
     }
 }
 
@@ -183,7 +206,7 @@ impl Allocator {
         };
         let why = match status {
             sys::MEZULOBU_DONE => return Ok(Self(made)),
-            sys::MEZULOBU_REFUSED => Why::Record(Fault { number: code }),
+            sys::MEZULOBU_REFUSED => Why::Record(Fault::of(Kind::PLATFORM, record, code)),
             other => Why::Status(Status(other)),
         };
         Err(of_allocator("from_record", why))
@@ -445,7 +468,7 @@ impl Collection {
             )
         };
         self.set("set_constraints_record", status, || {
-            Why::Record(Fault { number: code })
+            Why::Record(Fault::of(Kind::PARTICIPANT, record, code))
         })
     }
 }

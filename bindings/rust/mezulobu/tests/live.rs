@@ -9,6 +9,12 @@ use std::thread;
 use std::time::Duration;
 
 const NV12: Format = Format::new(*b"NV12");
+const NO_USAGE: &str = "S5 usage
+ --> record:1:10: usage
+  |
+1 | {\"usage\":[]}
+  |          ^^ the list is empty
+  = allowed: a list of none alone, or of one or more of cpu, vulkan, display and video";
 
 fn platform() -> Platform {
     let heap = Heap {
@@ -107,7 +113,7 @@ fn who_is_dropped_too_early_fails_the_domain() {
         why: Why::Status(Status::DOMAIN_FAILED),
     };
     assert_eq!(refused.error, wanted);
-    let told = "set_constraints of n1: E6 DomainFailed: somebody closed too early, or what it was attached to has no settings";
+    let told = "set_constraints of n1: E6 DomainFailed: the domain failed (somebody closed too early, or what it was attached to has no settings), or no settings were chosen; explain says which";
     assert_eq!(refused.to_string(), told);
     refused.handle.close();
 }
@@ -172,15 +178,22 @@ fn what_cannot_be_meant_leaves_the_handle_as_it_was() {
         .unwrap_err();
     assert_eq!(
         refused.to_string(),
-        "set_constraints_record of n1: S5 BadUsage"
+        format!("set_constraints_record of n1: {NO_USAGE}")
     );
+    let fault = Fault {
+        number: 5,
+        text: NO_USAGE.to_owned(),
+    };
     assert_eq!(
         (refused.error.status(), refused.error.why),
-        (Status::REFUSED, Why::Record(Fault { number: 5 }))
+        (Status::REFUSED, Why::Record(fault.clone()))
     );
+    assert_eq!(fault.name(), "S5 BadUsage");
     let refused = refused.handle.set_constraints_record(b"{").unwrap_err();
-    assert_eq!(refused.to_string(), "set_constraints_record of n1: no JSON");
-    assert_eq!(refused.error.why, Why::Record(Fault { number: 0 }));
+    assert!(
+        matches!(&refused.error.why, Why::Record(fault) if fault.number == 0 && fault.text.starts_with("no JSON\n --> record:1:2\n")),
+        "{refused}"
+    );
     let camera = refused
         .handle
         .set_constraints_record(b"{\"usage\":[\"cpu\"]}")
@@ -222,7 +235,7 @@ fn a_late_participant_accepts_the_settings() {
     let allocator = Allocator::from_record(record.as_bytes()).unwrap();
     assert_eq!(
         Allocator::from_record(b"").unwrap_err().to_string(),
-        "from_record: no JSON"
+        "from_record: no JSON\nthe record is empty, where an object is due"
     );
     let camera = allocator.allocate_shared().unwrap().bind().unwrap();
     drop(allocator);

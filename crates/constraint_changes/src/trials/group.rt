@@ -2,12 +2,13 @@
 
 use crate::trials::changed_lines::{changed_lines, entry_lines};
 use constraint_edits::Edit;
-use explanation_text::{Gathered, Step, Words, line_of};
+use explanation_text::wording::put_few;
+use explanation_text::{Gathered, Step, Text, Words, line_of};
 use script_faults::{Document, Part};
 use script_story::{Deed, Setting, Story};
 use serde_json::Value;
 use std::alloc::{AllocError, Global};
-use value_sources::{Asked, put_texts};
+use value_sources::Asked;
 
 /// How long a text may be, in bytes, of which lines are told: for each line it is gone through.
 const LONGEST: usize = 262_144;
@@ -53,7 +54,7 @@ impl Group<'_, '_> {
 
     /// A participant, with the call that states its constraints and its line: `camera (call 5, line
     /// 14)`.
-    pub fn who(&self, alloc: Global, one: &Asked<'_>) -> Result<String, AllocError> {
+    pub fn who(&self, alloc: Global, one: &Asked<'_>) -> Result<Text, AllocError> {
         let number = self.story.deed(one.node, Deed::SetConstraints).unwrap_or(0);
         let path = [
             Step::Key("calls"),
@@ -61,13 +62,13 @@ impl Group<'_, '_> {
             Step::Key("constraints"),
         ];
         let line = line_at(alloc, self.document, &path, Part::Key)?;
-        let mut words = Words::of(alloc, one.name);
-        words.put(" (call ").put_number(number);
+        let mut words = Words::of_name(alloc, one.called());
+        words.put(" (call ").call(number);
         if let Some(line) = line {
             words.put(", line ").put_number(line);
         }
         words.put(")");
-        words.done()
+        words.into_text()
     }
 
     /// A participant, with the call that states its constraints and the lines in which they are to
@@ -78,7 +79,7 @@ impl Group<'_, '_> {
         one: &Asked<'_>,
         edit: Edit,
         changed: &Value,
-    ) -> Result<String, AllocError> {
+    ) -> Result<Text, AllocError> {
         let number = self.story.deed(one.node, Deed::SetConstraints).unwrap_or(0);
         let place = number.saturating_sub(1);
         let lines = match (edit, one.stated) {
@@ -86,11 +87,11 @@ impl Group<'_, '_> {
             (_, Some(stated)) => changed_lines(alloc, self.document, place, stated, changed)?,
             _ => Vec::new(alloc),
         };
-        let mut words = Words::of(alloc, one.name);
-        words.put(" (call ").put_number(number);
+        let mut words = Words::of_name(alloc, one.called());
+        words.put(" (call ").call(number);
         put_lines(&mut words, &lines);
         words.put(")");
-        words.done()
+        words.into_text()
     }
 }
 
@@ -104,14 +105,14 @@ fn put_lines(text: &mut Words, lines: &[usize]) {
     } else {
         ", lines "
     });
-    let mut texts: Gathered<String> = Gathered::new(text.alloc());
+    let mut texts: Gathered<Text> = Gathered::new(text.alloc());
     for line in lines {
         let mut words = Words::new(text.alloc());
         words.put_number(*line);
-        texts.add_words(words);
+        texts.add_text(words);
     }
     match texts.done() {
-        Ok(texts) => put_texts(text, &texts, 4),
+        Ok(texts) => put_few(text, &texts, 4),
         Err(AllocError) => text.refuse(),
     }
 }

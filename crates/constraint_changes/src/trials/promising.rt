@@ -6,7 +6,7 @@ ghost use Rattle.script_reading.specs.Seen.{call_seen};
 ghost use Rattle.constraint_changes.specs.Edited.{IsPromisedSo};
 
 use crate::trials::group::Group;
-use explanation_text::Items;
+use explanation_text::{Item, Items, Kind, Text};
 use std::alloc::AllocError;
 
 /// Puts the decision that comes by several changes.
@@ -18,9 +18,8 @@ pub fn put_line(items: &mut Items, group: Group<'_, '_>, depth: usize, line: Str
 }
 
 /// Puts which children a decision chooses, if it chooses some.
-pub fn put_choice(items: &mut Items, depth: usize, choice: String) -> Result<(), AllocError> {
+pub fn put_choice(items: &mut Items, depth: usize, choice: Text) {
     if !choice.is_empty() {
-        items.say_text(depth, "choice", &choice);
+        items.add(Item::new(Kind::Words, depth, "choice", choice));
     }
-    Ok(())
 }

@@ -11,6 +11,7 @@ use crate::trials::group::Group;
 use crate::trials::parties::Party;
 use crate::trials::unmet::least_met;
 use constraint_edits::{Changed, Edit, Halving, is_absurd};
+use explanation_text::Text;
 use script_reading::{Act, Call};
 use script_story::Setting;
 use serde_json::Value;
@@ -21,7 +22,7 @@ pub const MOST_HALVINGS: usize = 140;
 
 /// A change that helps, with the decision that comes then.
 pub struct Found {
-    pub words: String,
+    pub words: Text,
     pub line: String,
     /// The constraints with the change.
     pub value: Value,

@@ -5,6 +5,7 @@ use crate::json::mentions::mentions_in;
 use crate::json::object::Object;
 use crate::json::scene::Scene;
 use crate::json::values::{count_value, spelled};
+use explanation_text::Item;
 use serde_json::Value;
 use std::alloc::{AllocError, Global};
 use sysmem_counts::Field;
@@ -18,10 +19,11 @@ pub(crate) fn is_change(label: &str) -> bool {
 pub(crate) fn change_value(
     alloc: Global,
     scene: &Scene<'_, '_>,
-    text: &str,
+    item: &Item,
 ) -> Result<Value, AllocError> {
+    let text = item.text.as_str();
     let mut object = Object::new(alloc);
-    mentions_in(alloc, scene, text)?.put(&mut object, scene)?;
+    mentions_in(alloc, &item.mentions)?.put(&mut object, scene)?;
     put_change(&mut object, text)?;
     object.say("text", text)?;
     Ok(object.into_value())

@@ -6,9 +6,14 @@ use crate::json::object::Object;
 use crate::json::places::{place_of_call, put_source};
 use crate::json::scene::Scene;
 use crate::json::values::{count_value, measure};
-use explanation_text::{Gathered, Item, Kind};
+use explanation_text::{Gathered, Item, Kind, Thing};
 use serde_json::Value;
 use std::alloc::{AllocError, Global};
+
+/// The labels of texts that begin with a number or a size, unless with the name of a node.
+const MEASURED: [&str; 7] = [
+    "awaits", "count", "height", "pixels", "row", "size", "width",
+];
 
 /// Puts what an item says beside its text into an object.
 pub(crate) fn put_item(
@@ -54,7 +59,7 @@ fn kind_of(item: &Item) -> &'static str {
 /// Puts what words name, and where the first call stands that they name.
 fn put_words(object: &mut Object, scene: &Scene<'_, '_>, item: &Item) -> Result<(), AllocError> {
     let alloc = object.alloc();
-    let mentions = mentions_in(alloc, scene, &item.text)?;
+    let mentions = mentions_in(alloc, &item.mentions)?;
     mentions.put(object, scene)?;
     let Some(number) = mentions.calls.first() else {
         return Ok(());
@@ -76,12 +81,20 @@ fn put_told(object: &mut Object, item: &Item) -> Result<(), AllocError> {
         return object.list("lines", lines_in(alloc, text)?);
     }
     let (word, _) = text.split_once(' ').unwrap_or((text, ""));
-    if item.label.is_empty() {
+    if !MEASURED.contains(&item.label) || begins_with_name(item) {
         return Ok(());
     }
     match measure(alloc, word.trim_end_matches(':'))? {
         Some(value) => object.put("value", value),
         None => Ok(()),
+    }
+}
+
+/// Whether the first word is the name of a node, which may be a number.
+fn begins_with_name(item: &Item) -> bool {
+    match item.mentions.first() {
+        Some(first) => first.at == 0 && matches!(first.thing, Thing::Node(_)),
+        None => false,
     }
 }
 

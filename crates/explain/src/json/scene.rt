@@ -23,26 +23,6 @@ pub(crate) struct Scene<'a, 'b> {
 }
 
 impl Scene<'_, '_> {
-    /// The node of a name, by number.
-    pub(crate) fn node_named(&self, name: &str) -> Option<usize> {
-        for (number, node) in self.played?.story.nodes.iter().enumerate() {
-            if node.name == name {
-                return Some(number);
-            }
-        }
-        None
-    }
-
-    /// The node at a path, by number.
-    pub(crate) fn node_at(&self, path: &str) -> Option<usize> {
-        for (number, node) in self.played?.story.nodes.iter().enumerate() {
-            if node.path.as_str() == path {
-                return Some(number);
-            }
-        }
-        None
-    }
-
     /// How many calls there are.
     pub(crate) fn calls(&self) -> usize {
         match self.played {

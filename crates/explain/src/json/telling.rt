@@ -8,7 +8,7 @@ use crate::json::changes::{change_value, is_change};
 use crate::json::item_object::{put_form, put_item};
 use crate::json::object::Object;
 use crate::json::scene::Scene;
-use explanation_text::{Item, Kind};
+use explanation_text::{Item, Kind, Thing};
 use report_json::decision_object;
 use serde_json::Value;
 use std::alloc::{AllocError, Global};
@@ -83,18 +83,23 @@ impl<'a, 'b> Telling<'a, 'b> {
         }
     }
 
-    /// Begins a section: `domain / (root): empty, after call 7 (set_constraints encoder)`.
+    /// Begins a section: of the domain whose root its title names first, if it names one.
     fn begin(&mut self, object: &mut Object, item: &Item) -> Result<(), AllocError> {
         self.root = None;
         self.changes.clear();
-        let Some(named) = item.text.as_str().strip_prefix("domain ") else {
+        let (Some(first), Some(played)) = (item.mentions.first(), self.scene.played) else {
             return Ok(());
         };
-        let (path, more) = named.split_once(' ').unwrap_or((named, ""));
-        self.root = self.scene.node_at(path);
-        let (_, told) = more.split_once("): ").unwrap_or(("", ""));
-        let (verdict, _) = told.split_once(',').unwrap_or((told, ""));
-        object.say("verdict", verdict)
+        let Thing::Node(root) = first.thing else {
+            return Ok(());
+        };
+        for domain in &played.story.domains {
+            if domain.root == root {
+                self.root = Some(root);
+                return object.say("verdict", domain.verdict());
+            }
+        }
+        Ok(())
     }
 
     /// Puts whose section it is, in its title with the name.
@@ -121,7 +126,7 @@ impl<'a, 'b> Telling<'a, 'b> {
         if !is_change(item.label) {
             return Ok(());
         }
-        let value = change_value(*item.text.allocator(), &self.scene, &item.text)?;
+        let value = change_value(*item.text.allocator(), &self.scene, item)?;
         self.changes.push(value)?;
         Ok(())
     }

@@ -1,18 +1,21 @@
 //! A script's explanation as objects, from its bytes to what is written.
 
-ghost use Rattle.std.specs.Prelude.{◌≡◌, Err, IfOk};
-ghost use Rattle.std.specs.String.{string_bytes};
+ghost use Rattle.std.specs.Prelude.{◌≡◌, Err};
 ghost use Rattle.script_run.specs.Run.{IsCausedBy, both_counts};
 ghost use Rattle.explain.specs.ObjectEndings.{Tells};
-ghost use Rattle.explain.specs.Lines.{IsToldBy, item_texts};
 
-use crate::explaining::{Explanation, Outcome, explain};
-use crate::json::objects::objects_of;
-use crate::page::explain_to_page;
-use byte_transfer::{Counted, ReadFault, Sink, Source, read_up_to_limit, write_fully};
+use crate::explaining::{Outcome, Outputs, explain};
+use byte_transfer::{ReadFault, Sink, Source, read_up_to_limit, write_fully};
 use script_reading::LONGEST;
 use script_run::RunFault;
 use std::alloc::{AllocError, Global};
+
+/// Objects alone.
+const OBJECTS: Outputs = Outputs {
+    text: false,
+    objects: true,
+    page: false,
+};
 
 /// Reads a script, and writes what it means as objects of JSON: one for each item, and one that
 /// ends them. The file's name, as it was given, stands in places.
@@ -37,11 +40,14 @@ pub fn explain_as_json<R: Source, W: Sink>(
         Err(ReadFault::Failed) => return Err(RunFault::Read),
         Err(ReadFault::NoMemory) => return Err(RunFault::NoMemory),
     };
-    let Ok(told) = told_of(alloc, file, &bytes) else {
+    let Ok(told) = explain(alloc, file, &bytes, OBJECTS) else {
         return Err(RunFault::NoMemory);
     };
-    match write_fully(writer, told.objects.as_bytes()) {
-        Ok(()) => Ok(told.explanation.outcome),
+    let Some(objects) = &told.objects else {
+        return Err(RunFault::NoMemory);
+    };
+    match write_fully(writer, objects.as_bytes()) {
+        Ok(()) => Ok(told.outcome),
         Err(_) => Err(RunFault::Write),
     }
 }
@@ -62,41 +68,17 @@ pub fn explain_as_json_to_page<R: Source, W: Sink, P: Sink>(
         (both_counts (W.failures writer.new) (P.failures page.new)) }
 {
     let bytes = read_up_to_limit(alloc, reader, LONGEST)?;
-    let Ok(told) = told_of(alloc, file, &bytes) else {
+    let wanted = Outputs {
+        page: true,
+        ..OBJECTS
+    };
+    let Ok(told) = explain(alloc, file, &bytes, wanted) else {
         return Err(RunFault::NoMemory);
     };
-    let Ok(drawn) = page_of(alloc, file, &bytes) else {
+    let (Some(objects), Some(drawn)) = (&told.objects, &told.page) else {
         return Err(RunFault::NoMemory);
     };
-    write_fully(writer, told.objects.as_bytes())?;
-    write_fully(page, &drawn)?;
-    Ok(told.explanation.outcome)
-}
-
-/// An explanation, and its objects.
-#[derive(Drop)]
-struct Told {
-    explanation: Explanation,
-    objects: String,
-}
-
-fn told_of(alloc: Global, file: &str, bytes: &[u8]) -> Result<Told, AllocError>
-    ensures { IfOk result (λ told. IsToldBy (item_texts told.explanation.items.items)
-        (string_bytes told.objects)) }
-{
-    let explanation = explain(alloc, file, bytes)?;
-    let objects = objects_of(alloc, file, bytes, &explanation)?;
-    Ok(Told {
-        explanation,
-        objects,
-    })
-}
-
-/// The page of a script, whose text isn't wanted. It fails where memory is refused.
-fn page_of(alloc: Global, file: &str, bytes: &[u8]) -> Result<Vec<u8>, RunFault> {
-    let mut reader = Counted::new(bytes);
-    let mut text = Counted::new(Vec::new(alloc));
-    let mut page = Counted::new(Vec::new(alloc));
-    explain_to_page(alloc, file, &mut reader, &mut text, &mut page)?;
-    Ok(page.inner)
+    write_fully(writer, objects.as_bytes())?;
+    write_fully(page, drawn.as_bytes())?;
+    Ok(told.outcome)
 }

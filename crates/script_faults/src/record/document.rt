@@ -1,4 +1,4 @@
-//! A script's text with the value that it spells, and pointing at a part of it.
+//! The text of a script or of a record with the value that it spells, and pointing at a part of it.
 
 ghost use Rattle.std.specs.Prelude.{◌≡◌, ◌≢◌, IfOk, IfSome, option_map};
 ghost use Rattle.serde_json.specs.View.{view};
@@ -29,14 +29,33 @@ fn say_unplaced(items: &mut Items, depth: usize, said: &str, note: &str) {
     items.say(depth, "", words)
 }
 
-/// `: calls[4].constraints`.
-fn path_words(alloc: Global, path: &[Step<'_>]) -> Words {
+/// `: calls[4].constraints`, or `: the script`.
+fn path_words(alloc: Global, path: &[Step<'_>], whole: Whole) -> Words {
     let mut words = Words::of(alloc, ": ");
+    if path.is_empty() {
+        words.put(whole.words());
+    }
     put_path(&mut words, path);
     words
 }
 
-/// A script's text.
+/// What a text stands for as a whole.
+#[derive(Clone, Copy, PartialEq, Eq)]
+pub enum Whole {
+    Script,
+    Record,
+}
+
+impl Whole {
+    fn words(self) -> &'static str {
+        match self {
+            Whole::Script => "the script",
+            Whole::Record => "the record",
+        }
+    }
+}
+
+/// The text of a script, or of a record that stands alone.
 #[derive(Clone, Copy)]
 pub struct Document<'a> {
     /// The name of its file, as it was given.
@@ -44,6 +63,7 @@ pub struct Document<'a> {
     pub bytes: &'a [u8],
     /// What the text spells.
     pub value: &'a Value,
+    pub whole: Whole,
 }
 
 /// What of a member is pointed at.
@@ -99,7 +119,8 @@ impl<'a> Document<'a> {
         helps: &[String],
     ) {
         let alloc = items.alloc();
-        match (self.span(alloc, path, part), path_words(alloc, path).done()) {
+        let said = path_words(alloc, path, self.whole);
+        match (self.span(alloc, path, part), said.done()) {
             (Ok(Some(span)), Ok(said)) => {
                 self.show(items, depth, pointed(span, part), &said, note, helps)
             }

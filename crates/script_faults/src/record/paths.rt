@@ -1,4 +1,4 @@
-//! Paths to values in a script.
+//! Paths to values in a script or a record.
 
 use explanation_text::wording::put_visible;
 use explanation_text::{Step, Words};
@@ -7,7 +7,7 @@ use std::alloc::{AllocError, Global};
 /// How many characters of a key are shown.
 const MOST: usize = 60;
 
-/// A path from the script to a value in it.
+/// A path from the whole to a value in it.
 pub type Path<'a> = Vec<Step<'a>>;
 
 /// A path with a further step.
@@ -40,11 +40,8 @@ pub(crate) fn extended<'a>(
     Ok(path)
 }
 
-/// Puts a path after a text: `calls[4].constraints.usage[0]`, or `the script`.
+/// Puts a path after a text: `calls[4].constraints.usage[0]`.
 pub(crate) fn put_path(text: &mut Words, path: &[Step<'_>]) {
-    if path.is_empty() {
-        text.put("the script");
-    }
     for (k, step) in path.iter().enumerate() {
         match *step {
             Step::Key(key) => put_key(text, if 0 < k { "." } else { "" }, key),

@@ -17,13 +17,13 @@ use serde_json::Value;
 use std::alloc::{AllocError, Global};
 use sysmem_sanitise::{Code, Fault};
 
-/// The first fault of a script's record, and where it is.
+/// The first fault of a record, and where it is.
 #[derive(Clone, Copy)]
 struct Faulty<'a, 'b> {
     document: &'b Document<'a>,
     /// Below how many items it is told.
     depth: usize,
-    /// Its path in the script.
+    /// Its path in the text.
     path: &'b [Step<'a>],
     fault: Fault,
     is_platform: bool,
@@ -56,7 +56,7 @@ pub fn tell_record_fault<'a>(
     Ok(())
 }
 
-/// The path from the script to the value that the first fault of the record at a path is about.
+/// The path from the whole to the value that the first fault of the record at a path is about.
 fn path_of<'a>(
     alloc: Global,
     base: &[Step<'a>],

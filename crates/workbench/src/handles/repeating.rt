@@ -159,7 +159,7 @@ fn apply_all(
 }
 
 /// The node that a call makes or is made on; `None` where it is refused.
-fn apply(
+pub(crate) fn apply(
     book: &mut Book,
     names: &[Option<NodeId>],
     call: &Call<'_>,
