@@ -182,11 +182,7 @@ impl Sum {
 
 /// Whether some number of buffers and some place of the platform suit the participants of whom
 /// these are kept.
-fn has_count_and_place(
-    platform: &Platform,
-    counts: &CountBounds,
-    memory: &MemoryBounds,
-) -> bool
+fn has_count_and_place(platform: &Platform, counts: &CountBounds, memory: &MemoryBounds) -> bool
     ensures { (ps : List Participant) → IsTallyOf counts.now (counts_asked ps)
         → AreDomainsLeft memory.now platform.now.heaps (place_demands ps)
         → IsTrue result ↔ HasCountAndPlace platform.now ps }

@@ -19,9 +19,9 @@ returns-clause-sums c ps sums =
     let same : d.entries ≡ c.read.new.self = sym c.entries.ensures.entries ∙ sym c.read.ensures in
     let many : c.self.inside.pairs.len ≡ length c.add_to_pairs.new.kept = omega (arith, c.add_to_pairs.auto.kept, c.deref_mut.ensures.len) in
     let added : (es : List OfferDemand) → ArePairsKept platform.pairs es c.self.inside.pairs.items → ArePairsKept platform.pairs (es ++ d ∷ []) c.add_to_pairs.new.kept =
-        λ es were. subst (λ pairs. ArePairsKept pairs (es ++ d ∷ []) c.add_to_pairs.new.kept) c.pairs.ensures.pairs
-        (c.add_to_pairs.ensures es d same (subst (λ pairs. ArePairsKept pairs es c.deref_mut.result.now) (sym c.pairs.ensures.pairs)
-        (subst (ArePairsKept platform.pairs es) (sym c.deref_mut.ensures.value) were))) in
+    λ es were. subst (λ pairs. ArePairsKept pairs (es ++ d ∷ []) c.add_to_pairs.new.kept) c.pairs.ensures.pairs
+    (c.add_to_pairs.ensures es d same (subst (λ pairs. ArePairsKept pairs es c.deref_mut.result.now) (sym c.pairs.ensures.pairs)
+    (subst (ArePairsKept platform.pairs es) (sym c.deref_mut.ensures.value) were))) in
     rw (all_written c.self.inside.pairs.len c.self.inside.pairs.items c.add_to_pairs.new.kept many)
     (sums_push _ _ platform ps c.args.asked.now kept
     ((rw c.counts.ensures at c.add.ensures.added) (counts_asked ps) kept.counts)

@@ -32,7 +32,7 @@ returns-in_default-first_shared-clause-none c ps sums =
     let platform = c.args.platform.now in
     let kept = subst (λ (s : SumFacts). SumsUp s platform ps) (sym c.self.view_is) sums in
     let has : HasCountAndPlace platform ps = both_found platform ps c.in-Ok.count c.in-Some.place (c.in-Ok.ensures.cases (counts_asked ps) kept.counts)
-        ((rw c.heaps.ensures.heaps at c.in-Some.ensures.first) (place_demands ps) kept.places) in
+    ((rw c.heaps.ensures.heaps at c.in-Some.ensures.first) (place_demands ps) kept.places) in
     let paired = subst (ArePairsKept platform.pairs (offer_demands ps)) (sym c.deref.ensures.value) (kept.pairs.these has) in
     unmet_by_offer c.args.whole platform ps (c.in_default-first_shared.ensures.none (offer_demands ps) kept.no_image paired kept.sizes)
 
@@ -41,7 +41,7 @@ returns-in_default-first_shared-clause-reason c ps sums =
     let platform = c.args.platform.now in
     let kept = subst (λ (s : SumFacts). SumsUp s platform ps) (sym c.self.view_is) sums in
     let has : HasCountAndPlace platform ps = both_found platform ps c.in-Ok.count c.in-Some.place (c.in-Ok.ensures.cases (counts_asked ps) kept.counts)
-        ((rw c.heaps.ensures.heaps at c.in-Some.ensures.first) (place_demands ps) kept.places) in
+    ((rw c.heaps.ensures.heaps at c.in-Some.ensures.first) (place_demands ps) kept.places) in
     let paired = subst (ArePairsKept platform.pairs (offer_demands ps)) (sym c.deref.ensures.value) (kept.pairs.these has) in
     first_no_offer c.args.whole platform ps c.in-Ok.count c.in-Some.place (c.in-Ok.ensures.cases (counts_asked ps) kept.counts)
     ((rw c.heaps.ensures.heaps at c.in-Some.ensures.first) (place_demands ps) kept.places)
@@ -52,7 +52,7 @@ returns-clause-best c ps sums =
     let platform = c.args.platform.now in
     let kept = subst (λ (s : SumFacts). SumsUp s platform ps) (sym c.self.view_is) sums in
     let has : HasCountAndPlace platform ps = both_found platform ps c.in-Ok.count c.in-Some.place (c.in-Ok.ensures.cases (counts_asked ps) kept.counts)
-        ((rw c.heaps.ensures.heaps at c.in-Some.ensures.first) (place_demands ps) kept.places) in
+    ((rw c.heaps.ensures.heaps at c.in-Some.ensures.first) (place_demands ps) kept.places) in
     let paired = subst (ArePairsKept platform.pairs (offer_demands ps)) (sym c.deref.ensures.value) (kept.pairs.these has) in
     best_together c.args.whole platform ps c.in-Some-first_shared.fit c.in-Some.place c.in-Ok.count
     (c.in-Some-first_shared.ensures.first (offer_demands ps) kept.no_image paired kept.sizes)

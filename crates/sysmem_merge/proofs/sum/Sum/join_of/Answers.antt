@@ -17,13 +17,13 @@ returns-clause-sums c others ps qs was above share =
     let many : c.self.inside.pairs.len ≡ length c.join_pairs_where.new.kept = omega (arith, c.join_pairs_where.auto.kept, c.deref_mut.ensures.len) in
     let tally = c.join.ensures.joined (counts_asked ps) (counts_asked qs) first.counts second.counts in
     let places = (rw c.heaps.ensures.heaps at c.join-2.ensures) (place_demands ps) (place_demands qs) first.places second.places in
-    let left = c.has_count_and_place.ensures (ps ++ qs) (rw map-append tally) (rw map-append places) in
+    let left = c.has_count_and_place-left.ensures (ps ++ qs) (rw map-append tally) (rw map-append places) in
     let paired = c.join_pairs_where.ensures platform.pairs old.pairs.some.0 (offer_demands ps) (offer_demands qs)
-        (subst (ArePairsKept platform.pairs old.pairs.some.0) (sym c.deref_mut.ensures.value) old.pairs.some.1)
-        (λ yes'. (
-          subst (ArePairsKept platform.pairs (offer_demands ps)) (sym c.deref.ensures.value) (first.pairs.these (has_in_front platform ps qs (left.0 yes'))),
-          subst (ArePairsKept platform.pairs (offer_demands qs)) (sym c.deref-2.ensures.value) (second.pairs.these (has_behind platform ps qs (left.0 yes'))),
-        )) in
+    (subst (ArePairsKept platform.pairs old.pairs.some.0) (sym c.deref_mut.ensures.value) old.pairs.some.1)
+    (λ yes'. (
+      subst (ArePairsKept platform.pairs (offer_demands ps)) (sym c.deref.ensures.value) (first.pairs.these (has_in_front platform ps qs (left.0 yes'))),
+      subst (ArePairsKept platform.pairs (offer_demands qs)) (sym c.deref-2.ensures.value) (second.pairs.these (has_behind platform ps qs (left.0 yes'))),
+    )) in
     rw (all_written c.self.inside.pairs.len c.self.inside.pairs.items c.join_pairs_where.new.kept many)
     (sums_both _ _ _ platform ps qs first second tally places
     (c.join_of.ensures NoImage (offer_demands ps) (offer_demands qs) first.no_image second.no_image)
