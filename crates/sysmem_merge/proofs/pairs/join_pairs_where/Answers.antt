@@ -1,5 +1,5 @@
 -- Where it isn't wished, what is kept is as it was.
-use Rattle.std.proofs.Common.{◌++◌, sym}
+use Rattle.std.proofs.Common.{◌++◌}
 use Rattle.sysmem_merge.proofs.pairs.join_pairs_where.Goals as goal
 
 pub returns-then-wished : goal.returns-then-wished
