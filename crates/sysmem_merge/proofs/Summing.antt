@@ -14,7 +14,7 @@ use Rattle.sysmem_formats.specs.declared.offer.Offer.TheVariants.{NoImage}
 use Rattle.sysmem_merge.specs.Aggregate.{AreSizes, IsKept}
 use Rattle.sysmem_merge.specs.Demands.{OfferDemand, counts_asked, place_demand, place_demands, offer_demand, offer_demands}
 use Rattle.sysmem_merge.specs.Pairs.{ArePairsKeptWhere}
-use Rattle.sysmem_merge.specs.Sum.{HasCountAndPlace, SumFacts, SumsUp}
+use Rattle.sysmem_merge.specs.Sum.{HasCountAndPlace, IsPlaced, SumFacts, SumsUp}
 use Rattle.negotiation_inputs.specs.Participant.{Participant}
 use Rattle.negotiation_inputs.specs.Platform.{PlatformFacts}
 use Rattle.sysmem_merge.proofs.Adding.{map_push}
@@ -26,6 +26,12 @@ pub all_parts : {X : Type 0} (P : X → Type 0) (xs ys : List X) → All P (xs +
 all_parts P [] ys all = (All-nil P, all)
 all_parts P (x ∷ xs) ys all =
     let rest = all_parts P xs ys (All-tail P x (xs ++ ys) all) in (All-cons P x xs (All-head P x (xs ++ ys) all) rest.0, rest.1)
+
+-- what was found is the first place, or there is none
+pub found_place : (platform : PlatformFacts) (ps : List Participant) (o : Option Place) → IfSome o (places.IsFirstPlace platform.heaps (place_demands ps))
+    → IfNone o (places.HasNoPlace platform.heaps (place_demands ps)) → IsPlaced platform ps o
+found_place platform ps (Some place) first none = first
+found_place platform ps None first none = none
 
 -- what has a number of buffers and a place has them for some of the participants
 pub has_for_some : (platform : PlatformFacts) (some all : List Participant) → AreSomeOf some all → HasCountAndPlace platform all → HasCountAndPlace platform some
@@ -58,11 +64,10 @@ pub no_place : (platform : PlatformFacts) (ps : List Participant) → places.Has
 no_place platform ps none has = refused_clash has.heap has.place.coherency (place_demands ps) (none has.place has.heap has.there) has.allowed
 
 -- so with a number they have both where there is a first place
-pub place_decides : (platform : PlatformFacts) (ps : List Participant) (number : ℕ) (o : Option Place) (b : Bool) → IsLeastCount (counts_asked ps) number
-    → IfSome o (places.IsFirstPlace platform.heaps (place_demands ps)) → IfNone o (places.HasNoPlace platform.heaps (place_demands ps)) → b ≡ is_some o
+pub place_decides : (platform : PlatformFacts) (ps : List Participant) (number : ℕ) (o : Option Place) (b : Bool) → IsLeastCount (counts_asked ps) number → IsPlaced platform ps o → b ≡ is_some o
     → IsTrue b ↔ HasCountAndPlace platform ps
-place_decides platform ps number (Some place) b counted first none is = (λ _. both_found platform ps number place counted first, λ _. is)
-place_decides platform ps number None b counted first none is = (λ found. absurd (cc (found, is)), λ has. absurd (no_place platform ps none has))
+place_decides platform ps number (Some place) b counted first is = (λ _. both_found platform ps number place counted first, λ _. is)
+place_decides platform ps number None b counted none is = (λ found. absurd (cc (found, is)), λ has. absurd (no_place platform ps none has))
 
 -- the front of a list is some of it, and so is what stands behind
 pub has_in_front : (platform : PlatformFacts) (ps qs : List Participant) → HasCountAndPlace platform (ps ++ qs) → HasCountAndPlace platform ps
@@ -88,13 +93,15 @@ sizes_both ds es least greatest more_least more_greatest first second = record {
 -- each part stands for both lists, so the whole does
 pub sums_both : (above more new : SumFacts) (platform : PlatformFacts) (ps qs : List Participant) → SumsUp above platform ps → SumsUp more platform qs
     → counts.IsTallyOf new.counts (counts_asked ps ++ counts_asked qs) → places.AreDomainsLeft new.places platform.heaps (place_demands ps ++ place_demands qs)
+    → IsPlaced platform (ps ++ qs) new.place
     → IsKept NoImage (offer_demands ps ++ offer_demands qs) new.no_image
     → ArePairsKeptWhere (HasCountAndPlace platform (ps ++ qs)) platform.pairs (offer_demands ps ++ offer_demands qs) new.pairs
     → new.least_size ≡ max above.least_size more.least_size → new.greatest_size ≡ min above.greatest_size more.greatest_size → new.added ≡ above.added + more.added
     → SumsUp new platform (ps ++ qs)
-sums_both above more new platform ps qs first second counted placed imageless paired least greatest many = record {
+sums_both above more new platform ps qs first second counted placed place imageless paired least greatest many = record {
   counts = rw map-append counted;
   places = rw map-append placed;
+  place = place;
   no_image = rw map-append imageless;
   pairs = rw map-append paired;
   sizes = rw (map-append, least, greatest) (sizes_both (offer_demands ps) (offer_demands qs) above.least_size above.greatest_size more.least_size more.greatest_size first.sizes second.sizes);
@@ -104,13 +111,15 @@ sums_both above more new platform ps qs first second counted placed imageless pa
 -- each part stands for one more, so the whole does
 pub sums_push : (kept new : SumFacts) (platform : PlatformFacts) (ps : List Participant) (p : Participant) → SumsUp kept platform ps
     → counts.IsTallyOf new.counts (counts_asked ps ++ p.counts ∷ []) → places.AreDomainsLeft new.places platform.heaps (place_demands ps ++ place_demand p ∷ [])
+    → IsPlaced platform (ps ++ p ∷ []) new.place
     → IsKept NoImage (offer_demands ps ++ offer_demand p ∷ []) new.no_image
     → ArePairsKeptWhere (HasCountAndPlace platform (ps ++ p ∷ [])) platform.pairs (offer_demands ps ++ offer_demand p ∷ []) new.pairs
     → new.least_size ≡ max kept.least_size p.memory.min_size_bytes → new.greatest_size ≡ min kept.greatest_size p.memory.max_size_bytes → new.added ≡ kept.added + 1
     → SumsUp new platform (ps ++ p ∷ [])
-sums_push kept new platform ps p sums counted placed imageless paired least greatest many = record {
+sums_push kept new platform ps p sums counted placed place imageless paired least greatest many = record {
   counts = rw map_push counted;
   places = rw map_push placed;
+  place = place;
   no_image = rw map_push imageless;
   pairs = rw map_push paired;
   sizes = rw (map_push, least, greatest) (sizes_push (offer_demands ps) (offer_demand p) kept.least_size kept.greatest_size sums.sizes);

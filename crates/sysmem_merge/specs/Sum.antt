@@ -1,6 +1,7 @@
 -- What is kept of participants apart from their platform: of those that a prefix settles,
 -- and of those that one choice does.
-use Rattle.std.specs.Prelude.{◌≡◌, ℕ, List, length, All, Bool, IsPermutation}
+use Rattle.std.specs.Prelude.{◌≡◌, ℕ, List, length, All, Bool, Option, MatchOption}
+use Rattle.std.specs.Prelude.{IsPermutation}
 use Rattle.sysmem_counts.specs.Bounds as counts
 use Rattle.sysmem_counts.specs.Counts.{IsCounted}
 use Rattle.sysmem_counts.specs.Tally.{Tally}
@@ -21,15 +22,22 @@ use Rattle.negotiation_inputs.specs.Participant.{Participant}
 use Rattle.negotiation_inputs.specs.Platform.{PlatformFacts}
 
 -- what is kept of counts, of places, of the offer of no image, of pairs and of
--- sizes; how many participants they are
+-- sizes; the first place that is left; how many participants they are
 pub record SumFacts : Type 0 where
   pub counts : Tally
   pub places : List CoherencyDomains
+  pub place : Option Place
   pub no_image : KeptOffer
   pub pairs : List KeptPair
   pub least_size : ℕ
   pub greatest_size : ℕ
   pub added : ℕ
+
+-- it is the first place that nobody of these participants refuses, or there is none
+abbrev pub IsPlaced : PlatformFacts → List Participant → Option Place → Type 0
+IsPlaced platform ps found =
+    MatchOption found (places.HasNoPlace platform.heaps (place_demands ps))
+    (places.IsFirstPlace platform.heaps (place_demands ps))
 
 -- some number of buffers suits these participants, and nobody refuses some place of the platform
 pub record HasCountAndPlace (platform : PlatformFacts) (ps : List Participant) : Type 0 where
@@ -45,6 +53,7 @@ pub record HasCountAndPlace (platform : PlatformFacts) (ps : List Participant) :
 pub record SumsUp (sum : SumFacts) (platform : PlatformFacts) (ps : List Participant) : Type 0 where
   pub counts : counts.IsTallyOf sum.counts (counts_asked ps)
   pub places : places.AreDomainsLeft sum.places platform.heaps (place_demands ps)
+  pub place : IsPlaced platform ps sum.place
   pub no_image : IsKept NoImage (offer_demands ps) sum.no_image
   pub pairs : ArePairsKeptWhere (HasCountAndPlace platform ps) platform.pairs (offer_demands ps)
       sum.pairs

@@ -3,13 +3,13 @@
 
 ghost use Rattle.std.specs.Prelude.{◌≡◌, ◌+◌, ◌<◌, ◌≤◌, ◌↔◌, ◌++◌, List, [], ◌∷◌, IfOk, IfErr, IsTrue, OnOk};
 ghost use Rattle.sysmem_counts.specs.Bounds.{IsTallyOf};
-ghost use Rattle.sysmem_memory.specs.Place.{AreDomainsLeft};
 ghost use Rattle.sysmem_merge.specs.Best.{IsBest, IsUnmet};
-ghost use Rattle.sysmem_merge.specs.Demands.{counts_asked, place_demands};
+ghost use Rattle.sysmem_merge.specs.Demands.{counts_asked};
 ghost use Rattle.sysmem_merge.specs.Reasons.{IsFirstReason};
 ghost use Rattle.sysmem_merge.specs.Share.{IsShareOf};
-ghost use Rattle.sysmem_merge.specs.Sum.{HasCountAndPlace, SumsUp, IsMet};
+ghost use Rattle.sysmem_merge.specs.Sum.{HasCountAndPlace, IsPlaced, SumsUp, IsMet};
 ghost use Rattle.negotiation_inputs.specs.Participant.{Participant};
+ghost use Rattle.negotiation_inputs.specs.Platform.{PlatformFacts};
 
 use crate::kept::KeptOffer;
 use crate::pair::KeptPair;
@@ -24,7 +24,7 @@ use std::marker::Model;
 use sysmem_counts::CountBounds;
 use sysmem_formats::Offer;
 use sysmem_image::FirstMatches;
-use sysmem_memory::MemoryBounds;
+use sysmem_memory::{MemoryBounds, Place};
 
 /// How many participants are added at most, each with counts of 33 bits together.
 pub const MOST_ADDED: u64 = 1024;
@@ -35,6 +35,8 @@ pub const MOST_ADDED: u64 = 1024;
 pub struct Sum {
     counts: CountBounds,
     memory: MemoryBounds,
+    /// The first place that is left, found when the memory was last changed.
+    place: Option<Place>,
     no_image: KeptOffer,
     pairs: Vec<KeptPair>,
     least_size: u64,
@@ -53,6 +55,7 @@ impl Model for Sum {
     ghost view = { λ s. record {
       counts = s.counts;
       places = s.memory;
+      place = s.place;
       no_image = s.no_image;
       pairs = s.pairs.items;
       least_size = s.least_size;
@@ -69,9 +72,11 @@ impl Sum {
         ensures { IfOk result (λ made. SumsUp made platform.now []) }
     {
         let pairs = kept_pairs(alloc, platform.pairs())?;
+        let memory = MemoryBounds::new(platform.heaps());
         Ok(Sum {
             counts: CountBounds::new(),
-            memory: MemoryBounds::new(platform.heaps()),
+            memory,
+            place: memory.first_place(platform.heaps()),
             no_image: KeptOffer::new(&Offer::NoImage),
             pairs,
             least_size: 0,
@@ -90,6 +95,7 @@ impl Sum {
         let memory = asked.memory();
         self.counts.add(asked.counts());
         self.memory.add(platform.heaps(), memory, asked.usage());
+        self.place = self.memory.first_place(platform.heaps());
         let mut matches = FirstMatches::none();
         matches.read(asked.entries());
         self.no_image.add(&Offer::NoImage, &matches);
@@ -115,8 +121,9 @@ impl Sum {
         self.counts.join(&more.counts);
         self.memory = above.memory;
         self.memory.join(platform.heaps(), &more.memory);
+        self.place = self.memory.first_place(platform.heaps());
         self.no_image.join_of(&above.no_image, &more.no_image);
-        let left = has_count_and_place(platform, &self.counts, &self.memory);
+        let left = has_count_and_place(&self.counts, self.place);
         join_pairs_where(left, &mut self.pairs, &above.pairs, &more.pairs);
         self.least_size = above.least_size.max(more.least_size);
         self.greatest_size = above.greatest_size.min(more.greatest_size);
@@ -138,7 +145,7 @@ impl Sum {
             Ok(count) => count,
             Err(field) => return Err(Reason::Count(field)),
         };
-        let Some(place) = self.memory.first_place(platform.heaps()) else {
+        let Some(place) = self.place else {
             return Err(Reason::NoPlace);
         };
         let (least, greatest) = (self.least_size, self.greatest_size);
@@ -180,15 +187,15 @@ impl Sum {
     }
 }
 
-/// Whether some number of buffers and some place of the platform suit the participants of whom
-/// these are kept.
-fn has_count_and_place(platform: &Platform, counts: &CountBounds, memory: &MemoryBounds) -> bool
-    ensures { (ps : List Participant) → IsTallyOf counts.now (counts_asked ps)
-        → AreDomainsLeft memory.now platform.now.heaps (place_demands ps)
-        → IsTrue result ↔ HasCountAndPlace platform.now ps }
+/// Whether some number of buffers and some place suit the participants of whom these counts are
+/// kept, and whose first place this is.
+fn has_count_and_place(counts: &CountBounds, place: Option<Place>) -> bool
+    ensures { (platform : PlatformFacts) (ps : List Participant)
+        → IsTallyOf counts.now (counts_asked ps)
+        → IsPlaced platform ps place → IsTrue result ↔ HasCountAndPlace platform ps }
 {
     match counts.least_count() {
-        Ok(_) => memory.first_place(platform.heaps()).is_some(),
+        Ok(_) => place.is_some(),
         Err(_) => false,
     }
 }

@@ -3,8 +3,8 @@ use Rattle.sysmem_memory.specs.Wishes.{MemoryWishes}
 use Rattle.sysmem_merge.specs.Demands.{OfferDemand, counts_asked, place_demands, offer_demand, offer_demands}
 use Rattle.sysmem_merge.specs.Pairs.{ArePairsKept}
 use Rattle.sysmem_merge.specs.Sum.{SumFacts, SumsUp}
-use Rattle.sysmem_merge.proofs.Adding.{all_written}
-use Rattle.sysmem_merge.proofs.Summing.{has_in_front, sums_push}
+use Rattle.sysmem_merge.proofs.Adding.{all_written, map_push}
+use Rattle.sysmem_merge.proofs.Summing.{found_place, has_in_front, sums_push}
 use Rattle.sysmem_merge.proofs.sum.Sum.add.Goals as goal
 
 pub returns-clause-sums : goal.returns-clause-sums
@@ -22,10 +22,15 @@ returns-clause-sums c ps sums =
     λ es were. subst (λ pairs. ArePairsKept pairs (es ++ d ∷ []) c.add_to_pairs.new.kept) c.pairs.ensures.pairs
     (c.add_to_pairs.ensures es d same (subst (λ pairs. ArePairsKept pairs es c.deref_mut.result.now) (sym c.pairs.ensures.pairs)
     (subst (ArePairsKept platform.pairs es) (sym c.deref_mut.ensures.value) were))) in
+    let left = (rw (c.heaps.ensures.heaps, c.memory-memory.ensures.memory, c.usage.ensures.usage) at c.add-2.ensures) (place_demands ps) kept.places in
+    let more = ps ++ c.args.asked.now ∷ [] in
+    let place = found_place platform more c.first_place-self-inside.result ((rw c.heaps-2.ensures.heaps at c.first_place-self-inside.ensures.first) (place_demands more) (rw map_push left))
+    ((rw c.heaps-2.ensures.heaps at c.first_place-self-inside.ensures.none) (place_demands more) (rw map_push left)) in
     rw (all_written c.self.inside.pairs.len c.self.inside.pairs.items c.add_to_pairs.new.kept many)
     (sums_push _ _ platform ps c.args.asked.now kept
     ((rw c.counts.ensures at c.add.ensures.added) (counts_asked ps) kept.counts)
-    ((rw (c.heaps.ensures.heaps, c.memory-memory.ensures.memory, c.usage.ensures.usage) at c.add-2.ensures) (place_demands ps) kept.places)
+    left
+    place
     (c.add-3.ensures ds d same kept.no_image)
     (record {
       these = λ has. added ds (kept.pairs.these (has_in_front platform ps (c.args.asked.now ∷ []) has));
