@@ -17,3 +17,4 @@ pub mod TextsBack
 pub mod PutAsText
 pub mod Plain
 pub mod LineText
+mod LinesPut

@@ -8,7 +8,6 @@ use Rattle.sysmem_counts.specs.Field.{field_name}
 use Rattle.sysmem_counts.specs.declared.field.Field.{Field}
 use Rattle.verdict_claims.specs.declared.refutation.Item.TheVariants.{Split}
 use Rattle.verdict_claims.specs.Line.{LineFacts}
-use Rattle.certificate_text.specs.Out.{IsLineText}
 use Rattle.certificate_text.specs.Told.{item_data, line_data, lines_data, named_data, paths_data}
 
 -- `{"field":"`
@@ -33,13 +32,6 @@ line_put old field nodes plain =
     regroup old line_front name line_middle paths (125 ∷ [])
     ∙ ap (λ s. old ++ (line_front ++ s)) (sym (append_assoc name (34 ∷ []) behind))
     ∙ ap (λ s. old ++ (line_front ++ ((s ++ 34 ∷ []) ++ behind))) (sym plain)
-
--- lines with one field and the same paths have one text
-pub same_text : (paths text : List ℕ) (a b : LineFacts) → a.field ≡ b.field → a.nodes ≡ b.nodes → IsLineText paths text a → IsLineText paths text b
-same_text paths text a b field nodes is = record {
-  nodes_told = is.nodes_told ∙ ap (λ ns. compact_text (paths_data ns)) nodes;
-  line_told = is.line_told ∙ ap₂ (λ f ns. compact_text (named_data (codes "field") f ns)) field nodes;
-}
 
 kind_regroup : (o a k b n m p e : List ℕ) → ((((((o ++ a) ++ k) ++ b) ++ n) ++ m) ++ p) ++ e ≡ o ++ (a ++ (k ++ (b ++ (n ++ (m ++ (p ++ e))))))
 kind_regroup o a k b n m p e = simp append_assoc
@@ -97,3 +89,7 @@ offers_plain = refl
 -- what is put of data is put of the same data
 pub told_as : {T E : Type 0} (r : Result T E) (old new : List ℕ) (d e : Data) → d ≡ e → OnOk r (new ≡ old ++ compact_text d) → OnOk r (new ≡ old ++ compact_text e)
 told_as r old new d e same h = subst (λ x. OnOk r (new ≡ old ++ compact_text x)) same h
+
+-- lines with one field and the same paths are one
+pub same_line : (a b : LineFacts) → a.field ≡ b.field → a.nodes ≡ b.nodes → a ≡ b
+same_line a b field nodes = λ i. record { field = field i; nodes = nodes i }

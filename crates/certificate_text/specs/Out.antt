@@ -1,13 +1,15 @@
 -- What a clause sees of the writer, and its fields.
-use Rattle.std.specs.Prelude.{◌≡◌, ℕ, ◌++◌, List, []}
+use Rattle.std.specs.Prelude.{◌≡◌, ℕ, ◌++◌, List, [], Option, IfSome, true, false, length, nat_le}
 use Rattle.json.specs.Lex.{tokens}
 use Rattle.json.specs.Print.{print, ends_value, ArePrintable}
 use Rattle.json.specs.Token.{Token}
 use Rattle.json.specs.Written.{Written}
 use Rattle.serde_json.specs.Written.{compact_text}
 use Rattle.verdict_claims.specs.Line.{LineFacts}
+use Rattle.verdict_claims.specs.PathList.{numbers_of}
 use Rattle.certificate_text.specs.Told.{line_data, paths_data}
 use Rattle.certificate_text.specs.declared.json_writer.Writer.TheInside.{Inside}
+use Rattle.certificate_text.specs.declared.text.Told.{Told}
 
 -- the tokens are those that a reader finds in the whole text
 abbrev pub out_view : Inside → Written
@@ -26,3 +28,12 @@ pub record IsOut (w : Inside) : Type 0 where
 pub record IsLineText (paths text : List ℕ) (line : LineFacts) : Type 0 where
   pub nodes_told : paths ≡ compact_text (paths_data line.nodes)
   pub line_told : text ≡ compact_text (line_data line)
+
+-- what is kept of a line that was put: its text, and that of its paths
+abbrev pub IsTold : Told → Type 0
+IsTold told = IsLineText told.paths.items told.text.items told.line
+
+-- a line is the one that is kept of those with few paths, or of those with many
+pub record IsKept (few many : Option Told) (line : LineFacts) : Type 0 where
+  pub of_few : nat_le (length (numbers_of line.nodes)) 4 ≡ true → IfSome few (λ told. told.line ≡ line)
+  pub of_many : nat_le (length (numbers_of line.nodes)) 4 ≡ false → IfSome many (λ told. told.line ≡ line)

@@ -121,7 +121,7 @@ fn put_lines_at(out: &mut Writer, key: &str, lines: &Lines) -> Result<(), AllocE
     ensures { PutsMember result out.old out.new key.now (lines_data lines.now) }
 {
     out.key(key)?;
-    out.lines(lines.as_slice())
+    out.lines(lines)
 }
 
 fn put_refutation(out: &mut Writer, refutation: &Refutation) -> Result<(), AllocError>

@@ -16,7 +16,7 @@ use json::Token;
 use std::alloc::{AllocError, Global};
 use std::marker::Model;
 use std::mem;
-use verdict_claims::{Item, Line};
+use verdict_claims::{Item, Lines};
 
 /// JSON that is being written. It places the commas and the colons, and leaves the nesting to its
 /// caller.
@@ -130,7 +130,7 @@ impl Writer {
     }
 
     /// Puts a list of lines.
-    pub(crate) fn lines(&mut self, lines: &[Line]) -> Result<(), AllocError>
+    pub(crate) fn lines(&mut self, lines: &Lines) -> Result<(), AllocError>
         ensures { PutsData result self.old self.new (lines_data lines.now) }
     {
         let alloc = *self.done.allocator();
@@ -149,7 +149,7 @@ impl Writer {
         Ok(Writer { done, behind })
     }
 
-    fn with_lines(self, lines: &[Line]) -> Result<Writer, AllocError>
+    fn with_lines(self, lines: &Lines) -> Result<Writer, AllocError>
         ensures { IfOk result (λ writer. Adds self writer (tokens_of (lines_data lines.now))) }
     {
         let Writer { mut done, behind } = self;

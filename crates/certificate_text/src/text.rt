@@ -1,7 +1,7 @@
 //! Refutations, and lists of paths and of lines, as text.
 
-ghost use Rattle.std.specs.Prelude.{◌≡◌, ◌++◌, ◌<◌, ◌+◌, [], ◌∷◌, List, ℕ, codes, false, true, map, OnOk};
-ghost use Rattle.certificate_text.specs.Out.{IsLineText};
+ghost use Rattle.std.specs.Prelude.{◌≡◌, ◌++◌, ◌<◌, ◌+◌, [], ◌∷◌, List, ℕ, codes, false, map, Contains, IfOk, IfSome, IsTrue, OnOk};
+ghost use Rattle.certificate_text.specs.Out.{IsKept, IsTold};
 ghost use Rattle.certificate_text.specs.Paths.{path_text, steps_text};
 ghost use Rattle.certificate_text.specs.Told.{conflict_data, item_data, line_data, lines_data, named_data, path_data, paths_data, refutation_data};
 ghost use Rattle.serde_json.specs.View.{items_of};
@@ -11,7 +11,7 @@ ghost use Rattle.serde_json.specs.Data.{object, member, no_members};
 ghost use Rattle.serde_json.specs.Written.{comma_if, compact_text, items_text, outline};
 ghost use Rattle.std.specs.Fmt.{decimal};
 
-use std::alloc::AllocError;
+use std::alloc::{AllocError, Global};
 use sysmem_counts::Field;
 use sysmem_tree::Path;
 use verdict_claims::{Conflict, Item, Line, Lines, PathList};
@@ -105,79 +105,134 @@ fn push_lines(out: &mut Vec<u8>, kind: &str, lines: &Lines) -> Result<(), AllocE
     out.extend_from_slice(b"{\"")?;
     out.extend_from_slice(kind.as_bytes())?;
     out.extend_from_slice(b"\":[")?;
-    push_line_items(out, lines.as_slice())?;
+    push_line_items(out, lines)?;
     out.extend_from_slice(b"]}")?;
     Ok(())
 }
 
-/// Puts the lines of a list after bytes, with a comma between two. A line that has the paths of the
-/// one before it takes over their text, and one that has its field too takes over the whole.
-pub(crate) fn push_line_items(out: &mut Vec<u8>, lines: &[Line]) -> Result<(), AllocError>
+/// A line that was put, with its text and that of its paths.
+#[derive(Drop)]
+struct Told {
+    line: Line,
+    paths: Vec<u8>,
+    text: Vec<u8>,
+}
+
+impl Told {
+    /// Of this line.
+    fn of(alloc: Global, line: &Line) -> Result<Told, AllocError>
+        ensures told { IfOk result IsTold }
+        ensures line { IfOk result (λ told. told.line ≡ line.now) }
+    {
+        let mut paths = Vec::new(alloc);
+        push_paths(&mut paths, line.nodes())?;
+        let mut text = Vec::new(alloc);
+        push_line(&mut text, line.field(), paths.as_slice())?;
+        let line = line.again()?;
+        Ok(Told { line, paths, text })
+    }
+
+    /// Becomes that of the next line. What both have in common stays.
+    fn tell(&mut self, line: &Line) -> Result<(), AllocError>
+        requires { IsTold self.old }
+        ensures told { OnOk result (IsTold self.new) }
+        ensures line { OnOk result (self.new.line ≡ line.now) }
+    {
+        if !self.line.nodes().is_same(line.nodes()) {
+            self.paths.clear();
+            push_paths(&mut self.paths, line.nodes())?;
+        } else if self.line.field() == line.field() {
+            return Ok(());
+        }
+        self.text.clear();
+        push_line(&mut self.text, line.field(), self.paths.as_slice())?;
+        self.line = line.again()?;
+        Ok(())
+    }
+}
+
+/// Puts lines after bytes, with a comma between two. A line with few paths takes over what it has
+/// in common with the last such line, and one with many what it has in common with the last of
+/// those: a line that names one participant stands between lines that name all. Where a line is
+/// known to be the one before once more, nothing is compared.
+pub(crate) fn push_line_items(out: &mut Vec<u8>, lines: &Lines) -> Result<(), AllocError>
     ensures { OnOk result (out.new.items ++ codes "]"
         ≡ out.old.items ++ items_text false (items_of (map line_data lines.now))) }
 {
-    let Some((first, others)) = lines.split_first() else {
-        return Ok(());
-    };
-    let alloc = *out.allocator();
-    let mut paths = Vec::new(alloc);
-    let mut text = Vec::new(alloc);
-    tell(&mut paths, &mut text, first)?;
-    out.extend_from_slice(text.as_slice())?;
-    push_others(out, &mut paths, &mut text, first, others)
-}
-
-/// Puts further lines after bytes, each after a comma. The text is that of the line before them,
-/// and of its paths.
-fn push_others(
-    out: &mut Vec<u8>,
-    paths: &mut Vec<u8>,
-    text: &mut Vec<u8>,
-    first: &Line,
-    others: &[Line],
-) -> Result<(), AllocError>
-    requires { IsLineText paths.old.items text.old.items first.now }
-    ensures { OnOk result (out.new.items ++ codes "]"
-        ≡ out.old.items ++ items_text true (items_of (map line_data others.now))) }
-{
-    let mut last = first;
-    for line in others {
-        tell_next(paths, text, last, line)?;
-        out.push(b',')?;
-        out.extend_from_slice(text.as_slice())?;
-        last = line;
+    let again = lines.again();
+    let mut next = 0;
+    let mut few = None;
+    let mut many = None;
+    for (index, line) in lines.as_slice().iter().enumerate() {
+        push_comma(out, index > 0)?;
+        let is_again = is_next(again, next, index);
+        next += usize::from(is_again);
+        push_kept(out, &mut few, &mut many, line, is_again)?;
     }
     Ok(())
 }
 
-/// Makes the text of a line, and of its paths, that of the next. What both have in common stays.
-fn tell_next(
-    paths: &mut Vec<u8>,
-    text: &mut Vec<u8>,
-    last: &Line,
+/// Puts a line after bytes, which takes over from the last line with few paths that is kept, or
+/// from the last with many, and is then kept in its place.
+fn push_kept(
+    out: &mut Vec<u8>,
+    few: &mut Option<Told>,
+    many: &mut Option<Told>,
     line: &Line,
+    is_again: bool,
 ) -> Result<(), AllocError>
-    requires { IsLineText paths.old.items text.old.items last.now }
-    ensures { OnOk result (IsLineText paths.new.items text.new.items line.now) }
+    requires few { IfSome few.old IsTold }
+    requires many { IfSome many.old IsTold }
+    requires again { IsTrue is_again → IsKept few.old many.old line.now }
+    ensures few { OnOk result (IfSome few.new IsTold) }
+    ensures many { OnOk result (IfSome many.new IsTold) }
+    ensures kept { OnOk result (IsKept few.new many.new line.now) }
+    ensures text { OnOk result (out.new.items
+        ≡ out.old.items ++ compact_text (line_data line.now)) }
 {
-    if !last.nodes().is_same(line.nodes()) {
-        return tell(paths, text, line);
+    if line.nodes().is_small() {
+        push_told(out, few, line, is_again)
+    } else {
+        push_told(out, many, line, is_again)
     }
-    if last.field() == line.field() {
-        return Ok(());
-    }
-    text.clear();
-    push_line(text, line.field(), paths.as_slice())
 }
 
-/// Makes the texts those of a line and of its paths.
-fn tell(paths: &mut Vec<u8>, text: &mut Vec<u8>, line: &Line) -> Result<(), AllocError>
-    ensures { OnOk result (IsLineText paths.new.items text.new.items line.now) }
+/// Whether the place of a line is the one that comes next among those of lines that are the one
+/// before once more.
+fn is_next(again: &[u8], next: usize, index: usize) -> bool
+    ensures { IsTrue result → Contains again.now index }
 {
-    paths.clear();
-    push_paths(paths, line.nodes())?;
-    text.clear();
-    push_line(text, line.field(), paths.as_slice())
+    match again.get(next) {
+        Some(place) => usize::from(*place) == index,
+        None => false,
+    }
+}
+
+/// Puts a line after bytes. It takes over what it has in common with the line that is kept, and is
+/// then kept in its place; if it is that line once more, it takes over all.
+fn push_told(
+    out: &mut Vec<u8>,
+    kept: &mut Option<Told>,
+    line: &Line,
+    is_again: bool,
+) -> Result<(), AllocError>
+    requires told { IfSome kept.old IsTold }
+    requires again { IsTrue is_again → IfSome kept.old (λ told. told.line ≡ line.now) }
+    ensures told { OnOk result (IfSome kept.new IsTold) }
+    ensures line { OnOk result (IfSome kept.new (λ told. told.line ≡ line.now)) }
+    ensures text { OnOk result (out.new.items
+        ≡ out.old.items ++ compact_text (line_data line.now)) }
+{
+    if let Some(told) = kept {
+        if !is_again {
+            told.tell(line)?;
+        }
+        return out.extend_from_slice(told.text.as_slice());
+    }
+    let told = Told::of(*out.allocator(), line)?;
+    out.extend_from_slice(told.text.as_slice())?;
+    *kept = Some(told);
+    Ok(())
 }
 
 /// Puts a line after bytes, of whose paths this is the text: `{"field":"usage","nodes":["/0"]}`.

@@ -1,9 +1,9 @@
 -- What is known of the first of a row, where a row begins like another, and where more is read.
-use Rattle.std.proofs.Common.{◌≡◌, ◌<◌, ◌≤◌, ℕ, ◌+◌, ◌-◌, List, [], ◌∷◌, ◌++◌, length, Option, Some, None, take, drop, get_or, slice_get, slice_set, refl, sym, ◌∙◌, ap, subst, arith, below_more, length-append, length-take}
+use Rattle.std.proofs.Common.{◌≡◌, ◌<◌, ◌≤◌, ℕ, ◌+◌, ◌-◌, List, [], ◌∷◌, ◌++◌, length, Some, None, take, drop, get_or, slice_get, slice_set, sym, ◌∙◌, ap, subst, arith, below_more, length-append, length-take}
 use Rattle.std.specs.Prelude.{All, min}
 use Rattle.std.proofs.Math.Seq.{take-append_seam}
 use Rattle.std.proofs.lemmas.List.{take-take, take-append-drop, get_or-take}
-use Rattle.std.proofs.lemmas.List.Elements.{All-nil, filter_map-append}
+use Rattle.std.proofs.lemmas.List.Elements.{filter_map-append}
 use Rattle.std.proofs.lemmas.Option.{get_or_from_slice_get, same_Some, slice_get-get_or, slice_get_within}
 use Rattle.list_lemmas.proofs.CallerLemmas.{All-some, some_front, slice_get_some, slice_get-append_add, slice_get-append_left, slice_get-set_other, slice_get-set_same}
 use Rattle.sysmem_formats.specs.declared.offer.Offer.{Offer}

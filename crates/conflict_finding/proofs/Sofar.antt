@@ -83,6 +83,14 @@ last_pushed xs new x y is at =
     let there : slice_get (xs ++ x ∷ []) (length (xs ++ x ∷ []) - 1) ≡ Some y = subst (λ zs. slice_get zs (length zs - 1) ≡ Some y) is at in
     same_Some x y (sym (last_push xs x) ∙ subst (λ n. slice_get (xs ++ x ∷ []) n ≡ Some y) long there)
 
+-- with the last once more there is one more
+pub one_longer : {X : Type 0} (old new : List X) → zero < length old → ((last : X) → slice_get old (length old - 1) ≡ Some last → new ≡ old ++ last ∷ []) → length new ≡ length old + 1
+one_longer [] new some more = absurd (omega (arith, some))
+one_longer (x ∷ xs) new some more =
+    let inside : length (x ∷ xs) - 1 < length (x ∷ xs) = omega arith in
+    let last = get_or (x ∷ xs) (length (x ∷ xs) - 1) x in
+    ap length (more last (slice_get-get_or (x ∷ xs) (length (x ∷ xs) - 1) x inside)) ∙ length-append (x ∷ xs) (last ∷ [])
+
 -- past the last none are
 pub none_left : {X : Type 0} (xs : List X) (k : ℕ) → slice_get xs k ≡ None → drop k xs ≡ []
 none_left [] zero past = refl

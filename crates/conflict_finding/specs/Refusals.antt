@@ -1,5 +1,5 @@
 -- Lines for one after another of a platform's offers, or of its places.
-use Rattle.std.specs.Prelude.{◌≡◌, ◌≢◌, ◌⊎◌, ◌-◌, length, slice_get, Bool, true, false, List, ◌∷◌}
+use Rattle.std.specs.Prelude.{◌≡◌, ◌≢◌, ◌⊎◌, ◌-◌, length, slice_get, Bool, true, false, List, [], ◌∷◌}
 use Rattle.std.specs.Prelude.{◌++◌, Option, Some, All}
 use Rattle.std.specs.List.{AllZip}
 use Rattle.sysmem_formats.specs.declared.offer.Offer.{Offer}
@@ -65,3 +65,15 @@ GoOn R End xs lines left false = EndsAt R End xs lines
 abbrev pub RefusesLast : (Offer → LineFacts → Type 0) → Offer → List LineFacts → Type 0
 RefusesLast R o lines =
     o ≢ NoImage → (last : LineFacts) → slice_get lines (length lines - 1) ≡ Some last → R o last
+
+-- there is a last line, and it is such a one
+pub record HasLast (R : LineFacts → Type 0) (lines : List LineFacts) : Type 0 where
+  pub last : LineFacts
+  pub there : slice_get lines (length lines - 1) ≡ Some last
+  pub is : R last
+
+-- such a line was put behind the others
+pub record HasOneMore (R : LineFacts → Type 0) (old new : List LineFacts) : Type 0 where
+  pub line : LineFacts
+  pub added : new ≡ old ++ line ∷ []
+  pub is : R line

@@ -1,6 +1,6 @@
 //! Lines that refuse the offers of a platform, or its places, one after another.
 
-ghost use Rattle.std.specs.Prelude.{◌≡◌, ◌⊎◌, ◌+◌, true, List, ◌∷◌, All, Some, IfOk, IfSome, IfNone, IsTrue, filter, slice_get};
+ghost use Rattle.std.specs.Prelude.{◌≡◌, ◌<◌, ◌⊎◌, ◌+◌, true, false, List, ◌∷◌, All, Some, IfOk, IfSome, IfNone, IsTrue, filter, length, slice_get};
 ghost use Rattle.sysmem_counts.specs.declared.field.Field.TheVariants.{ColorSpaces, PixelFormat};
 ghost use Rattle.sysmem_formats.specs.declared.offer.Offer.{Offer as Offered};
 ghost use Rattle.sysmem_memory.specs.Domain.{has_domain};
@@ -15,7 +15,7 @@ ghost use Rattle.verdict_claims.specs.Members.{members_at, participants, StandFo
 ghost use Rattle.conflict_finding.specs.OffersAsked.{AreAskedOf, AreOffersAsked};
 ghost use Rattle.conflict_finding.specs.PlacesAsked.{AreAsked};
 ghost use Rattle.conflict_finding.specs.Reading.{TakesIn};
-ghost use Rattle.conflict_finding.specs.Refusals.{AreRefusals, AreSoFar, Ends, GoOn, RefusesLast, ShareOffer, SharePlace};
+ghost use Rattle.conflict_finding.specs.Refusals.{AreRefusals, AreSoFar, Ends, GoOn, HasLast, HasOneMore, RefusesLast, ShareOffer, SharePlace};
 ghost use Rattle.conflict_finding.specs.Whom.{NamesThose, names};
 ghost use Rattle.sysmem_sanitise.specs.Participant.{Participant};
 ghost use Rattle.sysmem_sanitise.specs.Platform.{offers_of};
@@ -72,36 +72,35 @@ fn whom_for(field: Field) -> Whom
     }
 }
 
-/// The line before, if it refuses this offer too and is the first that does: they are of one pair,
-/// and nobody refuses the colour space for which it would come first.
-fn line_again(
+/// Whether the line before refuses this offer too and is the first that does: they are of one pair,
+/// and nobody refuses the colour space for which another would come first.
+fn is_line_again(
     tree: &Tree,
     nodes: &[NodeId],
     earlier: &Offer,
     offer: &Offer,
     before: &[Line],
     asked: &mut OffersAsked,
-) -> Result<Option<Line>, AllocError>
+) -> Result<bool, AllocError>
     requires there { All (HasNode tree.now.nodes) nodes.now }
     requires asked { AreAskedOf tree.now.nodes nodes.now asked.old }
     ensures asked { AreAskedOf tree.now.nodes nodes.now asked.new }
     ensures line { (whole : _) (ms : List Member)
         → StandFor (members_at tree.now.nodes nodes.now) ms
         → RefusesLast (IsOfferLineGiven whole ms) earlier.now before.now
-        → IfOk result (λ line. IfSome line (IsOfferLineGiven whole ms offer.now)) }
+        → IfOk result (λ again. IsTrue again
+        → HasLast (IsOfferLineGiven whole ms offer.now) before.now) }
+    ensures some { IfOk result (λ again. IsTrue again → 0 < length before.now) }
 {
     let Some(last) = before.last() else {
-        return Ok(None);
+        return Ok(false);
     };
     let field = last.field();
     if !is_shared(field, earlier, offer) {
-        return Ok(None);
+        return Ok(false);
     }
-    if !is_before_colour(tree, nodes, field, before.len(), offer, asked)? {
-        return Ok(None);
-    }
-    let line = last.again()?;
-    Ok(Some(line))
+    let again = is_before_colour(tree, nodes, field, before.len(), offer, asked)?;
+    Ok(again)
 }
 
 /// Whether no line of the colour space comes before one with this field: it is that of the format,
@@ -168,39 +167,59 @@ fn offer_line(
     }
 }
 
-/// The same, where the last of the lines so far is that of an earlier offer: it is taken
-/// again where it is the offer's own.
-fn next_line(
+/// Puts the line for an offer behind the lines so far, of which the last is that of an earlier offer:
+/// it is put once more where it is the offer's own. False where the participants share the offer.
+fn push_offer(
     alloc: Global,
     tree: &Tree,
     nodes: &[NodeId],
     earlier: &Offer,
     offer: &Offer,
     whole: bool,
-    before: &[Line],
+    lines: &mut Lines,
     kept: &mut Option<Named>,
     asked: &mut OffersAsked,
     alone: &mut AloneLines,
-) -> Result<Option<Line>, AllocError>
+) -> Result<bool, AllocError>
     requires there { All (HasNode tree.now.nodes) nodes.now }
     requires named { IfSome kept.old (NamesThose tree.now.nodes nodes.now) }
     requires asked { AreAskedOf tree.now.nodes nodes.now asked.old }
     requires last { (ms : List Member) → StandFor (members_at tree.now.nodes nodes.now) ms
-        → RefusesLast (IsOfferLineGiven whole ms) earlier.now before.now }
+        → RefusesLast (IsOfferLineGiven whole ms) earlier.now lines.old }
     requires alone { AreAlone tree.now.nodes alone.old }
     ensures named { IfSome kept.new (NamesThose tree.now.nodes nodes.now) }
     ensures asked { AreAskedOf tree.now.nodes nodes.now asked.new }
     ensures alone { AreAlone tree.now.nodes alone.new }
-    ensures line { (ms : List Member) → StandFor (members_at tree.now.nodes nodes.now) ms
-        → IfOk result (λ line. IfSome line (IsOfferLineGiven whole ms offer.now)) }
+    ensures longer { IfOk result (λ more. IsTrue more
+        → length lines.new ≡ length lines.old + 1) }
+    ensures more { (ms : List Member) → StandFor (members_at tree.now.nodes nodes.now) ms
+        → IfOk result (λ more. IsTrue more
+        → HasOneMore (IsOfferLineGiven whole ms offer.now) lines.old lines.new) }
     ensures share { (ms : List Member) → StandFor (members_at tree.now.nodes nodes.now) ms
-        → IfOk result (λ line. IfNone line (ShareOffer whole ms offer.now)) }
+        → IfOk result (λ more. more ≡ false
+        → (lines.new ≡ lines.old) × ShareOffer whole ms offer.now) }
 {
-    let again = line_again(tree, nodes, earlier, offer, before, asked)?;
-    if again.is_some() {
-        return Ok(again);
+    let again = is_line_again(tree, nodes, earlier, offer, lines.as_slice(), asked)?;
+    if again {
+        lines.push_again()?;
+        return Ok(true);
     }
-    offer_line(alloc, tree, nodes, offer, whole, before, kept, asked, alone)
+    let Some(line) = offer_line(
+        alloc,
+        tree,
+        nodes,
+        offer,
+        whole,
+        lines.as_slice(),
+        kept,
+        asked,
+        alone,
+    )?
+    else {
+        return Ok(false);
+    };
+    lines.push(line)?;
+    Ok(true)
 }
 
 /// Lines that refuse each offer of the platform to the participants at these nodes, or each before
@@ -227,23 +246,21 @@ pub(crate) fn refused_offers(
 {
     let asking = those_asking(alloc, tree, nodes)?;
     asked.settle(tree, nodes, &asking)?;
-    let mut lines = Vec::new(alloc);
+    let mut lines = Lines::new(Vec::new(alloc));
     let mut earlier = Offer::NoImage;
     let mut kept = None;
-    while let Some(offer) = offer_at(platform.pairs(), platform.colours(), lines.len()) {
+    while let Some(offer) = offer_at(platform.pairs(), platform.colours(), lines.as_slice().len()) {
         if until == Some(offer) {
-            return Ok(Refusals::UpTo(Lines::new(lines)));
+            return Ok(Refusals::UpTo(lines));
         }
-        let Some(line) = next_line(
-            alloc, tree, nodes, &earlier, &offer, whole, &lines, &mut kept, asked, alone,
-        )?
-        else {
-            return Ok(Refusals::UpTo(Lines::new(lines)));
-        };
-        lines.push(line)?;
+        if !push_offer(
+            alloc, tree, nodes, &earlier, &offer, whole, &mut lines, &mut kept, asked, alone,
+        )? {
+            return Ok(Refusals::UpTo(lines));
+        }
         earlier = offer;
     }
-    Ok(Refusals::Whole(Lines::fitted(lines)?))
+    Ok(Refusals::Whole(lines.fitted()?))
 }
 
 /// The line of the first of the participants at these nodes to whom the place is refused, `None`
@@ -415,5 +432,5 @@ pub(crate) fn refused_places(
             return Ok(Refusals::UpTo(Lines::new(lines)));
         }
     }
-    Ok(Refusals::Whole(Lines::fitted(lines)?))
+    Ok(Refusals::Whole(Lines::new(lines).fitted()?))
 }

@@ -1,5 +1,5 @@
 -- What stands for participants stands for them in any order.
-use Rattle.std.proofs.Common.{ℕ, ◌≡◌, ◌≤◌, ◌<◌, ◌^◌, ◌&&◌, Bool, true, false, List, All, Any, refl, sym, ap, ◌∙◌}
+use Rattle.std.proofs.Common.{ℕ, ◌≡◌, ◌≤◌, ◌<◌, ◌^◌, ◌&&◌, Bool, true, false, List, All, Any, Option, Some, None, refl, sym, ap, ◌∙◌}
 use Rattle.std.proofs.lemmas.List.Sorted.{All-permutation, Contains-permutation, IsPermutation-map, IsPermutation-sym, list_any-IsPermutation, length_permutation}
 use Rattle.std.proofs.lemmas.List.Sums.{AllPass-from_list_all, list_all-from_AllPass}
 use Rattle.std.specs.Int.{◌∣◌}
@@ -20,7 +20,11 @@ use Rattle.sysmem_image.specs.Fields.{Bound, Keeps, rule_of, value, own_value}
 use Rattle.sysmem_image.specs.Lines.{MeetsIn}
 use Rattle.sysmem_image.specs.Merged.{IsMergeOf, MergedOf}
 use Rattle.sysmem_memory.specs.declared.domain.CoherencyDomains.{CoherencyDomains}
+use Rattle.sysmem_memory.specs.declared.domain.CoherencyDomain.{CoherencyDomain}
+use Rattle.sysmem_memory.specs.declared.place.Place.{Place}
 use Rattle.sysmem_memory.specs.Domain.{has_domain}
+use Rattle.sysmem_memory.specs.Heap.{HeapFacts}
+use Rattle.sysmem_memory.specs.PlaceTable.{AllowsPlace, PlaceDemand}
 use Rattle.sysmem_memory.specs.Place as places
 use Rattle.offer_fits.proofs.CallerLemmas.{asked_all, asked_each}
 use Rattle.sysmem_merge.specs.declared.kept.KeptBounds.{KeptBounds}
@@ -32,7 +36,9 @@ use Rattle.sysmem_merge.specs.Demands.{OfferDemand, counts_asked, place_demand, 
 use Rattle.sysmem_merge.specs.Laws.{StandsInAnyOrder}
 use Rattle.sysmem_merge.specs.Offers.{has_format, has_colour, Asks, bounds_asked, names_format, names_modifier, names_colour}
 use Rattle.sysmem_merge.specs.Pairs.{in_colour, IsPairKept}
-use Rattle.sysmem_merge.specs.Sum.{SumsInAnyOrder}
+use Rattle.sysmem_merge.specs.Sum.{IsPlaced, SumsInAnyOrder}
+use Rattle.list_lemmas.proofs.CallerLemmas.{some_in_order}
+use Rattle.sysmem_merge.proofs.Summing.{has_for_some}
 use Rattle.negotiation_inputs.specs.Participant.{Participant}
 use Rattle.negotiation_inputs.specs.Platform.{PlatformFacts}
 
@@ -143,6 +149,20 @@ places_in_order kept platform ps qs order is = record {
       ∙ ap (λ b. has_domain h.domains d && b) (all_in_order _ (place_demands ps) (place_demands qs) (IsPermutation-map place_demand ps qs order));
 }
 
+-- what they refuse is refused
+refused_in_order : (h : HeapFacts) (d : CoherencyDomain) (ps qs : List Participant) → IsPermutation ps qs → places.IsRefused h d (place_demands ps) → places.IsRefused h d (place_demands qs)
+refused_in_order h d ps qs order (f, line) = (f, any_in_order _ (place_demands ps) (place_demands qs) (IsPermutation-map place_demand ps qs order) line)
+
+-- so their first place is the first, and where they have none there is none
+place_in_order : (platform : PlatformFacts) (ps qs : List Participant) → IsPermutation ps qs → (found : Option Place) → IsPlaced platform ps found → IsPlaced platform qs found
+place_in_order platform ps qs order (Some place) first = record {
+  info = first.info;
+  place = first.place;
+  allowed = All-permutation (λ (d : PlaceDemand). AllowsPlace d.memory d.usage first.info place.coherency) (place_demands ps) (place_demands qs) (IsPermutation-map place_demand ps qs order) first.allowed;
+  earlier = λ q h there before. refused_in_order h q.coherency ps qs order (first.earlier q h there before);
+}
+place_in_order platform ps qs order None none = λ q h there. refused_in_order h q.coherency ps qs order (none q h there)
+
 -- what stands for participants stands for them in any order
 pub stands_in_order : StandsInAnyOrder
 stands_in_order kept platform ps qs order stands =
@@ -171,10 +191,14 @@ sums_in_order sum platform ps qs order sums =
     let offered = IsPermutation-map offer_demand ps qs order in record {
       counts = counts_in_order sum.counts ps qs order sums.counts;
       places = places_in_order sum.places platform ps qs order sums.places;
+      place = place_in_order platform ps qs order sum.place sums.place;
       no_image = kept_in_order NoImage (offer_demands ps) (offer_demands qs) sum.no_image offered sums.no_image;
       pairs = record {
-        many = sums.pairs.many;
-        each = λ k pair one here got. pair_in_order pair (offer_demands ps) (offer_demands qs) one offered (sums.pairs.each k pair one here got);
+        these = λ has. let kept = sums.pairs.these (has_for_some platform ps qs (some_in_order ps qs order) has) in record {
+          many = kept.many;
+          each = λ k pair one here got. pair_in_order pair (offer_demands ps) (offer_demands qs) one offered (kept.each k pair one here got);
+        };
+        some = sums.pairs.some;
       };
       sizes = sizes_in_order (offer_demands ps) (offer_demands qs) sum.least_size sum.greatest_size offered sums.sizes;
       many = sums.many ∙ sym (length_permutation ps qs order);

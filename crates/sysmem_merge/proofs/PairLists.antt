@@ -2,7 +2,7 @@
 use Rattle.std.proofs.Common.{arith, ℕ, ◌+◌, ◌≡◌, ◌<◌, ◌≤◌, List, [], ◌∷◌, ◌++◌, Some, length, slice_get, slice_set, sym, ◌∙◌, subst, below_more, length-append}
 use Rattle.std.proofs.lemmas.List.{length-set}
 use Rattle.std.proofs.lemmas.Option.{slice_get_within, same_Some}
-use Rattle.list_lemmas.proofs.CallerLemmas.{slice_get_some, slice_get-append_left, slice_get-append_add, slice_get-set_same, slice_get-set_other}
+use Rattle.list_lemmas.proofs.CallerLemmas.{slice_get-append_left, slice_get-append_add, slice_get-set_same, slice_get-set_other}
 use Rattle.sysmem_formats.specs.declared.offer.Pair.{Pair}
 use Rattle.sysmem_merge.specs.declared.pair.KeptPair.{KeptPair}
 use Rattle.sysmem_merge.specs.Demands.{OfferDemand}

@@ -89,3 +89,9 @@ pub record ArePairsKept (pairs : List Pair) (ds : List OfferDemand)
   pub many : length kept ≡ length pairs
   pub each : (k : ℕ) (pair : Pair) (one : KeptPair) → slice_get pairs k ≡ Some pair
       → slice_get kept k ≡ Some one → IsPairKept pair ds one
+
+-- it is kept for these participants where C holds, else perhaps for others
+pub record ArePairsKeptWhere (C : Type 0) (pairs : List Pair) (ds : List OfferDemand)
+    (kept : List KeptPair) : Type 0 where
+  pub these : C → ArePairsKept pairs ds kept
+  pub some : (others : List OfferDemand) × ArePairsKept pairs others kept

@@ -1,9 +1,9 @@
 //! What is kept of each pair of a platform.
 
-ghost use Rattle.std.specs.Prelude.{◌≡◌, List, [], ◌∷◌, ◌++◌, IfOk, Some, slice_get};
+ghost use Rattle.std.specs.Prelude.{◌≡◌, List, [], ◌∷◌, ◌++◌, IfOk, IsTrue, Some, slice_get};
 ghost use Rattle.sysmem_formats.specs.declared.offer.Pair.{Pair as APair};
 ghost use Rattle.sysmem_merge.specs.Demands.{OfferDemand};
-ghost use Rattle.sysmem_merge.specs.Pairs.{ArePairsKept, IsPairKept};
+ghost use Rattle.sysmem_merge.specs.Pairs.{ArePairsKept, ArePairsKeptWhere, IsPairKept};
 
 use crate::pair::KeptPair;
 use std::alloc::{AllocError, Global};
@@ -53,5 +53,22 @@ pub(crate) fn join_pairs(kept: &mut [KeptPair], above: &[KeptPair], more: &[Kept
     }
     for (index, one) in kept.iter_mut().enumerate() {
         one.join_of(&above[index], &more[index]);
+    }
+}
+
+/// The same where this is wished; else what is kept stays that of others.
+pub(crate) fn join_pairs_where(
+    wished: bool,
+    kept: &mut [KeptPair],
+    above: &[KeptPair],
+    more: &[KeptPair],
+)
+    ensures { (pairs : List APair) (others ds es : List OfferDemand)
+        → ArePairsKept pairs others kept.old
+        → (IsTrue wished → ArePairsKept pairs ds above.now × ArePairsKept pairs es more.now)
+        → ArePairsKeptWhere (IsTrue wished) pairs (ds ++ es) kept.new }
+{
+    if wished {
+        join_pairs(kept, above, more);
     }
 }

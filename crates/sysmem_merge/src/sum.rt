@@ -1,17 +1,20 @@
 //! What participants ask for together, apart from their platform: what a search
 //! keeps of each prefix of choices.
 
-ghost use Rattle.std.specs.Prelude.{◌≡◌, ◌+◌, ◌<◌, ◌≤◌, ◌++◌, List, [], ◌∷◌, IfOk, IfErr, OnOk};
+ghost use Rattle.std.specs.Prelude.{◌≡◌, ◌+◌, ◌<◌, ◌≤◌, ◌↔◌, ◌++◌, List, [], ◌∷◌, IfOk, IfErr, IsTrue, OnOk};
+ghost use Rattle.sysmem_counts.specs.Bounds.{IsTallyOf};
 ghost use Rattle.sysmem_merge.specs.Best.{IsBest, IsUnmet};
+ghost use Rattle.sysmem_merge.specs.Demands.{counts_asked};
 ghost use Rattle.sysmem_merge.specs.Reasons.{IsFirstReason};
 ghost use Rattle.sysmem_merge.specs.Share.{IsShareOf};
-ghost use Rattle.sysmem_merge.specs.Sum.{SumsUp, IsMet};
+ghost use Rattle.sysmem_merge.specs.Sum.{HasCountAndPlace, IsPlaced, SumsUp, IsMet};
 ghost use Rattle.negotiation_inputs.specs.Participant.{Participant};
+ghost use Rattle.negotiation_inputs.specs.Platform.{PlatformFacts};
 
 use crate::kept::KeptOffer;
 use crate::pair::KeptPair;
 use crate::pair_walk::first_shared;
-use crate::pairs::{add_to_pairs, join_pairs, kept_pairs};
+use crate::pairs::{add_to_pairs, join_pairs_where, kept_pairs};
 use crate::reason::Reason;
 use crate::settings::Settings;
 use crate::share::Share;
@@ -21,7 +24,7 @@ use std::marker::Model;
 use sysmem_counts::CountBounds;
 use sysmem_formats::Offer;
 use sysmem_image::FirstMatches;
-use sysmem_memory::MemoryBounds;
+use sysmem_memory::{MemoryBounds, Place};
 
 /// How many participants are added at most, each with counts of 33 bits together.
 pub const MOST_ADDED: u64 = 1024;
@@ -32,6 +35,8 @@ pub const MOST_ADDED: u64 = 1024;
 pub struct Sum {
     counts: CountBounds,
     memory: MemoryBounds,
+    /// The first place that is left, found when the memory was last changed.
+    place: Option<Place>,
     no_image: KeptOffer,
     pairs: Vec<KeptPair>,
     least_size: u64,
@@ -50,6 +55,7 @@ impl Model for Sum {
     ghost view = { λ s. record {
       counts = s.counts;
       places = s.memory;
+      place = s.place;
       no_image = s.no_image;
       pairs = s.pairs.items;
       least_size = s.least_size;
@@ -66,9 +72,11 @@ impl Sum {
         ensures { IfOk result (λ made. SumsUp made platform.now []) }
     {
         let pairs = kept_pairs(alloc, platform.pairs())?;
+        let memory = MemoryBounds::new(platform.heaps());
         Ok(Sum {
             counts: CountBounds::new(),
-            memory: MemoryBounds::new(platform.heaps()),
+            memory,
+            place: memory.first_place(platform.heaps()),
             no_image: KeptOffer::new(&Offer::NoImage),
             pairs,
             least_size: 0,
@@ -87,6 +95,7 @@ impl Sum {
         let memory = asked.memory();
         self.counts.add(asked.counts());
         self.memory.add(platform.heaps(), memory, asked.usage());
+        self.place = self.memory.first_place(platform.heaps());
         let mut matches = FirstMatches::none();
         matches.read(asked.entries());
         self.no_image.add(&Offer::NoImage, &matches);
@@ -98,7 +107,8 @@ impl Sum {
 
     /// Becomes the sum of the participants above, then those of a share, whatever it
     /// was the sum of. All three were made for this platform, and the participants are
-    /// at most 1,024. It takes no memory.
+    /// at most 1,024. Where no number of buffers or no place suits them, nothing asks for
+    /// their pairs, which aren't joined then. It takes no memory.
     pub fn join_of(&mut self, platform: &Platform, above: &Sum, share: &Share)
         requires { above.now.added + share.now.sum.added ≤ MOST_ADDED }
         ensures sums { (others ps qs : List Participant) → SumsUp self.old platform.now others
@@ -111,8 +121,10 @@ impl Sum {
         self.counts.join(&more.counts);
         self.memory = above.memory;
         self.memory.join(platform.heaps(), &more.memory);
+        self.place = self.memory.first_place(platform.heaps());
         self.no_image.join_of(&above.no_image, &more.no_image);
-        join_pairs(&mut self.pairs, &above.pairs, &more.pairs);
+        let left = has_count_and_place(&self.counts, self.place);
+        join_pairs_where(left, &mut self.pairs, &above.pairs, &more.pairs);
         self.least_size = above.least_size.max(more.least_size);
         self.greatest_size = above.greatest_size.min(more.greatest_size);
         self.added = above.added + more.added;
@@ -133,7 +145,7 @@ impl Sum {
             Ok(count) => count,
             Err(field) => return Err(Reason::Count(field)),
         };
-        let Some(place) = self.memory.first_place(platform.heaps()) else {
+        let Some(place) = self.place else {
             return Err(Reason::NoPlace);
         };
         let (least, greatest) = (self.least_size, self.greatest_size);
@@ -172,5 +184,18 @@ impl Sum {
             Ok(_) => Ok(()),
             Err(reason) => Err(reason),
         }
+    }
+}
+
+/// Whether some number of buffers and some place suit the participants of whom these counts are
+/// kept, and whose first place this is.
+fn has_count_and_place(counts: &CountBounds, place: Option<Place>) -> bool
+    ensures { (platform : PlatformFacts) (ps : List Participant)
+        → IsTallyOf counts.now (counts_asked ps)
+        → IsPlaced platform ps place → IsTrue result ↔ HasCountAndPlace platform ps }
+{
+    match counts.least_count() {
+        Ok(_) => place.is_some(),
+        Err(_) => false,
     }
 }

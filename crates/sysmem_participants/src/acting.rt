@@ -6,7 +6,8 @@ ghost use Rattle.once_cell.specs.Once.{cell_name};
 ghost use Rattle.sysmem_participants.specs.Held.{Answers, Disputes, HasActed, HasOwn, IsInBook, MayEnter, RefusesInBook, acted, child_of, state_of};
 ghost use Rattle.sysmem_alloc.specs.Book.{IsBook};
 ghost use Rattle.sysmem_room.specs.Agreeing.{IsOwn};
-ghost use Rattle.sysmem_room.specs.Entering.{HasEntered};
+ghost use Rattle.sysmem_room.specs.Entering.{HasEntered, IsRefused};
+ghost use Rattle.sysmem_room.specs.Limits.{is_spent};
 ghost use Rattle.sysmem_room.specs.Log.{begun_by, next_path, shown_by};
 ghost use Rattle.sysmem_room.specs.Refusals.{IsAnswer, IsDisputed, due};
 ghost use Rattle.sysmem_tree.specs.ActionKind.{attaches_token, binds, creates_child, creates_group, deed_of, duplicates, ends_node, has_all_children, kind_of, sets};
@@ -69,6 +70,12 @@ pub(crate) fn enter<L: Ledger, G: Gate + Drop + Sync, R: Threads + Wait + Sync>(
         → IsAnswer (due (option_map (λ o. o.now) known.entry) log.old.path
         (shown_by log.old).state (kind_of (deed_of action)))
         (option_map (λ o. o.now) known.entry) (kind_of (deed_of action)) refusal) }
+    ensures told { IfErr result.0 (λ refusal. refusal ≢ Refusal.Strange
+        → due (option_map (λ o. o.now) known.entry) log.old.path (shown_by log.old).state
+        (kind_of (deed_of action)) ≡ None → IsRefused rules.now.limits result.1.found log.old
+        (option_map (λ o. o.now) known.entry) (deed_of action) refusal) }
+    ensures within { OnOk result.0 (is_spent rules.now.limits result.1.found.state.tree.nodes
+        log.old.path (kind_of (deed_of action)) ≡ false) }
     ensures path { log.new.path ≡ log.old.path }
     ensures begun { log.new.begun ≡ log.old.begun }
     ensures logged { OnOk result.0 (log.new.deeds ≡ log.old.deeds ++ deed_of action ∷ []) }
@@ -76,7 +83,8 @@ pub(crate) fn enter<L: Ledger, G: Gate + Drop + Sync, R: Threads + Wait + Sync>(
     ensures kind { IfOk result.0 (λ entered. entered.kind ≡ kind_of (deed_of action)) }
 {
     let ends = action.kind().ends_node();
-    let (done, hold) = in_hold(rt, shared, log, known, action, copy, fresh);
+    let limits = rules.limits;
+    let (done, hold) = in_hold(rt, shared, log, known, action, copy, fresh, limits);
     let (entered, turn) = match done {
         Ok(done) => done,
         Err(refusal) => return (Err(refusal), hold),

@@ -13,7 +13,7 @@ use std::alloc::{AllocError, Global};
 use std::marker::Model;
 use std::sync::ledger::{Blank, Ledger};
 use std::sync::{Arc, Condvar, Mutex};
-use sysmem_room::Room;
+use sysmem_room::{Limits, Room};
 use sysmem_sanitise::Platform;
 use sysmem_search::Gate;
 use sysmem_tree::Refusal;
@@ -75,17 +75,33 @@ impl<G: Gate + Drop + Sync> Allocator<G> {
     pub fn new(alloc: Global, platform: Platform, gate: G) -> Result<Allocator<G>, AllocError>
         ensures { IfOk result (λ allocator. allocator ≡ platform) }
     {
+        let limits = Limits { offspring: None };
+        Allocator::with_limits(alloc, platform, gate, limits)
+    }
+
+    /// The same, but for strangers: no handle but the root's makes more nodes than these limits
+    /// allow, with all that others make of what it made. One more is refused with `TooManyNodes`,
+    /// where nothing else refuses it.
+    pub fn with_limits(
+        alloc: Global,
+        platform: Platform,
+        gate: G,
+        limits: Limits,
+    ) -> Result<Allocator<G>, AllocError>
+        ensures { IfOk result (λ allocator. allocator ≡ platform) }
+    {
         let rules = Rules {
             alloc,
             platform,
             gate,
             workers: None,
+            limits,
         };
         let rules = Arc::new(alloc, rules)?;
         Ok(Allocator { rules })
     }
 
-    /// The same, but so many workers, 1 to 64, share each search.
+    /// The same as `new`, but so many workers, 1 to 64, share each search.
     pub fn with_workers(
         alloc: Global,
         platform: Platform,
@@ -101,6 +117,7 @@ impl<G: Gate + Drop + Sync> Allocator<G> {
             platform,
             gate,
             workers: Some(workers),
+            limits: Limits { offspring: None },
         };
         let rules = Arc::new(alloc, rules)?;
         Ok(Allocator { rules })

@@ -3,7 +3,8 @@
 ghost use Rattle.std.specs.Prelude.{◌≡◌, ◌≢◌, ◌≤◌, ◌+◌, ◌++◌, ℕ, [], ◌∷◌, None, false, is_some, length, option_map, IfErr, IfOk, OnErr, OnOk};
 ghost use Rattle.sysmem_alloc.specs.Book.{IsBook};
 ghost use Rattle.sysmem_room.specs.Agreeing.{IsOwn};
-ghost use Rattle.sysmem_room.specs.Entering.{HasEntered, IsRefusedByBook};
+ghost use Rattle.sysmem_room.specs.Entering.{HasEntered, IsRefused};
+ghost use Rattle.sysmem_room.specs.Limits.{is_spent};
 ghost use Rattle.sysmem_room.specs.Log.{shown_by};
 ghost use Rattle.sysmem_room.specs.Refusals.{IsAnswer, IsDisputed, due};
 ghost use Rattle.sysmem_tree.specs.ActionKind.{deed_of, ends_node, kind_of};
@@ -12,7 +13,7 @@ ghost use Rattle.sysmem_tree.specs.Table.{makes_root};
 use crate::shared::Shared;
 use std::sync::Wait;
 use std::sync::ledger::Ledger;
-use sysmem_room::{Entered, FreshCell, Log, Outcome, Seen, Turn};
+use sysmem_room::{Entered, FreshCell, Limits, Log, Outcome, Seen, Turn};
 use sysmem_tree::{Action, Refusal};
 
 /// The book as an action found it in a hold, and as it left it; for clauses alone: it takes no
@@ -35,6 +36,7 @@ pub(crate) fn in_hold<L: Ledger, R: Wait>(
     action: Action,
     copy: Action,
     fresh: Option<FreshCell>,
+    limits: Limits,
 ) -> (Result<(Entered<L>, Option<Turn<L>>), Refusal>, Hold<L>)
     requires same { deed_of copy ≡ deed_of action }
     requires room { ends_node (kind_of (deed_of action)) ≡ false
@@ -52,8 +54,10 @@ pub(crate) fn in_hold<L: Ledger, R: Wait>(
         (option_map (λ o. o.now) known.entry) (kind_of (deed_of action)) node) }
     ensures told { IfErr result.0 (λ refusal. refusal ≢ Refusal.Strange
         → due (option_map (λ o. o.now) known.entry) log.old.path (shown_by log.old).state
-        (kind_of (deed_of action)) ≡ None → IsRefusedByBook result.1.found log.old
+        (kind_of (deed_of action)) ≡ None → IsRefused limits result.1.found log.old
         (option_map (λ o. o.now) known.entry) (deed_of action) refusal) }
+    ensures within { OnOk result.0 (is_spent limits result.1.found.state.tree.nodes log.old.path
+        (kind_of (deed_of action)) ≡ false) }
     ensures path { log.new.path ≡ log.old.path }
     ensures begun { log.new.begun ≡ log.old.begun }
     ensures logged { OnOk result.0 (log.new.deeds ≡ log.old.deeds ++ deed_of action ∷ []) }
@@ -69,7 +73,7 @@ pub(crate) fn in_hold<L: Ledger, R: Wait>(
     let mut room = shared.room.lock(rt);
     room.book().recall_legal();
     let found = room.seen();
-    match room.act(log, known, action, copy, fresh) {
+    match room.act(log, known, action, copy, fresh, limits) {
         Ok(done) => {
             let left = room.seen();
             (Ok(done), Hold { found, left })

@@ -7,7 +7,7 @@ ghost use Rattle.sysmem_search.specs.declared.wide.TheConstants.{MOST_WORKERS};
 use std::alloc::Global;
 use std::sync::ledger::Ledger;
 use std::sync::{Condvar, Mutex};
-use sysmem_room::Room;
+use sysmem_room::{Limits, Room};
 use sysmem_sanitise::Platform;
 use sysmem_search::Gate;
 
@@ -30,13 +30,14 @@ impl<L: Ledger> Drop for Shared<L> {
     }
 }
 
-/// What an allocator decides for, and who is told of its searches.
+/// What an allocator decides for, what it allows, and who is told of its searches.
 pub(crate) struct Rules<G: Gate + Drop> {
     pub(crate) alloc: Global,
     pub(crate) platform: Platform,
     pub(crate) gate: G,
     /// How many workers a search gets; `None` where that goes by how long it may take.
     pub(crate) workers: Option<u32>,
+    pub(crate) limits: Limits,
     ghost few: { ForSome workers (λ many. (1 ≤ many) × (many ≤ MOST_WORKERS)) },
 }
 
@@ -47,6 +48,7 @@ impl<G: Gate + Drop> Drop for Rules<G> {
             platform: _,
             gate: _,
             workers: _,
+            limits: _,
         } = self;
     }
 }

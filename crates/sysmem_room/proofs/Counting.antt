@@ -42,7 +42,7 @@ left_many : (ms : List ℕ) (r i : ℕ) (ns : List NodeFacts) → length (left_o
 left_many ms r i [] = refl
 left_many ms r i (n ∷ ns) = ap suc (left_many ms r (i + 1) ns)
 
-decided_many : (t : TreeFacts) (r : ℕ) (choices : Option (List ℕ)) → length (decided t r choices).nodes ≡ length t.nodes
+pub decided_many : (t : TreeFacts) (r : ℕ) (choices : Option (List ℕ)) → length (decided t r choices).nodes ≡ length t.nodes
 decided_many t r None = refl
 decided_many t r (Some cs) = left_many (members_of t.nodes r cs) r 0 t.nodes
 

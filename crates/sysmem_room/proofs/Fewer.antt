@@ -28,7 +28,7 @@ few_under p (x ∷ xs) = by (ordinal_under p x.birth) refl (few_under p xs) wher
 unborn : (p : ℕ) (o : Option Birth) → o ≡ None → ordinal_under p o ≡ None
 unborn p o is = rw is refl
 
-few_children : (nodes : List NodeFacts) → IsTree nodes → (i : ℕ) (n : NodeFacts) → slice_get nodes i ≡ Some n → n.state.children < length nodes
+pub few_children : (nodes : List NodeFacts) → IsTree nodes → (i : ℕ) (n : NodeFacts) → slice_get nodes i ≡ Some n → n.state.children < length nodes
 few_children [] tree i n here = absurd (cc)
 few_children (r ∷ rest) tree i n here =
     let skip : ordinals i (r ∷ rest) ≡ ordinals i rest = skipped i r rest (unborn i r.birth tree.root.0) in

@@ -5,7 +5,8 @@
 //! ```
 //! let opened = Room::<L>::open(alloc, blank, platform)?;
 //! let (mut room, mut log) = (opened.room, opened.log);
-//! let (_done, turn) = room.act(&mut log, known, Action::Release, Action::Release, None)?;
+//! let limits = Limits { offspring: None };
+//! let (_done, turn) = room.act(&mut log, known, Action::Release, Action::Release, None, limits)?;
 //! // whoever got a turn, until `frozen` finds no domain that waits
 //! match room.frozen(turn) {
 //!     Some((frozen, turn)) => {
@@ -20,16 +21,20 @@
 mod account;
 mod agreeing;
 mod cell;
+pub mod laws;
+mod limits;
 mod log;
 mod outcome;
 mod places;
 mod refusing;
 mod room;
 mod seen;
+mod tree_refusing;
 mod verdicts;
 
 pub use agreeing::has_actions;
 pub use cell::FreshCell;
+pub use limits::Limits;
 pub use log::{Entered, FreshLog, Log, SpentLog};
 pub use outcome::{Outcome, Ruling};
 pub use refusing::{due, is_member};

@@ -51,8 +51,8 @@ fn known_refusal(known: Option<&Outcome>, path: &[u32], kind: ActionKind) -> Opt
     outcome_refusal(outcome, path)
 }
 
-/// By what the log makes of its node.
-fn log_refusal(state: NodeState, kind: ActionKind) -> Option<Refusal>
+/// By the state of a node, as a log makes it or a tree has it.
+pub(crate) fn log_refusal(state: NodeState, kind: ActionKind) -> Option<Refusal>
     ensures { result ≡ log_refusal state kind }
 {
     if !state.allows(kind) {

@@ -9,23 +9,27 @@ ghost use Rattle.sysmem_alloc.specs.State.{next_ready};
 ghost use Rattle.sysmem_proof.specs.Claim.{IsTrueClaim};
 ghost use Rattle.sysmem_room.specs.Agreeing.{IsAsKnown, IsOwn, book_log};
 ghost use Rattle.sysmem_room.specs.Counting.{actions_in, all_parts, nodes_by};
-ghost use Rattle.sysmem_room.specs.Entering.{HasEntered, IsRefusedByBook};
+ghost use Rattle.sysmem_room.specs.Entering.{HasEntered, IsRefused};
 ghost use Rattle.sysmem_room.specs.Lacking.{without_memory};
+ghost use Rattle.sysmem_room.specs.Limits.{is_spent};
 ghost use Rattle.sysmem_room.specs.Log.{begun_as, shown_by};
 ghost use Rattle.sysmem_room.specs.Refusals.{IsAnswer, IsDisputed, due};
 ghost use Rattle.sysmem_tree.specs.ActionKind.{deed_of, ends_node, kind_of};
 ghost use Rattle.sysmem_tree.specs.Nodes.{HasNode};
+ghost use Rattle.sysmem_tree.specs.Path.{node_at};
 ghost use Rattle.sysmem_tree.specs.Table.{makes_root};
 ghost use Rattle.sysmem_tree.specs.Tree.{applied};
 
 use crate::account::Account;
 use crate::agreeing::{has_actions, has_placed};
 use crate::cell::{DomainCell, FreshCell, keep, publish_action, publish_decision};
+use crate::limits::{Limits, Offspring};
 use crate::log::{Entered, Log};
 use crate::outcome::{Outcome, Ruling};
 use crate::places::Places;
 use crate::refusing::{due, unforeseen};
 use crate::seen::Seen;
+use crate::tree_refusing::tree_refusal;
 use crate::verdicts::has_verdict;
 use once_cell::race::OnceBox;
 use smallvec::SmallVec;
@@ -38,6 +42,7 @@ use sysmem_alloc::laws::{few_entries, legal_agrees};
 use sysmem_alloc::{Book, Frozen};
 use sysmem_proof::Claim;
 use sysmem_sanitise::Platform;
+use sysmem_tree::laws::one_path;
 use sysmem_tree::{Action, ActionKind, DomainId, Event, MOST_NODES, NodeId, NodeKind, Refusal};
 
 /// A collection's book, the count of its actions, and the cells of its domains. Whoever has the
@@ -46,6 +51,7 @@ pub struct Room<L: Ledger> {
     book: Book,
     /// Where in the book's history the actions on each node are.
     places: Box<Places>,
+    offspring: Offspring,
     counted: Counted<L>,
     /// One part that stays here, and one for each node that can still be made.
     spare: Share<L>,
@@ -60,6 +66,7 @@ impl<L: Ledger> Drop for Room<L> {
         let Room {
             book: _,
             places: _,
+            offspring: _,
             counted: _,
             spare: _,
             cells: _,
@@ -73,6 +80,7 @@ impl<L: Ledger> Model for Room<L> {
     ghost use Rattle.std.specs.Vec.{vec_capacity, vec_len};
     ghost use Rattle.sysmem_alloc.specs.Book.{BookFacts};
     ghost use Rattle.sysmem_room.specs.Counting.{actions_in, all_parts};
+    ghost use Rattle.sysmem_room.specs.Limits.{AreCounted};
     ghost use Rattle.sysmem_room.specs.Places.{ArePlaces};
     ghost use Rattle.sysmem_tree.specs.declared.tree.TheConstants.{MOST_NODES};
 
@@ -86,7 +94,8 @@ impl<L: Ledger> Model for Room<L> {
         × (L.parts ≡ all_parts)
         × (vec_len r.cells ≡ length r.book.state.tree.domains)
         × (MOST_NODES ≤ vec_capacity r.cells)
-        × ArePlaces r.book.history r.places.value };
+        × ArePlaces r.book.history r.places.value
+        × AreCounted r.book.state.tree.nodes r.offspring.counts };
 }
 
 /// A new collection.
@@ -142,6 +151,7 @@ impl<L: Ledger> Room<L> {
         let room = Room {
             book,
             places,
+            offspring: Offspring::new(),
             counted,
             spare,
             cells,
@@ -165,17 +175,19 @@ impl<L: Ledger> Room<L> {
         Seen::of(&self.book)
     }
 
-    /// Enters an action, counts it in the share of who acts, and publishes the failures that it
-    /// brings: the node that was made, or else the node acted on, and the share of the node that
-    /// was made, without parts where none was. Or answers the tree's first refusal, and then
-    /// nothing has changed. Where the node is the root of a domain, the domain gets the fresh cell.
-    /// It takes no memory.
+    /// Enters an action on the node at this path, counts it in the share of who acts, and publishes
+    /// the failures that it brings: the node that was made, or else the node acted on, and the share
+    /// of the node that was made, without parts where none was. Or answers the tree's first refusal,
+    /// and then nothing has changed. Where the node is the root of a domain, the domain gets the
+    /// fresh cell. It takes no memory.
     pub(crate) fn enter(
         &mut self,
         event: Event,
+        path: &[u32],
         fresh: Option<FreshCell>,
         mine: &mut Share<L>,
     ) -> Result<(NodeId, Share<L>), Refusal>
+        requires path { node_at self.old.state.tree.nodes path.now ≡ Some event.node }
         requires mine { 0 < mine.old.parts }
         requires fresh { is_some fresh ≡ makes_root (kind_of (deed_of event.action)) }
         ensures entered { OnOk result (self.new
@@ -194,6 +206,8 @@ impl<L: Ledger> Room<L> {
         ensures empty { IfOk result (λ done. done.1.amount ≡ 0) }
     {
         few_entries();
+        one_path();
+        self.book.tree().recall_sound();
         let acted = event.node;
         let kind = event.action.kind();
         let parts = parts_of(kind);
@@ -203,6 +217,7 @@ impl<L: Ledger> Room<L> {
         tree.node_count();
         tree.domain_count();
         self.places.add(tree.number_of(acted), entries, kind);
+        self.offspring.add(path, kind);
         self.counted.add(mine, 1);
         let share = self.spare.split_off(parts, 0);
         keep(&mut self.cells, fresh);
@@ -267,14 +282,28 @@ impl<L: Ledger> Room<L> {
         )
     }
 
+    /// Whether an action of this kind on the node at this path would make one more below a child of
+    /// the root than the limits allow.
+    fn is_spent(&self, limits: Limits, path: &[u32], kind: ActionKind) -> bool
+        requires { is_some (node_at self.now.state.tree.nodes path.now) ≡ true }
+        ensures { result ≡ is_spent limits self.now.state.tree.nodes path.now kind }
+    {
+        self.book.tree().recall_sound();
+        let (Some(most), Some(top)) = (limits.offspring, path.first()) else {
+            return false;
+        };
+        kind.makes().is_some() && self.offspring.below(*top) >= most
+    }
+
     /// Enters the action of a handle, by its log and what it knows of its domain's verdict, in the
     /// book and in the log; `copy` is the same action, for the log. It is refused with `Strange`
     /// where the book has no node at the log's path that was made as the log says, other actions
     /// there than the log, or another verdict than the one that is known; else with what is due by
     /// what the handle knows; else with what the book refuses it for, which the handle can't
     /// foresee, or, unless it ends the node, with `Strange` where the handle's verdict has its node
-    /// as a member, and the book left it out. Then nothing has changed. Beside what was entered
-    /// stands the turn to take the decisions, if a domain waits for one and nobody takes them.
+    /// as a member, and the book left it out; else with `TooManyNodes` where the limits are spent.
+    /// Then nothing has changed. Beside what was entered stands the turn to take the decisions, if a
+    /// domain waits for one and nobody takes them.
     pub fn act(
         &mut self,
         log: &mut Log<L>,
@@ -282,6 +311,7 @@ impl<L: Ledger> Room<L> {
         action: Action,
         copy: Action,
         fresh: Option<FreshCell>,
+        limits: Limits,
     ) -> Result<(Entered<L>, Option<Turn<L>>), Refusal>
         requires same { deed_of copy ≡ deed_of action }
         requires room { ends_node (kind_of (deed_of action)) ≡ false
@@ -311,8 +341,10 @@ impl<L: Ledger> Room<L> {
             (option_map (λ o. o.now) known.entry) (kind_of (deed_of action)) refusal) }
         ensures told { IfErr result (λ refusal. refusal ≢ Refusal.Strange
             → due (option_map (λ o. o.now) known.entry) log.old.path (shown_by log.old).state
-            (kind_of (deed_of action)) ≡ None → IsRefusedByBook self.old log.old
+            (kind_of (deed_of action)) ≡ None → IsRefused limits self.old log.old
             (option_map (λ o. o.now) known.entry) (deed_of action) refusal) }
+        ensures within { OnOk result (is_spent limits self.old.state.tree.nodes log.old.path
+            (kind_of (deed_of action)) ≡ false) }
         ensures before { IfOk result (λ done. done.0.before ≡ log.old) }
         ensures kind { IfOk result (λ done. done.0.kind ≡ kind_of (deed_of action)) }
         ensures turn { IfOk result (λ done. is_some done.1 ≡ true
@@ -328,8 +360,14 @@ impl<L: Ledger> Room<L> {
         self.book.tree().recall_sound();
         self.book.recall_legal();
         legal_agrees();
+        if self.is_spent(limits, log.account.path(), kind)
+            && tree_refusal(self.book.tree(), node, &action).is_none()
+        {
+            return Err(Refusal::TooManyNodes);
+        }
         let before = Snapshot::of(&log.account);
-        match self.enter(Event { node, action }, fresh, &mut log.share) {
+        let path = log.account.path();
+        match self.enter(Event { node, action }, path, fresh, &mut log.share) {
             Ok((_node, share)) => {
                 log.account.push(copy);
                 let entered = Entered {

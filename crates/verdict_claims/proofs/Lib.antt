@@ -31,3 +31,4 @@ pub mod FailsOrCovers
 pub mod Refutable
 pub mod Certifying
 pub mod Provable
+pub mod LinesAgain

@@ -1,6 +1,7 @@
 //! Lines of the conflict table: a field, and for whom it fails.
 
-ghost use Rattle.std.specs.Prelude.{◌≡◌, IfOk};
+ghost use Rattle.std.specs.Prelude.{◌≡◌, ◌-◌, ◌++◌, [], ◌∷◌, length, slice_get, All, Some, IfOk, IsOk, OnErr, OnOk};
+ghost use Rattle.verdict_claims.specs.Line.{IsAgain, LineFacts};
 
 use crate::path_list::PathList;
 use std::alloc::{AllocError, Global};
@@ -102,21 +103,26 @@ impl Line {
 #[derive(Debug)]
 pub struct Lines {
     lines: Vec<Line>,
+    /// The places of lines that are the one before once more, as far as they were put so: a reader
+    /// of all lines compares no paths there.
+    again: Vec<u8>,
 }
 
 impl Drop for Lines {
     fn drop(self) {
-        let Lines { lines: _ } = self;
+        let Lines { lines: _, again: _ } = self;
     }
 }
 
 impl Model for Lines {
-    ghost use Rattle.std.specs.Prelude.{List};
-    ghost use Rattle.verdict_claims.specs.Line.{LineFacts};
+    ghost use Rattle.std.specs.Prelude.{All, List};
+    ghost use Rattle.verdict_claims.specs.Line.{IsAgain, LineFacts};
 
     ghost Value = { List LineFacts };
 
     ghost view = { λ l. l.lines.items };
+
+    ghost invariant = { λ l. All (IsAgain l.lines.items) l.again.items };
 }
 
 impl Lines {
@@ -124,18 +130,54 @@ impl Lines {
     pub fn new(lines: Vec<Line>) -> Lines
         ensures { result ≡ lines.items }
     {
-        Lines { lines }
+        let again = Vec::new(*lines.allocator());
+        Lines { lines, again }
     }
 
-    /// These lines, without room that isn't used. `AllocError` where the smaller room is refused.
-    pub fn fitted(mut lines: Vec<Line>) -> Result<Lines, AllocError>
-        ensures { IfOk result (λ fitted. fitted ≡ lines.items) }
+    /// The same lines, without room that isn't used. `AllocError` where the smaller room is refused.
+    pub fn fitted(self) -> Result<Lines, AllocError>
+        ensures { IfOk result (λ fitted. fitted ≡ self) }
     {
+        let Lines {
+            mut lines,
+            mut again,
+        } = self;
         lines.shrink_to_fit();
-        if lines.len() < lines.capacity() {
+        again.shrink_to_fit();
+        if lines.len() < lines.capacity() || again.len() < again.capacity() {
             return Err(AllocError);
         }
-        Ok(Lines { lines })
+        Ok(Lines { lines, again })
+    }
+
+    /// Puts a line behind them. `AllocError` where memory is refused: then they stay as they were.
+    pub fn push(&mut self, line: Line) -> Result<(), AllocError>
+        ensures more { OnOk result (self.new ≡ self.old ++ line ∷ []) }
+        ensures refused { OnErr result (self.new ≡ self.old) }
+    {
+        self.lines.push(line)?;
+        Ok(())
+    }
+
+    /// Puts the last line behind them once more, if there is one. `AllocError` where memory is
+    /// refused: then they stay as they were.
+    pub fn push_again(&mut self) -> Result<(), AllocError>
+        ensures more { (last : LineFacts) → slice_get self.old (length self.old - 1) ≡ Some last
+            → OnOk result (self.new ≡ self.old ++ last ∷ []) }
+        ensures none { self.old ≡ [] → (self.new ≡ []) × IsOk result }
+        ensures refused { OnErr result (self.new ≡ self.old) }
+    {
+        let Some(last) = self.lines.last() else {
+            return Ok(());
+        };
+        let line = last.again()?;
+        self.again.reserve(1)?;
+        let at = self.lines.len();
+        self.lines.push(line)?;
+        if at <= usize::from(u8::MAX) {
+            self.again.push_reserved(at as u8);
+        }
+        Ok(())
     }
 
     /// The lines, that for the first place or offer first.
@@ -143,5 +185,13 @@ impl Lines {
         ensures { result.now ≡ self.now }
     {
         &self.lines
+    }
+
+    /// The places of some lines that are the one before once more. They ascend, of which nothing is
+    /// promised.
+    pub fn again(&self) -> &[u8]
+        ensures { All (IsAgain self.now) result.now }
+    {
+        &self.again
     }
 }

@@ -1,6 +1,7 @@
 //! Lists of paths, as lines have them.
 
-ghost use Rattle.std.specs.Prelude.{◌≡◌, ◌++◌, [], ◌∷◌, IfOk, IsTrue};
+ghost use Rattle.std.specs.Prelude.{◌≡◌, ◌++◌, [], ◌∷◌, length, nat_le, IfOk, IsTrue};
+ghost use Rattle.verdict_claims.specs.PathList.{numbers_of};
 
 use smallvec::SmallVec;
 use std::alloc::{AllocError, Global};
@@ -77,6 +78,14 @@ impl PathList {
             return Err(AllocError);
         }
         Ok(PathList { numbers })
+    }
+
+    /// Whether the list takes no memory beside itself: how many steps its paths have, and how many
+    /// paths there are, are at most 4 together.
+    pub fn is_small(&self) -> bool
+        ensures { result ≡ nat_le (length (numbers_of self.now)) 4 }
+    {
+        self.numbers.len() <= 4
     }
 
     /// Whether these are the paths of the other list, in its order.

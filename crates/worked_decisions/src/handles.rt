@@ -3,4 +3,5 @@
 
 mod gates;
 mod handling;
+mod limiting;
 mod slots;

@@ -14,12 +14,12 @@ use Rattle.conflict_finding.proofs.refusals.refused_offers.Given as goal
 abbrev pub invariant-loop-offer : goal.invariant-loop-offer
 invariant-loop-offer l = record {
   so_far : (ms : List Member) → StandFor (members_at l.tree.nodes l.nodes) ms
-      → AreSoFar (IsOfferLineGiven l.whole ms) (offers_of l.platform) l.lines.items (drop (length l.lines.items) (offers_of l.platform));
+      → AreSoFar (IsOfferLineGiven l.whole ms) (offers_of l.platform) l.lines (drop (length l.lines) (offers_of l.platform));
   alone : AreAlone l.tree.nodes l.alone;
   named : IfSome l.kept (NamesThose l.tree.nodes l.nodes);
   asked : AreAskedOf l.tree.nodes l.nodes l.asked;
-  last : (ms : List Member) → StandFor (members_at l.tree.nodes l.nodes) ms → RefusesLast (IsOfferLineGiven l.whole ms) l.earlier l.lines.items;
+  last : (ms : List Member) → StandFor (members_at l.tree.nodes l.nodes) ms → RefusesLast (IsOfferLineGiven l.whole ms) l.earlier l.lines;
 }
 
 abbrev pub decreases-loop-offer : goal.decreases-loop-offer
-decreases-loop-offer l = length (offers_of l.platform) - length l.lines.items
+decreases-loop-offer l = length (offers_of l.platform) - length l.lines

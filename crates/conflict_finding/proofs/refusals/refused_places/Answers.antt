@@ -1,5 +1,5 @@
 -- One heap more.
-use Rattle.std.proofs.Common.{length, sym, ap, subst, drop, ◌+◌, arith}
+use Rattle.std.proofs.Common.{length, sym, ap, subst, drop, ◌+◌, ◌∙◌, arith}
 use Rattle.std.specs.List.{AllZip}
 use Rattle.sysmem_memory.specs.Listed.{HeapPlace, places_of}
 use Rattle.verdict_claims.specs.FirstConflict.{IsPlaceLineGiven}
@@ -39,7 +39,7 @@ loop-index-preserved c = record {
 
 pub returns-clause-lines : goal.returns-clause-lines
 returns-clause-lines c = λ ms stand.
-    subst (AllZip (IsPlaceLineGiven ms) (places_of c.args.platform.now.heaps)) (sym c.in_ok-fitted.ensures)
+    subst (AllZip (IsPlaceLineGiven ms) (places_of c.args.platform.now.heaps)) (sym (c.in_ok-fitted.ensures ∙ c.new-2.ensures))
     (all_done (IsPlaceLineGiven ms) (places_of c.args.platform.now.heaps) c.loop-index.lines.items
     (subst (AreSoFar (IsPlaceLineGiven ms) (places_of c.args.platform.now.heaps) c.loop-index.lines.items)
     (no_heap c.args.platform.now.heaps c.loop-index.index (omega (arith, c.loop-index-test.false, ap length c.heaps-heap-items.ensures.heaps))) (c.loop-index.invariant.places ms stand)))

@@ -1,4 +1,4 @@
-use Rattle.std.proofs.Common.{◌++◌, sym}
+use Rattle.std.proofs.Common.{◌++◌}
 use Rattle.list_lemmas.proofs.CallerLemmas.{and_parts}
 use Rattle.sysmem_formats.specs.declared.offer.Offer.TheVariants.{Image}
 use Rattle.sysmem_merge.specs.Aggregate.{AreKeptBounds}
