@@ -18,10 +18,7 @@ use Rattle.sysmem_tree.specs.Shape.{Labels, before, by_number, forest_of, kid_of
 use Rattle.sysmem_tree.specs.declared.node.Birth.{Birth}
 use Rattle.sysmem_tree.specs.declared.state.NodeKind.{NodeKind}
 use Rattle.sysmem_tree.specs.declared.state.NodeKind.TheVariants as kinds
-use Rattle.sysmem_tree.proofs.Apart.{tree_labels}
-use Rattle.sysmem_tree.proofs.Kids.{under_parent}
-use Rattle.sysmem_tree.proofs.Once.{Once, labels_once, members_stand_once}
-use Rattle.sysmem_tree.proofs.Places.{there}
+use Rattle.sysmem_tree.proofs.CallerLemmas.{Once, labels_once, members_stand_once, there, tree_labels, under_parent}
 use Rattle.verdict_claims.specs.Asked.{asked_in, asks_at}
 use Rattle.live_script.specs.Refusing.{asking_in, asks_in, is_group_of}
 use Rattle.live_script.proofs.Refusing.{firsts, kept_from, numbers_from}

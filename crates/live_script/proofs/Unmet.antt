@@ -16,8 +16,7 @@ use Rattle.sysmem_alloc.specs.History.{IsLegal, replay}
 use Rattle.sysmem_alloc.specs.Laws.{LegalIsSound, NumbersStay}
 use Rattle.sysmem_alloc.specs.State.{State, base_of}
 use Rattle.sysmem_merge.specs.Best.{IsUnmet}
-use Rattle.sysmem_proof.proofs.Meeting.{meets_in_order}
-use Rattle.sysmem_proof.proofs.Shown.{asked_of_settled}
+use Rattle.sysmem_proof.proofs.CallerLemmas.{asked_of_settled, meets_in_order}
 use Rattle.sysmem_sanitise.specs.Participant.{Participant}
 use Rattle.sysmem_sanitise.specs.Platform.{PlatformFacts}
 use Rattle.sysmem_tree.specs.Domain.{HasDomain, TreeFacts, host_number}
@@ -28,7 +27,7 @@ use Rattle.sysmem_tree.specs.Nodes.{IsTree}
 use Rattle.sysmem_tree.specs.Path.{path_of}
 use Rattle.sysmem_tree.specs.Shape.{by_path, shape_of}
 use Rattle.sysmem_tree.specs.declared.node.Birth.{Birth}
-use Rattle.sysmem_tree.proofs.Places.{there}
+use Rattle.sysmem_tree.proofs.CallerLemmas.{there}
 use Rattle.verdict_claims.specs.Asked.{asked_in}
 use Rattle.verdict_claims.specs.Base.{BaseFacts, IsGivenBase, terms_of}
 use Rattle.verdict_claims.specs.Members.{participants}

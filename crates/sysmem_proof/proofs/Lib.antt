@@ -15,3 +15,4 @@ pub mod Choosing
 pub mod LineByLine
 pub mod Shown
 pub mod Claiming
+pub mod CallerLemmas

@@ -1,11 +1,14 @@
 -- What callers need of histories, of decisions, of prefixes and of forests.
 pub use Rattle.sysmem_tree.proofs.Accepted.{accepted, IsAccepted}
+pub use Rattle.sysmem_tree.proofs.Apart.{tree_labels}
 pub use Rattle.sysmem_tree.proofs.MadeReady.{was_ready}
 pub use Rattle.sysmem_tree.proofs.Different.{few_different}
 pub use Rattle.sysmem_tree.proofs.Few.{few_numbers, forest_here}
-pub use Rattle.sysmem_tree.proofs.Kids.{is_under}
+pub use Rattle.sysmem_tree.proofs.Kids.{is_under, under_parent}
 pub use Rattle.sysmem_tree.proofs.Layouts.{size_tree}
 pub use Rattle.sysmem_tree.proofs.Numbers.{numbers, front}
+pub use Rattle.sysmem_tree.proofs.Once.{Once, labels_once, members_stand_once}
+pub use Rattle.sysmem_tree.proofs.Places.{there}
 pub use Rattle.sysmem_tree.proofs.Staying.{numbers_stay}
 pub use Rattle.sysmem_tree.proofs.Steps.{led_kid, node_within}
 pub use Rattle.sysmem_tree.proofs.Readiness.{decision_acted, decision_by, home_root}
