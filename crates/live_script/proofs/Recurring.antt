@@ -6,8 +6,7 @@ use Rattle.live_book.specs.Snapshot.{IsSettled, SnapshotFacts}
 use Rattle.live_script.specs.Recurring.{AllAccepted, AreClaimed, ComesTo, Recurs}
 use Rattle.live_script.specs.Script.{AreCallsOf}
 use Rattle.live_script.proofs.Named.{IsNamed, acted_named, decided_named, first_named, is_made, named_node}
-use Rattle.live_script.proofs.OneDecision.{has_verdict, one_decision}
-use Rattle.live_script.proofs.Replying.{answer_for, is_answer, or_right, unstarved_before}
+use Rattle.script_replay.proofs.CallerLemmas.{answer_for, has_verdict, is_answer, one_decision, or_right, unstarved_before}
 use Rattle.node_names.specs.Names.{NamedNode}
 use Rattle.script_reading.specs.Script.{CallFacts}
 use Rattle.script_replay.specs.Answer.{Replies, accepts}

@@ -34,8 +34,7 @@ use Rattle.script_check.specs.declared.checked_file.CheckAnswer.TheVariants as a
 use Rattle.script_replay.specs.declared.decider.Objection.{Objection}
 use Rattle.script_replay.specs.declared.reply.Reply.{Reply}
 use Rattle.script_check.proofs.AnswerLemmas.{one_value}
-use Rattle.script_replay.proofs.CallerLemmas.{replies_platform}
-use Rattle.script_check.proofs.Unique.{answer_for, is_answer, unstarved_before}
+use Rattle.script_replay.proofs.CallerLemmas.{answer_for, is_answer, replies_platform, unstarved_before}
 
 -- where the calls and the objects end: all are there, an one is left, or the next one fails
 data Ends (platform : PlatformFacts) (rest : List CallFacts) (left : List Data) (t : RunState) : CheckAnswer → Type 0 where

@@ -8,14 +8,13 @@ use Rattle.verdict_claims.specs.declared.certificate.Claim.{Claim}
 use Rattle.script_reading.specs.Script.{CallFacts, ScriptFacts}
 use Rattle.script_reading.specs.Text.{IsJson, longest, not_json, spelled, too_long, Outcome}
 use Rattle.script_reading.specs.declared.fault.ScriptFault.{ScriptFault}
-use Rattle.script_replay.proofs.CallerLemmas.{none_mapped}
+use Rattle.script_replay.proofs.CallerLemmas.{none_mapped, or_right, unstarved_before}
 use Rattle.script_replay.specs.Outcome.{ReportFacts, ValueRunsTo, refused, reported}
 use Rattle.script_replay.specs.Report.{Certified, Goes, IsReported, calls, decides, stays, with_decision}
 use Rattle.script_replay.specs.State.{RunState}
 use Rattle.script_run.specs.Certificate.{CertifiedFacts, IsCertifiedBy}
 use Rattle.script_check.specs.CheckedFile.{IsScriptOf}
 use Rattle.script_check.specs.Headline.{HasClaim}
-use Rattle.script_check.proofs.Unique.{or_right, unstarved_before}
 
 -- where memory is not refused, each decision has a claim
 pub each_claimed : (number : ℕ) (s t : RunState) (rs : List CallFacts) (a : List ℕ) (cs : List Certified) → Goes number s rs a cs t → t.starved ≡ false → AllByRecursion HasClaim cs

@@ -4,6 +4,8 @@ pub mod Corners
 pub mod Failures
 pub mod Following
 pub mod Growing
+pub mod OneDecision
+pub mod OneReply
 pub mod Reaching
 pub mod Replying
 pub mod Results
