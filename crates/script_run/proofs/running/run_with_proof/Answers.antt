@@ -14,5 +14,5 @@ returns-in_err-certified-clause-ran g c =
 pub returns-in_err-write_both-clause-ran : goal.returns-in_err-write_both-clause-ran
 returns-in_err-write_both-clause-ran g c =
     let failed = err_from_is_err_and c.from_residual-in_err-write_both.result c.from_residual-in_err-write_both.ensures.1 in
-    let fronts = rw (c.as_bytes-text.ensures.value, c.deref.ensures.value) at c.in_err-write_both.ensures.fronts in
+    let fronts = rw c.as_bytes.ensures.value at c.in_err-write_both.ensures.fronts in
     both-part _ _ _ _ _ _ c.in_ok-bytes.bytes.items (certified_seen c.in_ok-certified.certified) c.in_ok-bytes.ensures.bytes c.in_ok-certified.ensures _ (cc (failed.1, failed.2)) fronts
