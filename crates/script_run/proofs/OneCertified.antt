@@ -14,13 +14,14 @@ use Rattle.certificate_pieces.proofs.CallerLemmas.{list_told}
 use Rattle.script_run.specs.Certificate.{AreProved, IsProved, certificate_of, texts_of}
 use Rattle.script_replay.specs.Report.{Certified}
 
--- the text of one decision more, however it was lent
-pub text_push : (platform p : PlatformFacts) (cs : List Certified) (path given : List ℕ) (claim : Option Claim) → p ≡ platform → given ≡ path
-    → texts_of platform cs ++ compact_text (decision_data p given claim) ∷ [] ≡ texts_of platform (cs ++ (path, claim) ∷ [])
-text_push platform p cs path given claim a b =
+-- the texts of decisions with one more, however it was lent
+pub text_push : (platform p : PlatformFacts) (cs : List Certified) (path given : List ℕ) (claim : Option Claim) (old new : List (List ℕ)) → p ≡ platform → given ≡ path → old ≡ texts_of platform cs
+    → new ≡ old ++ compact_text (decision_data p given claim) ∷ [] → new ≡ texts_of platform (cs ++ (path, claim) ∷ [])
+text_push platform p cs path given claim old new a b taken more =
     let one : Certified = (path, claim) in
     let same : decision_data p given claim ≡ decision_data platform path claim = ap (λ (q : PlatformFacts). decision_data q given claim) a ∙ ap (λ (g : List ℕ). decision_data platform g claim) b in
-    ap (λ (x : Data). texts_of platform cs ++ compact_text x ∷ []) same ∙ sym (map-append (λ (c : Certified). compact_text (decision_data platform c.0 c.1)) cs (one ∷ []))
+    more ∙ ap (λ (ts : List (List ℕ)). ts ++ compact_text (decision_data p given claim) ∷ []) taken ∙ ap (λ (x : Data). texts_of platform cs ++ compact_text x ∷ []) same
+    ∙ sym (map-append (λ (c : Certified). compact_text (decision_data platform c.0 c.1)) cs (one ∷ []))
 
 -- the texts of decisions make up their certificate
 pub certificate_said : (platform : PlatformFacts) (cs : List Certified) → pieces_text (texts_of platform cs) ≡ certificate_of platform cs
