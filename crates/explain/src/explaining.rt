@@ -3,6 +3,7 @@
 ghost use Rattle.std.specs.Prelude.{IfOk, IfSome};
 ghost use Rattle.std.specs.String.{string_bytes};
 ghost use Rattle.explain.specs.Lines.{IsToldBy, item_texts};
+ghost use Rattle.explain.specs.Wanted.{AreThere};
 
 use crate::corrected::{meant_in, tell_corrected};
 use crate::domains::tell_domains;
@@ -64,8 +65,9 @@ pub fn explain(
     bytes: &[u8],
     wanted: Outputs,
 ) -> Result<Explained, AllocError>
-    ensures { IfOk result (λ told. IfSome told.objects
+    ensures objects { IfOk result (λ told. IfSome told.objects
         (λ text. IsToldBy (item_texts told.items.items) (string_bytes text))) }
+    ensures wanted { IfOk result (AreThere wanted) }
 {
     match parse_script(alloc, bytes) {
         Ok(value) => explain_value(alloc, file, bytes, &value, wanted),
@@ -95,8 +97,9 @@ fn refusal(
     items: Items,
     wanted: Outputs,
 ) -> Result<Explained, AllocError>
-    ensures { IfOk result (λ told. IfSome told.objects
+    ensures objects { IfOk result (λ told. IfSome told.objects
         (λ text. IsToldBy (item_texts told.items.items) (string_bytes text))) }
+    ensures wanted { IfOk result (AreThere wanted) }
 {
     let scene = Scene {
         document,
@@ -114,8 +117,9 @@ fn printed(
     items: Vec<Item>,
     wanted: Outputs,
 ) -> Result<Explained, AllocError>
-    ensures { IfOk result (λ told. IfSome told.objects
+    ensures objects { IfOk result (λ told. IfSome told.objects
         (λ text. IsToldBy (item_texts told.items.items) (string_bytes text))) }
+    ensures wanted { IfOk result (AreThere wanted) }
 {
     let text = if wanted.text {
         Some(text_of(alloc, &items)?)
@@ -149,8 +153,9 @@ fn explain_value(
     value: &Value,
     wanted: Outputs,
 ) -> Result<Explained, AllocError>
-    ensures { IfOk result (λ told. IfSome told.objects
+    ensures objects { IfOk result (λ told. IfSome told.objects
         (λ text. IsToldBy (item_texts told.items.items) (string_bytes text))) }
+    ensures wanted { IfOk result (AreThere wanted) }
 {
     let document = Document {
         file,
@@ -217,10 +222,11 @@ fn explain_script<'a>(
     script: &Script<'a>,
     wanted: Outputs,
 ) -> Result<Explained, AllocError>
-    ensures { IfOk result (λ told. IfSome told.objects
+    ensures objects { IfOk result (λ told. IfSome told.objects
         (λ text. IsToldBy (item_texts told.items.items) (string_bytes text))) }
+    ensures wanted { IfOk result (AreThere wanted) }
 {
-    let effort = Effort::new();
+    let effort = Effort::new(alloc, &script.platform, &script.calls)?;
     let setting = Setting {
         platform: &script.platform,
         calls: &script.calls,
@@ -235,6 +241,7 @@ fn explain_script<'a>(
     let played = Some(Played {
         story: &story,
         platform: &script.platform,
+        calls: &script.calls,
     });
     let scene = Scene { document, played };
     printed(alloc, scene, outcome_of(&story), items, wanted)
@@ -263,7 +270,21 @@ fn tell_story(
     tell_repeats(items, document)?;
     tell_calls(items, document, story)?;
     tell_moved(items, setting, document.value, story)?;
-    tell_domains(items, document, setting, story)
+    tell_domains(items, document, setting, story)?;
+    tell_untold(items, setting.effort);
+    Ok(())
+}
+
+/// Tells that not all was tried, where that would take long.
+fn tell_untold(items: &mut Items, effort: &Effort) {
+    if effort.is_spent() {
+        items.title("note: what isn't told");
+        items.say_text(
+            1,
+            "note",
+            "more changes, and more that would be decided otherwise: to try more would take long",
+        );
+    }
 }
 
 /// Tells which calls were refused, and what comes once the texts in them are corrected that nearly
