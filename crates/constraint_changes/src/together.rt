@@ -17,7 +17,7 @@ use crate::walk::{Run, Walk};
 use constraint_edits::{Amount, Edit, Halving, changes, is_absurd};
 use domain_reasons::choices_in;
 use explanation_text::{Gathered, Items, Text, Words};
-use script_story::Deed;
+use script_story::Milestone;
 use serde_json::Value;
 use std::alloc::{AllocError, Global};
 use value_sources::Asked;
@@ -40,12 +40,12 @@ pub fn tell_together(
     group: Group<'_, '_>,
     edits: &[Edit],
 ) -> Result<(), AllocError> {
-    if group.setting.effort.is_spent() {
+    if group.scenario.effort.is_spent() {
         return Ok(());
     }
     let before = items.len();
     tell_all(items, group, edits)?;
-    if items.len() == before && group.setting.effort.is_spent() {
+    if items.len() == before && group.scenario.effort.is_spent() {
         items.say_text(1, "change", "to try several together would take long");
     }
     Ok(())
@@ -140,7 +140,7 @@ impl Joint<'_, '_> {
 
     fn add_parts(&self, parts: &mut Vec<Part>, edit: Edit) -> Result<(), AllocError> {
         let alloc = *parts.allocator();
-        let heaps = self.group.setting.platform.heaps();
+        let heaps = self.group.scenario.platform.heaps();
         for (person, one) in self.group.people.iter().enumerate() {
             let Some(value) = one.stated else {
                 continue;
@@ -225,7 +225,7 @@ impl Joint<'_, '_> {
     /// The next run of a list of so many parts; `None` where each was tried, or nothing more is to be
     /// tried.
     fn next_run(&self, walk: &Walk, many: usize) -> Option<Run> {
-        if self.group.setting.effort.is_spent() {
+        if self.group.scenario.effort.is_spent() {
             return None;
         }
         walk.next(many)
@@ -300,7 +300,7 @@ impl Joint<'_, '_> {
         for (person, one) in self.group.people.iter().enumerate() {
             let mut place = None;
             if one.stated.is_some() && has_own(others, person) {
-                if self.group.setting.effort.is_spent() {
+                if self.group.scenario.effort.is_spent() {
                     return Ok(None);
                 }
                 place = self.place_after(shelf, alloc, person, one, parts)?;
@@ -328,7 +328,7 @@ impl Joint<'_, '_> {
             return Ok(Some(place));
         }
         self.add_changes(one, own.len());
-        let heaps = self.group.setting.platform.heaps();
+        let heaps = self.group.scenario.platform.heaps();
         match asked_with(alloc, one, &own, heaps)? {
             Some(asked) => Ok(Some(shelf.keep(person, own, asked)?)),
             None => Ok(None),
@@ -337,10 +337,13 @@ impl Joint<'_, '_> {
 
     /// Adds that the constraints of a participant are changed so often.
     fn add_changes(&self, one: &Asked<'_>, times: usize) {
-        let number = self.group.story.deed(one.node, Deed::SetConstraints);
+        let number = self
+            .group
+            .story
+            .milestone(one.node, Milestone::SetConstraints);
         if let Some(number) = number {
             let place = number.saturating_sub(1);
-            self.group.setting.effort.change(place, times);
+            self.group.scenario.effort.change(place, times);
         }
     }
 
@@ -388,7 +391,7 @@ impl Joint<'_, '_> {
             let Some(amount) = halving.next() else {
                 break;
             };
-            if self.group.setting.effort.is_spent() {
+            if self.group.scenario.effort.is_spent() {
                 break;
             }
             set_amount(parts, index, Some(amount));
@@ -436,11 +439,11 @@ impl Joint<'_, '_> {
     /// What the domain becomes by some changes, if it is chosen then with a row that may be meant.
     fn outcome(&self, alloc: Global, parts: &[Part]) -> Result<Option<String>, AllocError>
         ensures { IfOk result (λ said. IfSome said (λ what. IsPromisedSo
-            self.now.group.setting.now.platform.now
-            (map call_seen self.now.group.setting.now.calls.now)
+            self.now.group.scenario.now.platform.now
+            (map call_seen self.now.group.scenario.now.calls.now)
             self.now.group.path.now (string_bytes what))) }
     {
-        if self.leave_none_after(alloc, parts)? || self.group.setting.effort.is_spent() {
+        if self.leave_none_after(alloc, parts)? || self.group.scenario.effort.is_spent() {
             return Ok(None);
         }
         let stated = self.stated(alloc, parts)?;
@@ -450,12 +453,12 @@ impl Joint<'_, '_> {
     /// The same where participants state this.
     fn outcome_of(&self, alloc: Global, stated: &[Stated]) -> Result<Option<String>, AllocError>
         ensures { IfOk result (λ said. IfSome said (λ what. IsPromisedSo
-            self.now.group.setting.now.platform.now
-            (map call_seen self.now.group.setting.now.calls.now)
+            self.now.group.scenario.now.platform.now
+            (map call_seen self.now.group.scenario.now.calls.now)
             self.now.group.path.now (string_bytes what))) }
     {
-        let calls = restated(alloc, self.group.setting.calls, stated)?;
-        match chosen_with(alloc, self.group.setting, &calls, self.group.path)? {
+        let calls = restated(alloc, self.group.scenario.calls, stated)?;
+        match chosen_with(alloc, self.group.scenario, &calls, self.group.path)? {
             Some(line) if !is_absurd(&line, false) => Ok(Some(line)),
             _ => Ok(None),
         }
@@ -494,14 +497,17 @@ impl Joint<'_, '_> {
         let Some(one) = self.group.people.get(person) else {
             return Ok(());
         };
-        let number = self.group.story.deed(one.node, Deed::SetConstraints);
+        let number = self
+            .group
+            .story
+            .milestone(one.node, Milestone::SetConstraints);
         let (Some(number), Some(value)) = (number, one.stated) else {
             return Ok(());
         };
         let place = number.saturating_sub(1);
-        let setting = self.group.setting;
-        setting.effort.change(place, 1);
-        let heaps = setting.platform.heaps();
+        let scenario = self.group.scenario;
+        scenario.effort.change(place, 1);
+        let heaps = scenario.platform.heaps();
         let value = after(stated.alloc(), value, person, parts, heaps)?;
         stated.add(Stated { place, value });
         Ok(())
@@ -550,7 +556,7 @@ impl Joint<'_, '_> {
         let Some(value) = one.stated else {
             return Ok(());
         };
-        let heaps = self.group.setting.platform.heaps();
+        let heaps = self.group.scenario.platform.heaps();
         let now = after(alloc, value, part.person, earlier, heaps)?;
         let Some(change) = part.changed(alloc, &now, heaps)? else {
             return Ok(());

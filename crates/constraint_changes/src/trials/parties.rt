@@ -80,14 +80,14 @@ fn hindering<'a>(
     group: Group<'_, '_>,
     people: &[Asked<'a>],
 ) -> Result<Option<Vec<Asked<'a>>>, AllocError> {
-    let setting = group.setting;
-    if setting.effort.is_spent() {
+    let scenario = group.scenario;
+    if scenario.effort.is_spent() {
         return Ok(None);
     }
-    setting
+    scenario
         .effort
         .ask(people.len().saturating_mul(people.len()));
-    in_the_way(alloc, setting.platform, people)
+    in_the_way(alloc, scenario.platform, people)
 }
 
 /// Children of groups that are selected, so that whatever is selected has one of these lists; none
@@ -125,10 +125,10 @@ fn next_group(
     group: Group<'_, '_>,
     chosen: &[usize],
 ) -> Result<Option<usize>, AllocError> {
-    let setting = group.setting;
+    let scenario = group.scenario;
     let people = asked_with(alloc, group, chosen)?;
-    setting.effort.ask(people.len());
-    if is_unmet(alloc, setting.platform, &people)? {
+    scenario.effort.ask(people.len());
+    if is_unmet(alloc, scenario.platform, &people)? {
         return Ok(None);
     }
     let longer = with_firsts(alloc, group, chosen)?;

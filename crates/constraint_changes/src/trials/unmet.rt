@@ -47,7 +47,7 @@ pub fn leaves_none(
 ) -> Result<bool, AllocError> {
     let mut asked = Vec::new(alloc);
     for one in stated {
-        if group.setting.effort.is_spent() {
+        if group.scenario.effort.is_spent() {
             return Ok(false);
         }
         match read_asked(alloc, &one.value)? {
@@ -87,12 +87,12 @@ pub fn leave_none(
     parties: &[Party<'_>],
     read: &[Read<'_>],
 ) -> Result<bool, AllocError> {
-    if group.setting.effort.is_spent() {
+    if group.scenario.effort.is_spent() {
         return Ok(false);
     }
     if parties.is_empty() && has_groups(group.story) {
         let people = all_with(alloc, group.people, read)?;
-        group.setting.effort.ask(people.len());
+        group.scenario.effort.ask(people.len());
         if need_too_many(alloc, group, &people)? {
             return Ok(true);
         }
@@ -113,8 +113,8 @@ fn leaves_none_with(
     party: &Party<'_>,
     read: &[Read<'_>],
 ) -> Result<bool, AllocError> {
-    let platform = group.setting.platform;
-    let effort = group.setting.effort;
+    let platform = group.scenario.platform;
+    let effort = group.scenario.effort;
     effort.ask(party.needed.len());
     let few = all_with(alloc, &party.needed, read)?;
     if together_need_too_many(&few) || is_unmet(alloc, platform, &few)? {
@@ -185,7 +185,7 @@ pub(crate) fn least_met(
         let Some(amount) = halving.next() else {
             break;
         };
-        if group.setting.effort.is_spent() {
+        if group.scenario.effort.is_spent() {
             break;
         }
         let tried = Tried {
@@ -233,7 +233,7 @@ impl Tried<'_> {
                 return Ok(!none);
             }
         }
-        group.setting.effort.change(self.place, 1);
+        group.scenario.effort.change(self.place, 1);
         let stated = Stated {
             place: self.place,
             value: halving
