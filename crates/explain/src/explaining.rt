@@ -1,6 +1,6 @@
 //! What a script's text means.
 
-ghost use Rattle.std.specs.Prelude.{IfOk, IfSome};
+ghost use Rattle.std.specs.Prelude.{IfOk, IfSome, IsSome, IsTrue};
 ghost use Rattle.std.specs.String.{string_bytes};
 ghost use Rattle.explain.specs.Lines.{IsToldBy, item_texts};
 ghost use Rattle.explain.specs.Wanted.{AreThere};
@@ -121,21 +121,9 @@ fn printed(
         (λ text. IsToldBy (item_texts told.items.items) (string_bytes text))) }
     ensures wanted { IfOk result (AreThere wanted) }
 {
-    let text = if wanted.text {
-        Some(text_of(alloc, &items)?)
-    } else {
-        None
-    };
-    let page = if wanted.page {
-        Some(page_of_scene(alloc, scene, &items)?)
-    } else {
-        None
-    };
-    let objects = if wanted.objects {
-        Some(objects_of(alloc, scene, outcome, &items)?)
-    } else {
-        None
-    };
+    let text = text_if(alloc, &items, wanted.text)?;
+    let page = page_if(alloc, scene, &items, wanted.page)?;
+    let objects = objects_if(alloc, scene, outcome, &items, wanted.objects)?;
     Ok(Explained {
         outcome,
         items,
@@ -143,6 +131,49 @@ fn printed(
         objects,
         page,
     })
+}
+
+/// The text of items, if it is wanted.
+fn text_if(alloc: Global, items: &[Item], is_wanted: bool) -> Result<Option<String>, AllocError>
+    ensures { IfOk result (λ text. IsTrue is_wanted → IsSome text) }
+{
+    if !is_wanted {
+        return Ok(None);
+    }
+    Ok(Some(text_of(alloc, items)?))
+}
+
+/// Their page, if it is wanted.
+fn page_if(
+    alloc: Global,
+    scene: Scene<'_, '_>,
+    items: &[Item],
+    is_wanted: bool,
+) -> Result<Option<String>, AllocError>
+    ensures { IfOk result (λ page. IsTrue is_wanted → IsSome page) }
+{
+    if !is_wanted {
+        return Ok(None);
+    }
+    Ok(Some(page_of_scene(alloc, scene, items)?))
+}
+
+/// Their objects, if they are wanted.
+fn objects_if(
+    alloc: Global,
+    scene: Scene<'_, '_>,
+    outcome: Outcome,
+    items: &[Item],
+    is_wanted: bool,
+) -> Result<Option<String>, AllocError>
+    ensures told { IfOk result (λ objects. IfSome objects
+        (λ text. IsToldBy (item_texts items.now) (string_bytes text))) }
+    ensures there { IfOk result (λ objects. IsTrue is_wanted → IsSome objects) }
+{
+    if !is_wanted {
+        return Ok(None);
+    }
+    Ok(Some(objects_of(alloc, scene, outcome, items)?))
 }
 
 /// Explains the script that a value stands for.
