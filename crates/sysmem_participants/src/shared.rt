@@ -4,10 +4,11 @@ ghost use Rattle.std.specs.Prelude.{◌≤◌};
 ghost use Rattle.std.specs.Option.{ForSome};
 ghost use Rattle.sysmem_search.specs.declared.wide.TheConstants.{MOST_WORKERS};
 
+use node_limits::Limits;
 use std::alloc::Global;
 use std::sync::ledger::Ledger;
 use std::sync::{Condvar, Mutex};
-use sysmem_room::{Limits, Room};
+use sysmem_room::Room;
 use sysmem_sanitise::Platform;
 use sysmem_search::Gate;
 

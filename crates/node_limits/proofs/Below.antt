@@ -16,12 +16,10 @@ use Rattle.sysmem_tree.specs.Path.{child_of, is_born, led_to, node_at, path_of}
 use Rattle.sysmem_tree.specs.Table.{makes}
 use Rattle.sysmem_tree.specs.Tree.{Applied, applied, first_tree, new_node, node_after, nodes_made}
 use Rattle.sysmem_tree.proofs.CallerLemmas.{accepted, led_kid, node_within}
-use Rattle.sysmem_room.specs.Counting.{nodes_by}
-use Rattle.sysmem_room.specs.declared.limits.Limits.{Limits}
-use Rattle.sysmem_room.specs.Limits.{AreCounted, below_among, counts_after, is_below, is_full, is_spent, offspring}
-use Rattle.sysmem_room.proofs.Counting.{grows}
-use Rattle.sysmem_room.proofs.Fewer.{few_children}
-use Rattle.sysmem_room.proofs.Placing.{none_yet}
+use Rattle.node_limits.specs.declared.limits.Limits.{Limits}
+use Rattle.node_limits.specs.Limits.{AreCounted, below_among, counts_after, is_below, is_full, is_spent, offspring}
+use Rattle.node_limits.proofs.Growing.{grows, made_by}
+use Rattle.node_limits.proofs.Fewer.{few_children}
 
 -- nodes that keep their paths are below what they were
 same_below : (old new : List NodeFacts) (top many : ℕ) → ((i : ℕ) → i < many → path_of new i ≡ path_of old i) → below_among new top many ≡ below_among old top many
@@ -122,10 +120,10 @@ last_of (x ∷ xs) y zero is = absurd (omega (arith, is))
 last_of (x ∷ xs) y (suc k) is = last_of xs y k (omega (arith, is))
 
 -- the path of the node that an action makes goes on from the one on which it was made
-pub made_path : OnePath → (t : TreeFacts) (i : ℕ) (deed : Deed) (after : Applied) (path : List ℕ) (s : NodeState) → IsTree t.nodes → IsTree after.tree.nodes → AreStill t.nodes after.tree.nodes
+pub made_child : OnePath → (t : TreeFacts) (i : ℕ) (deed : Deed) (after : Applied) (path : List ℕ) (s : NodeState) → IsTree t.nodes → IsTree after.tree.nodes → AreStill t.nodes after.tree.nodes
     → node_at t.nodes path ≡ Some i → applied t i deed ≡ Ok after → makes (kind_of deed) ≡ Some s → length after.tree.nodes ≡ suc (length t.nodes)
-    → (o : ℕ) × (path_of after.tree.nodes (length t.nodes) ≡ path ++ o ∷ [])
-made_path one t i deed after path s tree grown still leads is made many =
+    → (n : NodeFacts) × (slice_get t.nodes i ≡ Some n) × (path_of after.tree.nodes (length t.nodes) ≡ path ++ n.state.children ∷ [])
+made_child one t i deed after path s tree grown still leads is made many =
     let (n, a) = accepted t i deed after is in
     let node = new_node (length t.nodes) i n (kind_of deed) s in
     let front = slice_set t.nodes i (node_after deed n) in
@@ -137,7 +135,13 @@ made_path one t i deed after path s tree grown still leads is made many =
     let still_leads : node_at after.tree.nodes path ≡ Some i = ap (node_at after.tree.nodes) (sym same) ∙ (one after.tree.nodes i grown (omega (arith, within, many))).leads in
     let on : node_at after.tree.nodes (path ++ n.state.children ∷ []) ≡ Some (length t.nodes) =
     led_kid after.tree.nodes grown path i (length t.nodes) node (record { parent = i; ordinal = n.state.children }) still_leads here refl refl in
-    (n.state.children, sym ((one after.tree.nodes (length t.nodes) grown (omega (arith, many))).only (path ++ n.state.children ∷ []) on))
+    (n, a.there, sym ((one after.tree.nodes (length t.nodes) grown (omega (arith, many))).only (path ++ n.state.children ∷ []) on))
+
+pub made_path : OnePath → (t : TreeFacts) (i : ℕ) (deed : Deed) (after : Applied) (path : List ℕ) (s : NodeState) → IsTree t.nodes → IsTree after.tree.nodes → AreStill t.nodes after.tree.nodes
+    → node_at t.nodes path ≡ Some i → applied t i deed ≡ Ok after → makes (kind_of deed) ≡ Some s → length after.tree.nodes ≡ suc (length t.nodes)
+    → (o : ℕ) × (path_of after.tree.nodes (length t.nodes) ≡ path ++ o ∷ [])
+made_path one t i deed after path s tree grown still leads is made many =
+    let (n, _, at) = made_child one t i deed after path s tree grown still leads is made many in (n.state.children, at)
 
 -- a node below one on a path is below the child with which that path begins
 pub goes_on : (top first o : ℕ) (rest : List ℕ) → is_below top ((first ∷ rest) ++ o ∷ []) ≡ (first == top)
@@ -179,18 +183,23 @@ one_more old new counts (first ∷ rest) _ o still many at few made are =
 pub acted_counted : OnePath → (t : TreeFacts) (i : ℕ) (deed : Deed) (after : Applied) (path counts : List ℕ) → IsTree t.nodes → IsTree after.tree.nodes → AreStill t.nodes after.tree.nodes
     → node_at t.nodes path ≡ Some i → applied t i deed ≡ Ok after → AreCounted t.nodes counts → AreCounted after.tree.nodes (counts_after counts path (kind_of deed))
 acted_counted one t i deed after path counts tree grown still leads is are = by (makes (kind_of deed)) refl where
-  more : length after.tree.nodes ≡ length t.nodes + nodes_by (kind_of deed)
+  more : length after.tree.nodes ≡ length t.nodes + made_by (kind_of deed)
   more = grows t i deed after is
 
   by : (m : Option NodeState) → makes (kind_of deed) ≡ m → AreCounted after.tree.nodes (counts_after counts path (kind_of deed))
   by None none =
-      let no : nodes_by (kind_of deed) ≡ 0 = ap (λ (m : Option NodeState). if is_some m then 1 else 0) none in
+      let no : made_by (kind_of deed) ≡ 0 = ap (λ (m : Option NodeState). if is_some m then 1 else 0) none in
       subst (AreCounted after.tree.nodes) (sym (unmade counts path (kind_of deed) (ap is_some none))) (still_counted t.nodes after.tree.nodes counts still (omega (arith, more, no)) are)
   by (Some s) made =
-      let one_made : nodes_by (kind_of deed) ≡ 1 = ap (λ (m : Option NodeState). if is_some m then 1 else 0) made in
+      let one_made : made_by (kind_of deed) ≡ 1 = ap (λ (m : Option NodeState). if is_some m then 1 else 0) made in
       let many : length after.tree.nodes ≡ suc (length t.nodes) = omega (arith, more, one_made) in
       let (o, at) = made_path one t i deed after path s tree grown still leads is made many in
       one_more t.nodes after.tree.nodes counts path (kind_of deed) o still many at (few_tops t.nodes tree path (ap is_some leads)) (ap is_some made) are
+
+pub none_yet : (many k : ℕ) → get_or {A = ℕ} (replicate many 0) k 0 ≡ 0
+none_yet zero k = refl
+none_yet (suc many) zero = refl
+none_yet (suc many) (suc k) = none_yet many k
 
 -- nothing is below a child of a root alone
 pub first_counted : AreCounted first_tree.nodes (replicate 128 0)

@@ -2,14 +2,12 @@
 
 ghost use Rattle.std.specs.Prelude.{◌≡◌, IfSome, slice_get};
 ghost use Rattle.std.specs.Result.{result_err};
-ghost use Rattle.sysmem_room.specs.Refusals.{first_of};
-ghost use Rattle.sysmem_room.specs.TreeRefusals.{fate_refusal, room_refusal};
+ghost use Rattle.node_limits.specs.TreeRefusals.{fate_refusal, first_of, room_refusal, state_refusal};
 ghost use Rattle.sysmem_tree.specs.ActionKind.{deed_of};
 ghost use Rattle.sysmem_tree.specs.Nodes.{HasNode};
 ghost use Rattle.sysmem_tree.specs.Tree.{applied};
 
-use crate::refusing::log_refusal;
-use sysmem_tree::{Action, ActionKind, Fate, MOST_NODES, NodeId, Refusal, Tree};
+use sysmem_tree::{Action, ActionKind, Fate, MOST_NODES, NodeId, NodeState, Refusal, Tree};
 
 /// By what became of a node's domain.
 fn fate_refusal(tree: &Tree, node: NodeId, kind: ActionKind) -> Option<Refusal>
@@ -32,6 +30,19 @@ fn fate_refusal(tree: &Tree, node: NodeId, kind: ActionKind) -> Option<Refusal>
         }
         Fate::Failed | Fate::NoneChosen => Some(Refusal::DomainFailed),
     }
+}
+
+/// By the state of a node, as a tree has it or a log makes it.
+pub fn state_refusal(state: NodeState, kind: ActionKind) -> Option<Refusal>
+    ensures { result ≡ state_refusal state kind }
+{
+    if !state.allows(kind) {
+        return Some(Refusal::WrongState);
+    }
+    if state.wants_child(kind) {
+        return Some(Refusal::NoChildren);
+    }
+    None
 }
 
 /// By the number of nodes.
@@ -60,12 +71,12 @@ fn first_of(one: Option<Refusal>, other: Option<Refusal>) -> Option<Refusal>
 
 /// The first refusal of an action on one of a tree's nodes, if there is one: what `Tree::apply`
 /// answers.
-pub(crate) fn tree_refusal(tree: &Tree, node: NodeId, action: &Action) -> Option<Refusal>
+pub fn tree_refusal(tree: &Tree, node: NodeId, action: &Action) -> Option<Refusal>
     requires { HasNode tree.now.nodes node }
     ensures { result ≡ result_err (applied tree.now node (deed_of action.now)) }
 {
     let kind = action.kind();
     let fate = fate_refusal(tree, node, kind);
-    let own = log_refusal(tree.state(node), kind);
+    let own = state_refusal(tree.state(node), kind);
     first_of(fate, first_of(own, room_refusal(tree, kind)))
 }

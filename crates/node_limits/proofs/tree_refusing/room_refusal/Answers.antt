@@ -3,8 +3,8 @@ use Rattle.std.proofs.Common.{◌≡◌, ◌<◌, ◌≤◌, Bool, None, Some, a
 use Rattle.std.specs.Prelude.{is_some, if◌then◌else◌}
 use Rattle.sysmem_tree.specs.declared.refusal.Refusal.TheVariants.{TooManyNodes}
 use Rattle.sysmem_tree.specs.Table.{makes}
-use Rattle.sysmem_room.proofs.TreeRefusing.{has_place, makes_none, no_room}
-use Rattle.sysmem_room.proofs.tree_refusing.room_refusal.Goals as goal
+use Rattle.node_limits.proofs.TreeRefusing.{has_place, makes_none, no_room}
+use Rattle.node_limits.proofs.tree_refusing.room_refusal.Goals as goal
 
 pub returns-then-is_none : goal.returns-then-is_none
 returns-then-is_none c =

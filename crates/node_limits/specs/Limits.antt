@@ -1,13 +1,22 @@
 -- How many nodes a host lets there be below each child of the root.
-use Rattle.std.specs.Prelude.{◌≡◌, ◌+◌, ◌<◌, ◌==◌, ℕ, zero, suc, Bool, false, ◌&&◌, List, [], ◌∷◌}
+use Rattle.std.specs.Prelude.{◌≡◌, ◌+◌, ◌<◌, ◌==◌, ℕ, zero, suc, Bool, true, false, ◌&&◌, List, [], ◌∷◌}
 use Rattle.std.specs.Prelude.{get_or, is_some, length, nat_le, option_map, slice_set, unwrap_or}
-use Rattle.std.specs.Prelude.{if◌then◌else◌}
-use Rattle.sysmem_room.specs.declared.limits.Limits.{Limits}
+use Rattle.std.specs.Prelude.{None, Result, Ok, Err, if◌then◌else◌}
+use Rattle.node_limits.specs.declared.limits.Limits.{Limits}
 use Rattle.sysmem_tree.specs.declared.action.ActionKind.{ActionKind}
+use Rattle.sysmem_tree.specs.declared.refusal.Refusal.{Refusal}
+use Rattle.sysmem_tree.specs.declared.refusal.Refusal.TheVariants.{TooManyNodes}
 use Rattle.sysmem_tree.specs.declared.tree.TheConstants.{MOST_NODES}
+use Rattle.sysmem_tree.specs.ActionKind.{Deed, kind_of}
+use Rattle.sysmem_tree.specs.Domain.{TreeFacts}
 use Rattle.sysmem_tree.specs.Node.{NodeFacts}
 use Rattle.sysmem_tree.specs.Path.{path_of}
 use Rattle.sysmem_tree.specs.Table.{makes}
+use Rattle.sysmem_tree.specs.Tree.{Applied, applied}
+
+-- as many as a collection has
+abbrev pub no_limits : Limits
+no_limits = record { offspring = None }
 
 -- a node at this path is below this child of the root: its path goes through it, and on
 abbrev pub is_below : ℕ → List ℕ → Bool
@@ -35,6 +44,16 @@ is_full limits nodes top =
 abbrev pub is_spent : Limits → List NodeFacts → List ℕ → ActionKind → Bool
 is_spent limits nodes [] _ = false
 is_spent limits nodes (top ∷ rest) kind = is_some (makes kind) && is_full limits nodes top
+
+-- where the limits are spent, too many nodes is the answer to what else would be accepted
+abbrev pub unless_spent : Bool → Result Applied Refusal → Result Applied Refusal
+unless_spent true (Ok after) = Err TooManyNodes
+unless_spent spent answer = answer
+
+-- an action on node i within limits: the tree's first refusal, or the limits', or what it leads to
+abbrev pub applied_within : Limits → TreeFacts → ℕ → Deed → Result Applied Refusal
+applied_within limits t i deed =
+    unless_spent (is_spent limits t.nodes (path_of t.nodes i) (kind_of deed)) (applied t i deed)
 
 -- the counts are those of the root's children
 pub record AreCounted (nodes : List NodeFacts) (counts : List ℕ) : Type 0 where

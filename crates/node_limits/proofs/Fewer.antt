@@ -5,7 +5,7 @@ use Rattle.sysmem_tree.specs.Node.{NodeFacts}
 use Rattle.sysmem_tree.specs.Nodes.{HasNode, IsTree, count_from, ordinal_under, ordinals}
 use Rattle.sysmem_tree.specs.declared.node.Birth.{Birth}
 use Rattle.sysmem_tree.specs.declared.state.NodeState.{NodeState}
-use Rattle.sysmem_room.proofs.Owning.{not_past}
+use Rattle.node_limits.proofs.Within.{not_past}
 
 count_long : (a m : ℕ) → length (count_from a m) ≡ m
 count_long a zero = refl

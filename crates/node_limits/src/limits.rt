@@ -1,7 +1,7 @@
 //! What a host allows those whom it lets take part.
 
 ghost use Rattle.std.specs.Prelude.{◌≡◌, ◌<◌, IfSome, get_or, replicate, slice_get};
-ghost use Rattle.sysmem_room.specs.Limits.{counts_after};
+ghost use Rattle.node_limits.specs.Limits.{counts_after};
 ghost use Rattle.sysmem_tree.specs.declared.tree.TheConstants.{MOST_NODES};
 
 use sysmem_tree::{ActionKind, MOST_NODES};
@@ -17,13 +17,13 @@ pub struct Limits {
 
 /// How many nodes are below each child of the root, by which child it is.
 #[derive(Drop)]
-pub(crate) struct Offspring {
-    counts: [u8; MOST_NODES],
+pub struct Offspring {
+    pub counts: [u8; MOST_NODES],
 }
 
 impl Offspring {
     /// Of a root alone.
-    pub(crate) fn new() -> Offspring
+    pub fn new() -> Offspring
         ensures { result.counts ≡ replicate MOST_NODES 0 }
     {
         Offspring {
@@ -32,7 +32,7 @@ impl Offspring {
     }
 
     /// How many are below this child of the root.
-    pub(crate) fn below(&self, top: u32) -> u32
+    pub fn below(&self, top: u32) -> u32
         requires { top < MOST_NODES }
         ensures { result ≡ get_or self.now.counts top 0 }
     {
@@ -40,7 +40,7 @@ impl Offspring {
     }
 
     /// Counts what an action of this kind on the node at this path makes.
-    pub(crate) fn add(&mut self, path: &[u32], kind: ActionKind)
+    pub fn add(&mut self, path: &[u32], kind: ActionKind)
         requires few { IfSome (slice_get path.now 0) (λ top. top < MOST_NODES) }
         requires room { IfSome (slice_get path.now 0) (λ top. get_or self.old.counts top 0 < 255) }
         ensures { self.new.counts ≡ counts_after self.old.counts path.now kind }

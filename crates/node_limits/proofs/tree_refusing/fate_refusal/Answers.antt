@@ -5,9 +5,9 @@ use Rattle.sysmem_tree.specs.declared.fate.Fate.TheVariants as fates
 use Rattle.sysmem_tree.specs.declared.refusal.Refusal.TheVariants.{NotSelected}
 use Rattle.sysmem_tree.specs.ActionKind.{ends_node}
 use Rattle.sysmem_tree.specs.Domain.{fate_of}
-use Rattle.sysmem_room.specs.TreeRefusals.{fate_refusal}
-use Rattle.sysmem_room.proofs.TreeRefusing.{barred_refuses, chosen_refuses, ends_unrefused, undecided_refuses}
-use Rattle.sysmem_room.proofs.tree_refusing.fate_refusal.Goals as goal
+use Rattle.node_limits.specs.TreeRefusals.{fate_refusal}
+use Rattle.node_limits.proofs.TreeRefusing.{barred_refuses, chosen_refuses, ends_unrefused, undecided_refuses}
+use Rattle.node_limits.proofs.tree_refusing.fate_refusal.Goals as goal
 
 pub returns-then-ends_node : goal.returns-then-ends_node
 returns-then-ends_node c =

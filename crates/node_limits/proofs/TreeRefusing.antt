@@ -16,10 +16,8 @@ use Rattle.sysmem_tree.specs.Node.{NodeFacts}
 use Rattle.sysmem_tree.specs.Nodes.{HasNode}
 use Rattle.sysmem_tree.specs.Table.{allows, makes, wants_child}
 use Rattle.sysmem_tree.specs.Tree.{applied, applied_at, has_room, is_barred}
-use Rattle.sysmem_room.specs.Log.{log_refusal}
-use Rattle.sysmem_room.specs.Refusals.{first_of}
-use Rattle.sysmem_room.specs.TreeRefusals.{fate_refusal, room_refusal}
-use Rattle.sysmem_room.proofs.Owning.{not_past}
+use Rattle.node_limits.specs.TreeRefusals.{fate_refusal, first_of, room_refusal, state_refusal}
+use Rattle.node_limits.proofs.Within.{not_past}
 
 -- of an action that doesn't end the node
 abbrev fate_refuses : TreeFacts → NodeFacts → Option Refusal
@@ -155,13 +153,13 @@ in_order false false true allowed wants room x = by_state allowed wants room x
 
 pub refusal_is : (t : TreeFacts) (i : ℕ) (deed : Deed) (act : ActionKind) (s : NodeState) (fate : Option Refusal) → act ≡ kind_of deed → HasNode t.nodes i
     → IfSome (slice_get t.nodes i) (λ n. s ≡ n.state) → IfSome (slice_get t.nodes i) (λ n. fate ≡ fate_refusal t n act)
-    → first_of fate (first_of (log_refusal s act) (room_refusal t.nodes act)) ≡ result_err (applied t i deed)
-refusal_is t i deed act s fate same there state told = subst (λ k. first_of fate (first_of (log_refusal s k) (room_refusal t.nodes k)) ≡ result_err (applied t i deed)) (sym same)
+    → first_of fate (first_of (state_refusal s act) (room_refusal t.nodes act)) ≡ result_err (applied t i deed)
+refusal_is t i deed act s fate same there state told = subst (λ k. first_of fate (first_of (state_refusal s k) (room_refusal t.nodes k)) ≡ result_err (applied t i deed)) (sym same)
     (by (slice_get t.nodes i) refl state (subst (λ k. IfSome (slice_get t.nodes i) (λ n. fate ≡ fate_refusal t n k)) same told)) where
       by : (o : Option NodeFacts) → slice_get t.nodes i ≡ o → IfSome o (λ n. s ≡ n.state) → IfSome o (λ n. fate ≡ fate_refusal t n (kind_of deed))
-          → first_of fate (first_of (log_refusal s (kind_of deed)) (room_refusal t.nodes (kind_of deed))) ≡ result_err (applied_at t i deed o)
+          → first_of fate (first_of (state_refusal s (kind_of deed)) (room_refusal t.nodes (kind_of deed))) ≡ result_err (applied_at t i deed o)
       by None here state told = absurd (not_past t.nodes i there here)
       by (Some n) here state told =
-          ap (λ f. first_of f (first_of (log_refusal s (kind_of deed)) (room_refusal t.nodes (kind_of deed)))) told
-          ∙ (ap (λ x. first_of (fate_refusal t n (kind_of deed)) (first_of (log_refusal x (kind_of deed)) (room_refusal t.nodes (kind_of deed)))) state
+          ap (λ f. first_of f (first_of (state_refusal s (kind_of deed)) (room_refusal t.nodes (kind_of deed)))) told
+          ∙ (ap (λ x. first_of (fate_refusal t n (kind_of deed)) (first_of (state_refusal x (kind_of deed)) (room_refusal t.nodes (kind_of deed)))) state
           ∙ sym (in_order (is_barred t n.domain) n.is_left_out (ends_node (kind_of deed)) (allows (kind_of deed) n.state) (wants_child (kind_of deed) n.state) (has_room t.nodes (kind_of deed)) _))
