@@ -8,7 +8,7 @@ use Rattle.sysmem_alloc.specs.Book.{BookFacts, IsBook}
 use Rattle.sysmem_alloc.specs.Entry.{BookEntry, entry_in}
 use Rattle.sysmem_alloc.specs.History.{Allows, AreAllowed, after_entry, replay, replay_from}
 use Rattle.sysmem_alloc.specs.State.{State, first_state}
-use Rattle.sysmem_sanitise.specs.Platform.{PlatformFacts}
+use Rattle.negotiation_inputs.specs.Platform.{PlatformFacts}
 use Rattle.sysmem_tree.specs.Domain.{TreeFacts}
 
 allowed_there : (p : PlatformFacts) (s : State) (es : List BookEntry) (k : ℕ) (e : BookEntry) → AreAllowed p s es → slice_get es k ≡ Some e → Allows p (replay_from s (take k es)) e

@@ -10,11 +10,12 @@ ghost use Rattle.sysmem_tree.specs.ActionKind.{deed_of};
 ghost use Rattle.sysmem_tree.specs.Nodes.{HasNode};
 ghost use Rattle.verdict_claims.specs.Asked.{asks_at};
 
+use book_events::Entry;
+use negotiation_inputs::Constraints;
 use record_writing::copy_constraints;
 use std::alloc::{AllocError, Global};
 use std::sync::Arc;
-use sysmem_alloc::{Book, Entry};
-use sysmem_sanitise::Constraints;
+use sysmem_alloc::Book;
 use sysmem_tree::{Action, ActionKind, Event, NodeId, Tree};
 use verdict_claims::Claim;
 

@@ -1,10 +1,12 @@
 //! What the participants ask for, and of which platform.
 
 use crate::failure::Failure;
+use negotiation_inputs::{Constraints, Platform};
+use record_reading::read_platform;
 use serde_json::Value;
 use std::alloc::Global;
 use std::sync::Arc;
-use sysmem_sanitise::{Constraints, Platform, read_constraints, read_platform};
+use sysmem_sanitise::read_constraints;
 
 pub(crate) const PLATFORM: &str =
     r#"{"heaps":[{"heap_type":"system_ram","domains":["cpu","ram"]},{"heap_type":"cma","contiguous":true,"domains":["cpu","ram"]}],"pairs":[{"pixel_format":"R8G8B8A8"},{"pixel_format":"NV12"},{"pixel_format":"YUY2"}],"color_spaces":["SRGB","REC709"]}"#;

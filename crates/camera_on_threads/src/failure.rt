@@ -2,10 +2,10 @@
 
 use live_book::Misnamed;
 use live_script::Unwritten;
+use record_reading::Fault;
 use std::alloc::{AllocError, AllocFailed};
 use std::io;
 use sysmem_participants::AuditFault;
-use sysmem_sanitise::Fault;
 
 /// Why there is nothing to tell. It owns nothing: else each `?` that passes it on is proved to free
 /// it.

@@ -6,6 +6,7 @@ ghost use Rattle.sysmem_room.specs.Counting.{all_parts};
 use crate::failure::Failure;
 use crate::happened::script_by;
 use crate::start::Start;
+use negotiation_inputs::Constraints;
 use std::alloc::{AllocError, Global};
 use std::sync::ledger::{Blank, Ledger};
 use std::sync::{Arc, Mutex, Wait};
@@ -13,7 +14,6 @@ use std::thread;
 use std::thread::Threads;
 use sysmem_merge::Settings;
 use sysmem_participants::{Allocator, Audit, Collection, Reader, Stub, Token, audit};
-use sysmem_sanitise::Constraints;
 use sysmem_search::NoGate;
 use sysmem_tree::Refusal;
 

@@ -18,9 +18,10 @@ use Rattle.sysmem_formats.specs.Names.{format_name, modifier_name, colour_name}
 use Rattle.sysmem_memory.specs.declared.domain.CoherencyDomain.{CoherencyDomain}
 use Rattle.sysmem_memory.specs.Domain.{domain_name}
 use Rattle.sysmem_memory.specs.Heap.{HeapFacts}
-use Rattle.sysmem_sanitise.specs.Platform.{IsHeap}
-use Rattle.record_reading.specs.Reading.Heaps.{is_heap_byte}
-use Rattle.record_reading.specs.Reading.Names.{find_named, formats, modifiers, colours, domains, format_named, modifier_named, colour_named, domain_named}
+use Rattle.negotiation_inputs.specs.Platform.{IsHeap}
+use Rattle.negotiation_inputs.specs.Heaps.{is_heap_byte}
+use Rattle.record_reading.specs.Reading.Names.{find_named, modifiers, colours, domains, format_named, modifier_named, colour_named, domain_named}
+use Rattle.sysmem_formats.specs.Formats.{formats}
 use Rattle.certificate_text.specs.CanBeRead.{HasSteps}
 use Rattle.certificate_text.specs.Fields.{all_fields, field_named}
 use Rattle.certificate_text.specs.Paths.{steps_text, path_text}

@@ -4,9 +4,9 @@ use Rattle.std.specs.List.{AllByRecursion, AllZip}
 use Rattle.std.specs.Cmp.Lexicographic.{same_text}
 use Rattle.std.proofs.lemmas.List.Elements.{All-nil, All-cons, All-head}
 use Rattle.std.proofs.lemmas.Option.{none-some}
-use Rattle.sysmem_sanitise.specs.Participant.{Participant}
+use Rattle.negotiation_inputs.specs.Participant.{Participant}
 use Rattle.sysmem_memory.specs.Listed.{places_of}
-use Rattle.sysmem_sanitise.specs.Platform.{PlatformFacts, offers_of}
+use Rattle.negotiation_inputs.specs.Platform.{PlatformFacts, offers_of}
 use Rattle.sysmem_tree.specs.Forest.{Forest, choices, settled}
 use Rattle.sysmem_tree.specs.LayoutLaws.{ChoicesLeaveOneForest, FewChildren, FewChoices}
 use Rattle.sysmem_tree.specs.Node.{NodeFacts}

@@ -27,9 +27,9 @@ use Rattle.sysmem_memory.specs.Heap.{HeapFacts, same_heap}
 use Rattle.sysmem_memory.specs.Place.{IsPlace}
 use Rattle.sysmem_merge.specs.declared.settings.Settings.{Settings}
 use Rattle.sysmem_merge.proofs.CallerLemmas.{offered_test}
-use Rattle.sysmem_sanitise.specs.Platform.{PlatformFacts, offers_of}
+use Rattle.negotiation_inputs.specs.Platform.{PlatformFacts, offers_of}
 use Rattle.record_reading.specs.Reading.Names.{format_named, modifier_named, colour_named, domain_named}
-use Rattle.record_reading.specs.Reading.Pairs.{same_pair, has_pair, same_colour, lists_colour}
+use Rattle.negotiation_inputs.specs.Pairs.{same_pair, has_pair, same_colour, lists_colour}
 use Rattle.certificate_text.specs.Bounds.{count_data, size_data, bounds_data}
 use Rattle.certificate_text.specs.CanBeRead.{AreReadableSettings}
 use Rattle.certificate_text.specs.Reading.{◌>>=◌, number_to, at_key, named_at}

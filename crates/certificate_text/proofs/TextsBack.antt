@@ -18,7 +18,7 @@ use Rattle.sysmem_image.specs.Fields as side
 use Rattle.sysmem_memory.specs.Domain.{domain_name}
 use Rattle.sysmem_memory.specs.Heap.{HeapFacts}
 use Rattle.sysmem_merge.specs.declared.settings.Settings.{Settings}
-use Rattle.sysmem_sanitise.specs.Platform.{PlatformFacts, IsHeap}
+use Rattle.negotiation_inputs.specs.Platform.{PlatformFacts, IsHeap}
 use Rattle.verdict_claims.specs.declared.certificate.Claim.{Claim}
 use Rattle.verdict_claims.specs.declared.certificate.Proof.{Proof}
 use Rattle.verdict_claims.specs.declared.certificate.Proof.TheVariants as proves

@@ -8,13 +8,14 @@ use Rattle.sysmem_counts.specs.Bounds.{most_number}
 use Rattle.sysmem_memory.specs.Heap.{HeapFacts}
 use Rattle.sysmem_memory.specs.Place.{IsPlace}
 use Rattle.sysmem_merge.specs.declared.settings.Settings.{Settings}
-use Rattle.sysmem_sanitise.specs.Platform.{PlatformFacts, offers_of}
+use Rattle.negotiation_inputs.specs.Platform.{PlatformFacts, offers_of}
 use Rattle.sysmem_tree.specs.declared.tree.TheConstants.{MOST_NODES}
 use Rattle.verdict_claims.specs.declared.certificate.Claim.{Claim}
 use Rattle.verdict_claims.specs.declared.certificate.Proof.{Proof}
 use Rattle.verdict_claims.specs.declared.certificate.Proof.TheVariants as proves
 use Rattle.verdict_claims.specs.declared.conflict.Conflict.{Conflict}
-use Rattle.verdict_claims.specs.declared.conflict.Conflict.TheVariants.{Count, Places, Offers, Fixed}
+use Rattle.verdict_claims.specs.declared.conflict.Conflict.TheVariants.{Count, Places, Offers}
+use Rattle.verdict_claims.specs.declared.conflict.Conflict.TheVariants.{Fixed}
 use Rattle.verdict_claims.specs.declared.refutation.Item.{Item}
 use Rattle.verdict_claims.specs.declared.refutation.Item.TheVariants.{Split, Leaf}
 use Rattle.verdict_claims.specs.declared.verdict.Verdict.{Verdict}

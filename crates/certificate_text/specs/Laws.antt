@@ -3,7 +3,7 @@ use Rattle.std.specs.Prelude.{◌≡◌, ℕ, All, IsUtf8, List, map, Option, So
 use Rattle.serde_json.specs.Data.{Data, array}
 use Rattle.serde_json.specs.Read.{read}
 use Rattle.serde_json.specs.View.{items_of}
-use Rattle.sysmem_sanitise.specs.Platform.{PlatformFacts, IsHeap, IsPlatform}
+use Rattle.negotiation_inputs.specs.Platform.{PlatformFacts, IsHeap, IsPlatform}
 use Rattle.sysmem_tree.specs.Node.{NodeFacts}
 use Rattle.sysmem_tree.specs.Nodes.{IsTree}
 use Rattle.sysmem_tree.specs.Path.{path_of}

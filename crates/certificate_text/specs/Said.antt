@@ -5,12 +5,13 @@ use Rattle.std.specs.Prelude.{bytes_eq, nat_le, is_some, option_map, ifâ—Œthenâ—
 use Rattle.serde_json.specs.Data.{Data}
 use Rattle.serde_json.specs.Find.{get, as_str}
 use Rattle.sysmem_counts.specs.declared.field.Field.{Field}
-use Rattle.sysmem_sanitise.specs.Platform.{PlatformFacts}
+use Rattle.negotiation_inputs.specs.Platform.{PlatformFacts}
 use Rattle.sysmem_tree.specs.declared.tree.TheConstants.{MOST_NODES}
 use Rattle.verdict_claims.specs.declared.certificate.Claim.{Claim}
 use Rattle.verdict_claims.specs.declared.certificate.Proof.TheVariants as proves
 use Rattle.verdict_claims.specs.declared.conflict.Conflict.{Conflict}
-use Rattle.verdict_claims.specs.declared.conflict.Conflict.TheVariants.{Count, Places, Offers, Fixed}
+use Rattle.verdict_claims.specs.declared.conflict.Conflict.TheVariants.{Count, Places, Offers}
+use Rattle.verdict_claims.specs.declared.conflict.Conflict.TheVariants.{Fixed}
 use Rattle.verdict_claims.specs.declared.refutation.Item.{Item}
 use Rattle.verdict_claims.specs.declared.refutation.Item.TheVariants.{Split, Leaf}
 use Rattle.verdict_claims.specs.declared.verdict.Verdict.{Verdict}

@@ -20,10 +20,10 @@ use Rattle.sysmem_memory.specs.declared.place.Place.{Place}
 use Rattle.sysmem_memory.specs.Domain.{has_domain}
 use Rattle.sysmem_memory.specs.Heap.{HeapFacts}
 use Rattle.sysmem_merge.specs.declared.settings.Settings.{Settings}
-use Rattle.sysmem_sanitise.specs.Platform.{PlatformFacts}
+use Rattle.negotiation_inputs.specs.Platform.{PlatformFacts}
 use Rattle.record_reading.specs.Reading.Names.{format_named, modifier_named}
 use Rattle.record_reading.specs.Reading.Names.{colour_named, domain_named}
-use Rattle.record_reading.specs.Reading.Pairs.{has_pair, lists_colour}
+use Rattle.negotiation_inputs.specs.Pairs.{has_pair, lists_colour}
 use Rattle.certificate_text.specs.Reading.{◌>>=◌, is_object_of, number_to, at_key, named_at}
 
 -- ---- bounds

@@ -12,12 +12,13 @@ use Rattle.sysmem_image.specs.declared.bounds.ImageBounds.{ImageBounds}
 use Rattle.sysmem_memory.specs.Domain.{domain_name}
 use Rattle.sysmem_memory.specs.Heap.{HeapFacts}
 use Rattle.sysmem_merge.specs.declared.settings.Settings.{Settings}
-use Rattle.sysmem_sanitise.specs.Platform.{PlatformFacts}
+use Rattle.negotiation_inputs.specs.Platform.{PlatformFacts}
 use Rattle.verdict_claims.specs.declared.certificate.Claim.{Claim}
 use Rattle.verdict_claims.specs.declared.certificate.Proof.{Proof}
 use Rattle.verdict_claims.specs.declared.certificate.Proof.TheVariants as proves
 use Rattle.verdict_claims.specs.declared.conflict.Conflict.{Conflict}
-use Rattle.verdict_claims.specs.declared.conflict.Conflict.TheVariants.{Count, Places, Offers, Fixed}
+use Rattle.verdict_claims.specs.declared.conflict.Conflict.TheVariants.{Count, Places, Offers}
+use Rattle.verdict_claims.specs.declared.conflict.Conflict.TheVariants.{Fixed}
 use Rattle.verdict_claims.specs.declared.refutation.Item.{Item}
 use Rattle.verdict_claims.specs.declared.refutation.Item.TheVariants.{Split, Leaf}
 use Rattle.verdict_claims.specs.declared.verdict.Verdict.{Verdict}

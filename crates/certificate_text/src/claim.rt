@@ -16,10 +16,10 @@ use crate::path::put_path;
 use crate::reading::{expect_object, list_at, list_of, number_to, text_at};
 use crate::settings::{put_settings, settings_of};
 use crate::unread::Unread;
+use negotiation_inputs::Platform;
 use serde_json::Value;
 use std::alloc::{AllocError, Global};
 use sysmem_merge::Settings;
-use sysmem_sanitise::Platform;
 use sysmem_tree::{MOST_NODES, Path, Prefix};
 use verdict_claims::{Certificate, Chosen, Claim, Lines, Proof, Refutation, Verdict};
 

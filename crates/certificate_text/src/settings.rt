@@ -6,13 +6,14 @@ ghost use Rattle.certificate_text.specs.Reading.{named_at};
 ghost use Rattle.certificate_text.specs.SettingsSaid.{heap_len, heap_said, id_said, image_said, is_heap, offer_said, offered, place_at, place_said, settings_said};
 ghost use Rattle.serde_json.specs.View.{view};
 ghost use Rattle.record_reading.specs.Reading.Names.{colour_named, domain_named, format_named, modifier_named};
-ghost use Rattle.record_reading.specs.Reading.Pairs.{lists_colour, has_pair, same_pair};
+ghost use Rattle.negotiation_inputs.specs.Pairs.{lists_colour, has_pair, same_pair};
 ghost use Rattle.certificate_text.specs.Told.{heap_data, image_bounds_data, image_data, settings_data};
 
 use crate::bounds::{bounds_beside, put_bounds};
 use crate::json_writer::Writer;
 use crate::member::{put_number, put_text};
 use crate::reading::{expect_object, number_at, number_to, text_at};
+use negotiation_inputs::Platform;
 use serde_json::Value;
 use std::alloc::AllocError;
 use sysmem_counts::Field;
@@ -20,7 +21,6 @@ use sysmem_formats::{ColourSpace, Modifier, Offer, Pair, PixelFormat};
 use sysmem_image::ImageBounds;
 use sysmem_memory::{CoherencyDomain, HeapInfo, Place};
 use sysmem_merge::Settings;
-use sysmem_sanitise::Platform;
 
 /// Puts settings, whose heap is one of the platform's.
 pub(crate) fn put_settings(

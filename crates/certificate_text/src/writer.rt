@@ -7,9 +7,9 @@ ghost use Rattle.certificate_text.specs.Told.{decision_data};
 
 use crate::claim::put_decision;
 use crate::json_writer::Writer;
+use negotiation_inputs::Platform;
 use std::alloc::{AllocError, Global};
 use std::marker::Model;
-use sysmem_sanitise::Platform;
 use sysmem_tree::Path;
 use verdict_claims::Claim;
 

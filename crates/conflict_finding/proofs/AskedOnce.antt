@@ -6,7 +6,7 @@ use Rattle.std.proofs.lemmas.Option.{same_Some}
 use Rattle.list_lemmas.proofs.CallerLemmas.{of_some, slice_get_some}
 use Rattle.sysmem_memory.specs.declared.place.Place.{Place}
 use Rattle.sysmem_memory.specs.Heap.{HeapFacts}
-use Rattle.sysmem_sanitise.specs.Participant.{Participant}
+use Rattle.negotiation_inputs.specs.Participant.{Participant}
 use Rattle.sysmem_tree.specs.Node.{NodeFacts}
 use Rattle.conflict_finding.specs.declared.places_asked.Asked.{Asked}
 use Rattle.conflict_finding.specs.PlacesAsked.{IsAsked, IsPlaceAnswer}

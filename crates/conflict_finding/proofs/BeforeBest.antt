@@ -11,11 +11,11 @@ use Rattle.sysmem_memory.specs.Place.{IsPlace, IsEarlier}
 use Rattle.sysmem_memory.proofs.CallerLemmas.{listed_in_order, listed_is_place}
 use Rattle.sysmem_merge.specs.declared.settings.Settings.{Settings}
 use Rattle.sysmem_merge.specs.Best.{IsBest}
-use Rattle.sysmem_merge.specs.Demands.{offer_demand, offer_demands}
-use Rattle.sysmem_merge.specs.Fit.{CoversFit}
-use Rattle.sysmem_merge.specs.Offers.{is_named}
+use Rattle.offer_fits.specs.Demands.{offer_demand, offer_demands}
+use Rattle.offer_fits.specs.Fit.{CoversFit}
+use Rattle.offer_fits.specs.Offers.{is_named}
 use Rattle.sysmem_merge.specs.Settings.{Meets}
-use Rattle.sysmem_sanitise.specs.Platform.{PlatformFacts, offers_of}
+use Rattle.negotiation_inputs.specs.Platform.{PlatformFacts, offers_of}
 use Rattle.sysmem_tree.specs.Node.{NodeFacts}
 use Rattle.sysmem_tree.specs.Shape.{Member}
 use Rattle.conflict_finding.specs.declared.refusals.Refusals.{Refusals}

@@ -18,11 +18,11 @@ use Rattle.sysmem_memory.specs.PlaceTable.{AllowsPlace, first_refusing, place_fi
 use Rattle.sysmem_memory.proofs.CallerLemmas.{listed_is_place, none_refuses}
 use Rattle.sysmem_merge.specs.declared.reason.Reason.{Reason}
 use Rattle.sysmem_merge.specs.declared.reason.Reason.TheVariants as reasons
-use Rattle.sysmem_merge.specs.Demands.{counts_asked, offer_demands, place_demand, place_demands}
+use Rattle.offer_fits.specs.Demands.{counts_asked, offer_demands, place_demand, place_demands}
 use Rattle.sysmem_merge.specs.First.{IsFirstOf}
 use Rattle.sysmem_merge.specs.Reasons.{IsFirstReason, IsOfferRefused, IsReason, reason_rank}
-use Rattle.sysmem_sanitise.specs.Participant.{Participant}
-use Rattle.sysmem_sanitise.specs.Platform.{PlatformFacts, offers_of}
+use Rattle.negotiation_inputs.specs.Participant.{Participant}
+use Rattle.negotiation_inputs.specs.Platform.{PlatformFacts, offers_of}
 use Rattle.sysmem_tree.specs.Forest.{Forest, choices, settled}
 use Rattle.sysmem_tree.specs.Shape.{Member}
 use Rattle.conflict_finding.specs.declared.refusals.Refusals.{Refusals}

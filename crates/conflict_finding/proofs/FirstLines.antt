@@ -10,12 +10,12 @@ use Rattle.sysmem_counts.specs.declared.field.Field.TheVariants.{PixelFormat, Co
 use Rattle.sysmem_formats.specs.declared.offer.Offer.{Offer}
 use Rattle.sysmem_formats.specs.declared.offer.Offer.TheVariants.{Image}
 use Rattle.sysmem_image.specs.Lines.{bounds_lines}
-use Rattle.sysmem_merge.specs.Demands.{OfferDemand, offer_demand, offer_demands}
+use Rattle.offer_fits.specs.Demands.{OfferDemand, offer_demand, offer_demands}
 use Rattle.sysmem_merge.specs.First.{IsFirstOf}
 use Rattle.sysmem_merge.specs.OfferRead.{IsRefusingLine, offer_lines}
-use Rattle.sysmem_merge.specs.Offers.{has_format, has_colour}
-use Rattle.sysmem_merge.specs.Reasons.{IsOfferLine}
-use Rattle.sysmem_sanitise.specs.Participant.{Participant}
+use Rattle.offer_fits.specs.Offers.{has_format, has_colour}
+use Rattle.offer_fits.specs.OfferLines.{IsOfferLine}
+use Rattle.negotiation_inputs.specs.Participant.{Participant}
 use Rattle.sysmem_tree.specs.Node.{NodeFacts}
 use Rattle.sysmem_tree.specs.Shape.{Member}
 use Rattle.verdict_claims.specs.FirstConflict.{AreOfPair}

@@ -9,9 +9,9 @@ use Rattle.sysmem_counts.specs.declared.field.Field.{Field}
 use Rattle.sysmem_counts.specs.declared.field.Field.TheVariants.{MinBufferCount, MaxBufferCount}
 use Rattle.sysmem_formats.specs.declared.offer.Offer.{Offer}
 use Rattle.sysmem_merge.specs.declared.offer_read.OfferRead.{OfferRead}
-use Rattle.sysmem_merge.specs.Demands.{OfferDemand, offer_demands}
+use Rattle.offer_fits.specs.Demands.{OfferDemand, offer_demands}
 use Rattle.sysmem_merge.specs.OfferRead.{IsOfferRead}
-use Rattle.sysmem_sanitise.specs.Participant.{Participant}
+use Rattle.negotiation_inputs.specs.Participant.{Participant}
 use Rattle.sysmem_tree.specs.Node.{NodeFacts}
 use Rattle.sysmem_tree.specs.Nodes.{HasNode}
 use Rattle.verdict_claims.specs.Members.{participants, members_at}

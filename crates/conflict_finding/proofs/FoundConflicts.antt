@@ -14,13 +14,13 @@ use Rattle.sysmem_memory.specs.Listed.{HeapPlace, places_of}
 use Rattle.sysmem_memory.proofs.CallerLemmas.{listed_is_place}
 use Rattle.offer_fits.specs.declared.fit.Fit.{Fit}
 use Rattle.sysmem_merge.specs.declared.settings.Settings.{Settings}
-use Rattle.sysmem_merge.specs.Demands.{counts_asked, offer_demand, offer_demands}
+use Rattle.offer_fits.specs.Demands.{counts_asked, offer_demand, offer_demands}
 use Rattle.sysmem_merge.specs.Failing.{FailsOn}
-use Rattle.sysmem_merge.specs.Fit.{CoversFit}
-use Rattle.sysmem_merge.specs.Offers.{is_named}
+use Rattle.offer_fits.specs.Fit.{CoversFit}
+use Rattle.offer_fits.specs.Offers.{is_named}
 use Rattle.sysmem_merge.specs.Settings.{CoversOn, MeetsAs, MeetsLoosely}
-use Rattle.sysmem_sanitise.specs.Participant.{Participant}
-use Rattle.sysmem_sanitise.specs.Platform.{PlatformFacts, offers_of}
+use Rattle.negotiation_inputs.specs.Participant.{Participant}
+use Rattle.negotiation_inputs.specs.Platform.{PlatformFacts, offers_of}
 use Rattle.sysmem_tree.specs.Forest.{Forest, choices, settled}
 use Rattle.sysmem_tree.specs.Node.{NodeFacts}
 use Rattle.sysmem_tree.specs.Path.{path_of}

@@ -12,7 +12,7 @@ use Rattle.sysmem_tree.specs.Nodes.{IsTree}
 use Rattle.sysmem_tree.specs.Selection.{after}
 use Rattle.sysmem_tree.specs.Shape.{Member, by_number, forest_of, shape_of, members_of, participants_of}
 use Rattle.sysmem_tree.proofs.CallerLemmas.{first_many}
-use Rattle.sysmem_sanitise.specs.Platform.{PlatformFacts}
+use Rattle.negotiation_inputs.specs.Platform.{PlatformFacts}
 use Rattle.verdict_claims.specs.Base.{BaseFacts, IsBase, IsElsewhere, IsGivenBase}
 use Rattle.conflict_finding.specs.Found.{AreSettledAt}
 use Rattle.verdict_claims.proofs.SettledNodes.{all_there, few_there, stand_for}

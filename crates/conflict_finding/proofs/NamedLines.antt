@@ -9,9 +9,10 @@ use Rattle.sysmem_formats.specs.declared.offer.Offer.{Offer}
 use Rattle.sysmem_memory.specs.declared.place.Place.{Place}
 use Rattle.sysmem_memory.specs.Heap.{HeapFacts}
 use Rattle.sysmem_memory.specs.PlaceTable.{refuses_by}
-use Rattle.sysmem_merge.specs.Demands.{offer_demands}
-use Rattle.sysmem_merge.specs.Reasons.{IsOfferLine, IsUnnamedLine}
-use Rattle.sysmem_sanitise.specs.Participant.{Participant}
+use Rattle.offer_fits.specs.Demands.{offer_demands}
+use Rattle.offer_fits.specs.OfferLines.{IsOfferLine}
+use Rattle.sysmem_merge.specs.Reasons.{IsUnnamedLine}
+use Rattle.negotiation_inputs.specs.Participant.{Participant}
 use Rattle.sysmem_tree.specs.Node.{NodeFacts}
 use Rattle.sysmem_tree.specs.Shape.{Member}
 use Rattle.sysmem_tree.specs.Sublist.{IsSublist, taken, left_out}

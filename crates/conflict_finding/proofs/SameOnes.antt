@@ -17,11 +17,11 @@ use Rattle.sysmem_image.specs.Merged.{IsMergeOf}
 use Rattle.sysmem_image.specs.Read.{IsRead, kept_of}
 use Rattle.offer_fits.proofs.CallerLemmas.{asked_all, asked_each}
 use Rattle.sysmem_merge.specs.declared.offer_read.OfferRead.{OfferRead}
-use Rattle.sysmem_merge.specs.Aggregate.{AreSizes}
-use Rattle.sysmem_merge.specs.Demands.{OfferDemand, offer_demand, offer_demands}
+use Rattle.offer_fits.specs.Sizes.{AreSizes}
+use Rattle.offer_fits.specs.Demands.{OfferDemand, offer_demand, offer_demands}
 use Rattle.sysmem_merge.specs.OfferRead.{IsOfferRead}
-use Rattle.sysmem_merge.specs.Offers.{Asks, bounds_asked, has_format, has_colour, names_format, names_modifier, names_colour}
-use Rattle.sysmem_sanitise.specs.Participant.{Participant}
+use Rattle.offer_fits.specs.Offers.{Asks, bounds_asked, has_format, has_colour, names_format, names_modifier, names_colour}
+use Rattle.negotiation_inputs.specs.Participant.{Participant}
 use Rattle.sysmem_tree.specs.Node.{NodeFacts}
 use Rattle.verdict_claims.specs.Members.{member_at, members_at, participants}
 use Rattle.verdict_claims.proofs.Cutting.{participants_among}

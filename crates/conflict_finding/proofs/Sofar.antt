@@ -10,7 +10,7 @@ use Rattle.sysmem_formats.specs.declared.offer.Pair.{Pair}
 use Rattle.sysmem_formats.specs.Offers.{offers}
 use Rattle.sysmem_memory.specs.Heap.{HeapFacts}
 use Rattle.sysmem_memory.specs.Listed.{HeapPlace, put_if, places_from}
-use Rattle.sysmem_sanitise.specs.Platform.{PlatformFacts, offers_of}
+use Rattle.negotiation_inputs.specs.Platform.{PlatformFacts, offers_of}
 use Rattle.verdict_claims.specs.Line.{LineFacts}
 use Rattle.conflict_finding.specs.Refusals.{EndsAt, AreSoFar, GoOn}
 

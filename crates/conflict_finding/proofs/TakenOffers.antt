@@ -5,9 +5,8 @@ use Rattle.std.specs.Option.{option_map_or}
 use Rattle.sysmem_formats.specs.declared.offer.Offer.{Offer}
 use Rattle.sysmem_image.specs.declared.entry.Entry.{Entry}
 use Rattle.sysmem_image.specs.Entries.{first_match, takes_colour}
-use Rattle.sysmem_merge.specs.Aggregate.{IsListed}
-use Rattle.sysmem_merge.specs.Demands.{OfferDemand}
-use Rattle.sysmem_merge.specs.Offers.{has_colour, has_format}
+use Rattle.offer_fits.specs.Offers.{IsListed, has_colour, has_format}
+use Rattle.offer_fits.specs.Demands.{OfferDemand}
 
 or_true : (t : Bool) → (t || true) ≡ true
 or_true true = refl

@@ -10,11 +10,11 @@ use Rattle.sysmem_formats.specs.declared.offer.Offer.TheVariants.{NoImage, Image
 use Rattle.sysmem_image.specs.declared.entry.Entry.{Entry}
 use Rattle.sysmem_image.specs.Read.{AreRead}
 use Rattle.sysmem_merge.specs.declared.offer_read.OfferRead.{OfferRead}
-use Rattle.sysmem_merge.specs.Demands.{OfferDemand, offer_demand, offer_demands}
+use Rattle.offer_fits.specs.Demands.{OfferDemand, offer_demand, offer_demands}
 use Rattle.sysmem_merge.specs.OfferRead.{IsOfferRead}
-use Rattle.sysmem_merge.specs.Offers.{has_format, has_colour, bounds_asked, entry_bounds, names_format, names_modifier, names_colour}
+use Rattle.offer_fits.specs.Offers.{has_format, has_colour, bounds_asked, entry_bounds, names_format, names_modifier, names_colour}
 use Rattle.sysmem_image.specs.Entries.{effective, first_match, takes_colour}
-use Rattle.sysmem_sanitise.specs.Participant.{Participant}
+use Rattle.negotiation_inputs.specs.Participant.{Participant}
 use Rattle.sysmem_tree.specs.Node.{NodeFacts}
 use Rattle.sysmem_tree.specs.Nodes.{HasNode}
 use Rattle.verdict_claims.specs.Members.{participants, member_at, members_at}

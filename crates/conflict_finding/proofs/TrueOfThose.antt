@@ -10,12 +10,13 @@ use Rattle.sysmem_image.specs.declared.entry.Entry.{Entry}
 use Rattle.sysmem_image.specs.Entries.{effective, first_match}
 use Rattle.sysmem_image.specs.Lines.{IsBoundsLine}
 use Rattle.offer_fits.specs.declared.fit.Fit.{Fit}
-use Rattle.sysmem_merge.specs.Demands.{OfferDemand, offer_demand, offer_demands}
-use Rattle.sysmem_merge.specs.Fit.{IsBestFit}
+use Rattle.offer_fits.specs.Demands.{OfferDemand, offer_demand, offer_demands}
+use Rattle.offer_fits.specs.Fit.{IsBestFit}
 use Rattle.sysmem_merge.specs.OfferRead.{IsRefusingLine}
-use Rattle.sysmem_merge.specs.Offers.{bounds_asked, entry_bounds, is_named}
-use Rattle.sysmem_merge.specs.Reasons.{IsOfferLine, IsUnnamedLine}
-use Rattle.sysmem_sanitise.specs.Participant.{Participant}
+use Rattle.offer_fits.specs.Offers.{bounds_asked, entry_bounds, is_named}
+use Rattle.offer_fits.specs.OfferLines.{IsOfferLine}
+use Rattle.sysmem_merge.specs.Reasons.{IsUnnamedLine}
+use Rattle.negotiation_inputs.specs.Participant.{Participant}
 use Rattle.sysmem_tree.specs.Shape.{Member}
 use Rattle.conflict_finding.specs.declared.whom.Whom.TheVariants.{All, WithEntries}
 use Rattle.verdict_claims.specs.Members.{participants, StandFor}

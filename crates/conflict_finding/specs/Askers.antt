@@ -1,7 +1,7 @@
 -- Participants who ask something of offers, among others.
 use Rattle.std.specs.Prelude.{◌≡◌, ◌==◌, ◌||◌, not, ℕ, Bool, List, All, Contains, filter, length}
-use Rattle.sysmem_merge.specs.Demands.{OfferDemand, offer_demand}
-use Rattle.sysmem_sanitise.specs.Participant.{Participant}
+use Rattle.offer_fits.specs.Demands.{OfferDemand, offer_demand}
+use Rattle.negotiation_inputs.specs.Participant.{Participant}
 use Rattle.sysmem_tree.specs.Node.{NodeFacts}
 use Rattle.sysmem_tree.specs.Nodes.{HasNode}
 use Rattle.verdict_claims.specs.Members.{participants, members_at}

@@ -2,10 +2,10 @@
 use Rattle.std.specs.Prelude.{◌≡◌, ◌≤◌, ◌+◌, ℕ, List, Some, All, length, slice_get, take}
 use Rattle.sysmem_formats.specs.declared.offer.Offer.{Offer}
 use Rattle.sysmem_merge.specs.declared.offer_read.OfferRead.{OfferRead}
-use Rattle.sysmem_merge.specs.Aggregate.{IsListed}
-use Rattle.sysmem_merge.specs.Demands.{offer_demand, offer_demands}
+use Rattle.offer_fits.specs.Offers.{IsListed}
+use Rattle.offer_fits.specs.Demands.{offer_demand, offer_demands}
 use Rattle.sysmem_merge.specs.OfferRead.{IsOfferRead}
-use Rattle.sysmem_sanitise.specs.Participant.{Participant}
+use Rattle.negotiation_inputs.specs.Participant.{Participant}
 use Rattle.sysmem_tree.specs.Node.{NodeFacts}
 use Rattle.verdict_claims.specs.Members.{members_at, participants}
 use Rattle.conflict_finding.specs.declared.offer_asked.OfferAsked.{OfferAsked}

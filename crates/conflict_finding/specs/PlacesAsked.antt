@@ -6,7 +6,7 @@ use Rattle.sysmem_counts.specs.declared.field.Field.{Field}
 use Rattle.sysmem_memory.specs.declared.domain.CoherencyDomain.{CoherencyDomain}
 use Rattle.sysmem_memory.specs.Heap.{HeapFacts}
 use Rattle.sysmem_memory.specs.PlaceTable.{AllowsPlace, first_refusing, refuses_by}
-use Rattle.sysmem_sanitise.specs.Participant.{Participant}
+use Rattle.negotiation_inputs.specs.Participant.{Participant}
 use Rattle.sysmem_tree.specs.Node.{NodeFacts}
 use Rattle.conflict_finding.specs.declared.places_asked.Asked.{Asked}
 use Rattle.conflict_finding.specs.declared.places_asked.PlacesAsked.{PlacesAsked}

@@ -3,11 +3,11 @@ use Rattle.std.specs.Prelude.{◌≡◌, ℕ, Bool, true, List, [], ◌∷◌, C
 use Rattle.sysmem_counts.specs.declared.field.Field.{Field}
 use Rattle.sysmem_counts.specs.declared.field.Field.TheVariants.{PixelFormat, ColorSpaces}
 use Rattle.sysmem_formats.specs.declared.offer.Offer.{Offer}
-use Rattle.sysmem_merge.specs.Demands.{OfferDemand, offer_demands}
+use Rattle.offer_fits.specs.Demands.{OfferDemand, offer_demands}
 use Rattle.sysmem_merge.specs.First.{IsFirstOf}
 use Rattle.sysmem_merge.specs.OfferRead.{IsOfferRead, IsRefusingLine, offer_lines}
-use Rattle.sysmem_merge.specs.Offers.{has_format, has_colour}
-use Rattle.sysmem_merge.specs.Reasons.{IsOfferLine}
+use Rattle.offer_fits.specs.Offers.{has_format, has_colour}
+use Rattle.offer_fits.specs.OfferLines.{IsOfferLine}
 use Rattle.sysmem_tree.specs.Node.{NodeFacts}
 use Rattle.conflict_finding.specs.declared.first_refusing.Reading.{Reading}
 use Rattle.conflict_finding.specs.declared.first_refusing.Reading.TheVariants.{Refused, Read}

@@ -1,5 +1,6 @@
 -- Lines for one after another of a platform's offers, or of its places.
-use Rattle.std.specs.Prelude.{◌≡◌, ◌≢◌, ◌⊎◌, ◌-◌, length, slice_get, Bool, true, false, List, [], ◌∷◌}
+use Rattle.std.specs.Prelude.{◌≡◌, ◌≢◌, ◌⊎◌, ◌-◌, length, slice_get, Bool, true, false, List, []}
+use Rattle.std.specs.Prelude.{◌∷◌}
 use Rattle.std.specs.Prelude.{◌++◌, Option, Some, All}
 use Rattle.std.specs.List.{AllZip}
 use Rattle.sysmem_formats.specs.declared.offer.Offer.{Offer}
@@ -7,9 +8,9 @@ use Rattle.sysmem_formats.specs.declared.offer.Offer.TheVariants.{NoImage}
 use Rattle.sysmem_memory.specs.Listed.{HeapPlace}
 use Rattle.sysmem_memory.specs.PlaceTable.{AllowsPlace}
 use Rattle.offer_fits.specs.declared.fit.Fit.{Fit}
-use Rattle.sysmem_merge.specs.Demands.{offer_demands}
-use Rattle.sysmem_merge.specs.Fit.{IsBestFit}
-use Rattle.sysmem_merge.specs.Offers.{is_named}
+use Rattle.offer_fits.specs.Demands.{offer_demands}
+use Rattle.offer_fits.specs.Fit.{IsBestFit}
+use Rattle.offer_fits.specs.Offers.{is_named}
 use Rattle.sysmem_tree.specs.Shape.{Member}
 use Rattle.conflict_finding.specs.declared.refusals.Refusals.{Refusals}
 use Rattle.conflict_finding.specs.declared.refusals.Refusals.TheVariants.{Whole, UpTo}

@@ -2,8 +2,8 @@
 use Rattle.std.specs.Prelude.{◌≡◌, ◌==◌, ℕ, Bool, true, false, not, List, filter, length, map}
 use Rattle.std.specs.Option.{option_map_or}
 use Rattle.sysmem_counts.specs.declared.field.Field.{Field}
-use Rattle.sysmem_merge.specs.Demands.{OfferDemand, offer_demand}
-use Rattle.sysmem_sanitise.specs.Participant.{Participant}
+use Rattle.offer_fits.specs.Demands.{OfferDemand, offer_demand}
+use Rattle.negotiation_inputs.specs.Participant.{Participant}
 use Rattle.sysmem_tree.specs.Node.{NodeFacts}
 use Rattle.sysmem_tree.specs.Shape.{Member}
 use Rattle.conflict_finding.specs.declared.whom.Named.{Named}

@@ -5,8 +5,8 @@ ghost use Rattle.std.specs.Option.{option_map_or};
 ghost use Rattle.conflict_finding.specs.Askers.{AreAskers, is_asker};
 ghost use Rattle.sysmem_tree.specs.Nodes.{HasNode};
 
+use negotiation_inputs::Constraints;
 use std::alloc::{AllocError, Global};
-use sysmem_sanitise::Constraints;
 use sysmem_tree::{NodeId, Tree};
 
 /// Whether a participant has entries, or wants other sizes of buffers than any.

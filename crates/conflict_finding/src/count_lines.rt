@@ -6,7 +6,7 @@ ghost use Rattle.sysmem_counts.specs.Counts.{IsCounted, IsFixedCountLine};
 ghost use Rattle.sysmem_counts.specs.declared.bounds.TheConstants.{BUFFER_COUNT_LIMIT};
 ghost use Rattle.sysmem_counts.specs.declared.constraints.CountConstraints.{CountConstraints as Counted};
 ghost use Rattle.sysmem_counts.specs.declared.field.Field.TheVariants.{MinBufferCount, MaxBufferCount};
-ghost use Rattle.sysmem_merge.specs.Demands.{counts_asked};
+ghost use Rattle.offer_fits.specs.Demands.{counts_asked};
 ghost use Rattle.sysmem_merge.specs.First.{IsFirstOf};
 ghost use Rattle.sysmem_tree.specs.declared.tree.TheConstants.{MOST_NODES};
 ghost use Rattle.verdict_claims.specs.Members.{members_at, participants};

@@ -28,13 +28,13 @@ use crate::learnt::Learnt;
 use crate::refusals::{Refusals, refused_offers, refused_places};
 use crate::subject::Subject;
 use crate::whom::{Whom, line_of};
+use negotiation_inputs::Platform;
 use std::alloc::{AllocError, Global};
 use sysmem_merge::Settings;
 use sysmem_merge::laws::{
     count_line_leaves_none, offer_line_leaves_none, place_line_leaves_none,
     unnamed_line_leaves_none,
 };
-use sysmem_sanitise::Platform;
 use sysmem_tree::laws::{members_stand_once, one_forest, one_path};
 use sysmem_tree::layout_laws::choices_leave_one_forest;
 use sysmem_tree::{DomainId, Layout, NodeId, Prefix, Tree};

@@ -4,11 +4,11 @@ ghost use Rattle.std.specs.Prelude.{◌≡◌, ◌<◌, true, false, [], ◌∷�
 ghost use Rattle.std.specs.List.{cons_option};
 ghost use Rattle.sysmem_counts.specs.declared.field.Field.TheVariants.{ColorSpaces, PixelFormat};
 ghost use Rattle.sysmem_memory.specs.PlaceTable.{AllowsPlace, first_refusing, refuses_by};
-ghost use Rattle.sysmem_merge.specs.Demands.{OfferDemand, offer_demand, offer_demands};
+ghost use Rattle.offer_fits.specs.Demands.{OfferDemand, offer_demand, offer_demands};
 ghost use Rattle.sysmem_merge.specs.Failing.{FailsOn, IsFirstUncovered};
 ghost use Rattle.sysmem_merge.specs.OfferRead.{IsOfferRead};
-ghost use Rattle.sysmem_merge.specs.Offers.{has_colour, has_format};
-ghost use Rattle.sysmem_merge.specs.Reasons.{IsOfferLine};
+ghost use Rattle.offer_fits.specs.Offers.{has_colour, has_format};
+ghost use Rattle.offer_fits.specs.OfferLines.{IsOfferLine};
 ghost use Rattle.sysmem_merge.specs.Settings.{CoversOn};
 ghost use Rattle.verdict_claims.specs.FirstConflict.{IsFirstWithout};
 ghost use Rattle.verdict_claims.specs.Members.{members_at, participants};
@@ -20,13 +20,13 @@ ghost use Rattle.sysmem_tree.specs.Path.{path_of};
 
 use crate::offers_asked::OffersAsked;
 use crate::places_asked::PlacesAsked;
+use negotiation_inputs::{Constraints, Platform};
 use std::alloc::AllocError;
 use sysmem_counts::Field;
 use sysmem_formats::Offer;
 use sysmem_image::{Entry, entry_for, takes_colour};
 use sysmem_memory::{HeapInfo, Place};
 use sysmem_merge::{OfferRead, Settings, first_uncovered};
-use sysmem_sanitise::{Constraints, Platform};
 use sysmem_tree::{NodeId, Tree};
 use verdict_claims::add_read;
 

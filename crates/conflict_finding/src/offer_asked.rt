@@ -3,19 +3,19 @@
 ghost use Rattle.std.specs.Prelude.{◌≡◌, ◌≤◌, List, [], All, IfOk, IsTrue, length, option_map, take};
 ghost use Rattle.std.specs.List.{cons_option};
 ghost use Rattle.sysmem_formats.specs.declared.offer.Offer.{Offer as Offered};
-ghost use Rattle.sysmem_merge.specs.Demands.{offer_demands};
+ghost use Rattle.offer_fits.specs.Demands.{offer_demands};
 ghost use Rattle.sysmem_merge.specs.OfferRead.{IsOfferRead};
-ghost use Rattle.sysmem_sanitise.specs.Participant.{Participant};
+ghost use Rattle.negotiation_inputs.specs.Participant.{Participant};
 ghost use Rattle.sysmem_tree.specs.Node.{NodeFacts};
 ghost use Rattle.sysmem_tree.specs.Nodes.{HasNode};
 ghost use Rattle.verdict_claims.specs.Members.{members_at, participants};
 ghost use Rattle.conflict_finding.specs.OfferAsked.{AreFrontReads, IsOfferAsked, TakesOffer};
 
+use negotiation_inputs::Constraints;
 use std::alloc::{AllocError, Global};
 use sysmem_formats::Offer;
 use sysmem_image::{Entry, entry_for, takes_colour};
 use sysmem_merge::OfferRead;
-use sysmem_sanitise::Constraints;
 use sysmem_tree::{NodeId, Tree};
 use verdict_claims::add_read;
 

@@ -1,7 +1,7 @@
 //! What participants said of offers, kept from one conflict to the next.
 
 ghost use Rattle.std.specs.Prelude.{◌≡◌, ◌<◌, ◌≤◌, List, Some, All, IfOk, IfSome, IsTrue, OnOk, length, slice_get, take};
-ghost use Rattle.sysmem_merge.specs.Demands.{offer_demands};
+ghost use Rattle.offer_fits.specs.Demands.{offer_demands};
 ghost use Rattle.sysmem_merge.specs.OfferRead.{IsOfferRead};
 ghost use Rattle.sysmem_tree.specs.Node.{NodeFacts};
 ghost use Rattle.sysmem_tree.specs.Nodes.{HasNode};

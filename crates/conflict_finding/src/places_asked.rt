@@ -8,10 +8,10 @@ ghost use Rattle.conflict_finding.specs.PlacesAsked.{AreAsked, AreSlots, IsAsked
 ghost use Rattle.sysmem_tree.specs.Node.{NodeFacts};
 ghost use Rattle.sysmem_tree.specs.Nodes.{HasNode};
 
+use negotiation_inputs::{Constraints, Platform};
 use std::alloc::{AllocError, Global};
 use sysmem_counts::Field;
 use sysmem_memory::{CoherencyDomain, HeapInfo, MOST_HEAPS, Place, refuses};
-use sysmem_sanitise::{Constraints, Platform};
 use sysmem_tree::{NodeId, Tree};
 
 /// For how many participants there are slots.

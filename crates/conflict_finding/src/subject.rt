@@ -8,9 +8,9 @@ ghost use Rattle.sysmem_tree.specs.OpenGroups.{HoldsNodes};
 ghost use Rattle.sysmem_tree.specs.Shape.{by_number, forest_of};
 ghost use Rattle.verdict_claims.specs.Base.{IsGivenBase};
 
+use negotiation_inputs::Platform;
 use std::alloc::Global;
 use std::marker::Model;
-use sysmem_sanitise::Platform;
 use sysmem_tree::{DomainId, Layout, Tree};
 use verdict_claims::Base;
 

@@ -8,9 +8,9 @@ ghost use Rattle.conflict_finding.specs.Whom.{NamesThose, line_on, names};
 ghost use Rattle.sysmem_tree.specs.Nodes.{HasNode};
 
 use crate::alone_lines::{AloneLines, with_alone};
+use negotiation_inputs::Constraints;
 use std::alloc::{AllocError, Global};
 use sysmem_counts::{CountConstraints, Field};
-use sysmem_sanitise::Constraints;
 use sysmem_tree::{NodeId, Tree};
 use verdict_claims::{Line, PathList};
 

@@ -2,7 +2,7 @@
 use Rattle.std.specs.Prelude.{ℕ, List, Some, set, slice_get}
 use Rattle.std.specs.Option.{option_map_or}
 use Rattle.serde_json.specs.Data.{Data}
-use Rattle.sysmem_sanitise.specs.Platform.{PlatformFacts}
+use Rattle.negotiation_inputs.specs.Platform.{PlatformFacts}
 use Rattle.script_reading.specs.Call.{states}
 use Rattle.script_reading.specs.Script.{CallFacts}
 use Rattle.script_story.specs.Told.{IsReportedOn}

@@ -1,8 +1,8 @@
 //! What participants ask after changes.
 
 use crate::parts::Part;
+use negotiation_inputs::Constraints;
 use std::alloc::{AllocError, Global};
-use sysmem_sanitise::Constraints;
 
 /// What a participant asks after some changes of its own.
 #[derive(Drop)]

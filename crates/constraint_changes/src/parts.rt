@@ -4,10 +4,10 @@ use crate::trials::{Change, asked_after, read_asked};
 use crate::walk::Run;
 use constraint_edits::{Amount, Changed, Edit, edited, edited_to, leave_out};
 use explanation_text::Gathered;
+use negotiation_inputs::Constraints;
 use serde_json::{Value, put};
 use std::alloc::{AllocError, Global};
 use sysmem_memory::HeapInfo;
-use sysmem_sanitise::Constraints;
 use value_sources::Asked;
 
 const MEMORY: &str = "buffer_memory_constraints";

@@ -4,10 +4,10 @@ use crate::passed_over::tell_passed_over;
 use crate::selecting::{Empty, tell_left_out};
 use explanation_text::wording::put_few;
 use explanation_text::{Gathered, Items, Text, Words};
+use negotiation_inputs::Platform;
 use script_story::{Domain, Story, asked_in, put_domain};
 use settings_reasons::tell_settings;
 use std::alloc::{AllocError, Global};
-use sysmem_sanitise::Platform;
 
 /// How many choices are named.
 pub(crate) const MOST_CHOICES: usize = 6;

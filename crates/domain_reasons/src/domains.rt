@@ -6,9 +6,9 @@ use crate::exchanged::{are_exchanged, is_named_so, states_usage, usage_meant, us
 use crate::failing::{tell_failed, tell_none, tell_too_many};
 use explanation_text::wording::put_few;
 use explanation_text::{Gathered, Items, Kind, Text, Words};
+use negotiation_inputs::Platform;
 use script_story::{Deed, Domain, Story, asked_in, put_domain};
 use std::alloc::{AllocError, Global};
-use sysmem_sanitise::Platform;
 use value_sources::Asked;
 
 /// How many participants are named.

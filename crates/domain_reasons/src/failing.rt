@@ -5,13 +5,13 @@ use crate::choosing::groups_in;
 use crate::selecting::{Empty, MOST_TOLD, tell_empty};
 use explanation_text::wording::{MOST_NAMES, put_few};
 use explanation_text::{Gathered, Items, Name, Text, Words};
+use negotiation_inputs::Platform;
 use script_reading::Act;
 use script_story::{Deed, Domain, Made, Story, asked_in, left_out};
 use settings_reasons::{failing, tell_misfits};
 use std::alloc::{AllocError, Global};
 use sysmem_counts::Field;
 use sysmem_merge::Settings;
-use sysmem_sanitise::Platform;
 use value_sources::{Asked, why_needed};
 
 /// Tells why a domain failed.

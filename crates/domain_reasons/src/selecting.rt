@@ -3,10 +3,10 @@
 use crate::choosing::MOST_CHOICES;
 use explanation_text::wording::{put_few, put_joined};
 use explanation_text::{Gathered, Items, Name, Text, Words, are_same};
+use negotiation_inputs::Platform;
 use script_story::{Story, asked_by};
 use settings_reasons::{is_unmet, tell_conflict};
 use std::alloc::{AllocError, Global};
-use sysmem_sanitise::Platform;
 use value_sources::Asked;
 
 /// How many failing selections are told.

@@ -4,9 +4,9 @@ use crate::answer::answer_of;
 use crate::domains::tell_domain;
 use crate::selecting::{Empty, tell_left_out};
 use explanation_text::{Items, Kind, Words};
+use negotiation_inputs::Platform;
 use script_story::{Story, refused_words};
 use std::alloc::AllocError;
-use sysmem_sanitise::Platform;
 
 /// How many lines are told of a domain.
 const MOST: usize = 8;

@@ -10,7 +10,7 @@ use Rattle.sysmem_formats.specs.declared.offer.Pair.{Pair}
 use Rattle.sysmem_image.specs.Corners.{IsCorner, RefusesCorner}
 use Rattle.sysmem_image.specs.Laws.{NoCorner}
 use Rattle.sysmem_image.specs.declared.size.Corner.{Corner}
-use Rattle.sysmem_merge.specs.Sound.{HoldsImage}
+use Rattle.offer_fits.specs.Sound.{HoldsImage}
 use Rattle.sysmem_merge.specs.declared.settings.Settings.{Settings}
 use Rattle.flat_negotiation.specs.Written.{HasImage}
 

@@ -5,8 +5,8 @@ use Rattle.sysmem_formats.specs.declared.colour_space.ColourSpace.{ColourSpace}
 use Rattle.sysmem_formats.specs.declared.offer.Offer.{Offer}
 use Rattle.sysmem_formats.specs.declared.offer.Offer.TheVariants as offer
 use Rattle.sysmem_formats.specs.declared.offer.Pair.{Pair}
-use Rattle.sysmem_merge.specs.Demands.{offer_demands}
-use Rattle.sysmem_merge.specs.Reasons.{IsOfferLine}
+use Rattle.offer_fits.specs.Demands.{offer_demands}
+use Rattle.offer_fits.specs.OfferLines.{IsOfferLine}
 use Rattle.negotiation_inputs.specs.Participant.{Participant}
 use Rattle.negotiation_inputs.specs.Platform.{PlatformFacts}
 use Rattle.flat_negotiation.specs.Takes.{take_format}

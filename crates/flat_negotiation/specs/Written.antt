@@ -9,7 +9,8 @@ use Rattle.sysmem_image.specs.Corners.{IsCorner}
 use Rattle.sysmem_image.specs.declared.size.Corner.{Corner}
 use Rattle.sysmem_memory.specs.declared.domain.CoherencyDomain.{CoherencyDomain}
 use Rattle.sysmem_memory.specs.declared.domain.CoherencyDomain.TheVariants.{Cpu, Ram, Inaccessible}
-use Rattle.sysmem_merge.specs.Fit.{IsSoundFit, fit_of}
+use Rattle.offer_fits.specs.Fit.{IsSoundFit}
+use Rattle.sysmem_merge.specs.Fit.{fit_of}
 use Rattle.sysmem_merge.specs.declared.settings.Settings.{Settings}
 use Rattle.flat_negotiation.specs.Colours.{colour_bit}
 use Rattle.flat_negotiation.specs.Layout.{IsPairLayout, no_layout}

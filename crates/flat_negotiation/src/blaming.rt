@@ -1,7 +1,7 @@
 //! The field of a participant that is in the way.
 
 ghost use Rattle.std.specs.Prelude.{◌≡◌, Some, IfSome};
-ghost use Rattle.sysmem_merge.specs.Demands.{offer_demands};
+ghost use Rattle.offer_fits.specs.Demands.{offer_demands};
 ghost use Rattle.sysmem_merge.specs.OfferRead.{IsOfferRead};
 ghost use Rattle.flat_negotiation.specs.Takes.{take_format, told_line};
 ghost use Rattle.flat_negotiation.specs.Blame.{IsFieldOf, IsOfferField, IsPlaceField, IsToldOffer, alone, shared_offer, told_of, told_reason, up_to};

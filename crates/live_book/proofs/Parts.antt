@@ -4,7 +4,7 @@ use Rattle.book_events.specs.declared.entry.Entry.{Entry}
 use Rattle.node_names.specs.Names.{NamedNode}
 use Rattle.sysmem_alloc.specs.Book.{BookFacts}
 use Rattle.sysmem_alloc.specs.Entry.{entry_in}
-use Rattle.sysmem_sanitise.specs.Platform.{PlatformFacts}
+use Rattle.negotiation_inputs.specs.Platform.{PlatformFacts}
 use Rattle.sysmem_tree.specs.Domain.{TreeFacts}
 use Rattle.live_book.specs.Collection.{CollectionFacts}
 use Rattle.live_book.specs.Snapshot.{IsCopyOf, IsSettled, IsSettledPart}

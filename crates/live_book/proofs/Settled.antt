@@ -10,7 +10,7 @@ use Rattle.sysmem_alloc.specs.Book.{BookFacts, IsBook}
 use Rattle.sysmem_alloc.specs.Entry.{BookEntry, Acted, Decided, deed_with, entry_in}
 use Rattle.sysmem_alloc.specs.History.{AreAllowed, after_entry, replay, replay_from}
 use Rattle.sysmem_alloc.specs.State.{State, first_state, next_ready}
-use Rattle.sysmem_sanitise.specs.Platform.{PlatformFacts}
+use Rattle.negotiation_inputs.specs.Platform.{PlatformFacts}
 use Rattle.sysmem_tree.specs.ActionKind.{Deed}
 use Rattle.sysmem_tree.specs.Node.{NodeFacts}
 use Rattle.live_book.specs.Eager.{ArePrompt, IsEager, IsPrompt}

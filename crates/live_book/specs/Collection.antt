@@ -2,7 +2,7 @@
 use Rattle.std.specs.Prelude.{List, []}
 use Rattle.node_names.specs.Names.{NamedNode}
 use Rattle.sysmem_alloc.specs.Book.{BookFacts, new_book}
-use Rattle.sysmem_sanitise.specs.Platform.{PlatformFacts}
+use Rattle.negotiation_inputs.specs.Platform.{PlatformFacts}
 
 -- its book, and the names that nodes were given
 pub record CollectionFacts : Type 0 where

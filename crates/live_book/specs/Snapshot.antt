@@ -8,7 +8,7 @@ use Rattle.sysmem_alloc.specs.Book.{BookFacts}
 use Rattle.sysmem_alloc.specs.Entry.{BookEntry, Acted, Decided}
 use Rattle.sysmem_alloc.specs.History.{IsLegal, replay}
 use Rattle.sysmem_alloc.specs.State.{next_ready}
-use Rattle.sysmem_sanitise.specs.Platform.{PlatformFacts}
+use Rattle.negotiation_inputs.specs.Platform.{PlatformFacts}
 use Rattle.sysmem_tree.specs.Domain.{TreeFacts}
 use Rattle.live_book.specs.Collection.{CollectionFacts}
 use Rattle.live_book.specs.Eager.{IsEager}

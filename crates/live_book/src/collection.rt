@@ -4,11 +4,11 @@ ghost use Rattle.std.specs.Prelude.{◌≡◌, IfOk};
 ghost use Rattle.live_book.specs.Collection.{collection_of, new_collection};
 ghost use Rattle.live_book.specs.Eager.{IsEager};
 
+use negotiation_inputs::Platform;
 use node_names::Names;
 use std::alloc::{AllocError, Global};
 use std::marker::Model;
 use sysmem_alloc::Book;
-use sysmem_sanitise::Platform;
 
 /// A book, in which no action was made while a domain waited for a decision, and the names that
 /// nodes were given.

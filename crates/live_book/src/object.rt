@@ -3,8 +3,8 @@
 use crate::collection::Collection;
 use crate::decision::Decision;
 use crate::snapshot::Snapshot;
+use negotiation_inputs::{Constraints, Platform};
 use std::sync::Arc;
-use sysmem_sanitise::{Constraints, Platform};
 
 /// What lies behind a handle of C.
 #[derive(Drop)]

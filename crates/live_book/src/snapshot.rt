@@ -10,12 +10,13 @@ ghost use Rattle.live_book.specs.Snapshot.{IsCopyOf, IsKeptAction, IsKeptDecisio
 
 use crate::acting::is_waited_for;
 use crate::collection::Collection;
+use book_events::Entry;
+use negotiation_inputs::Platform;
 use node_names::Names;
 use std::alloc::{AllocError, Global};
 use std::marker::Model;
 use std::sync::Arc;
-use sysmem_alloc::{Book, Entry};
-use sysmem_sanitise::Platform;
+use sysmem_alloc::Book;
 use sysmem_tree::Tree;
 use verdict_claims::Claim;
 

@@ -7,7 +7,7 @@ use Rattle.live_book.specs.Collection.{new_collection}
 use Rattle.live_book.specs.Decision.{DecisionFacts}
 use Rattle.live_calls.specs.Deciding.{Decides, decides, decide_starves}
 use Rattle.live_calls.specs.Opening.{Opens, opens, open_starves}
-use Rattle.sysmem_sanitise.specs.Platform.{PlatformFacts}
+use Rattle.negotiation_inputs.specs.Platform.{PlatformFacts}
 
 -- it was put there, or all is as it was
 abbrev pub Put : ℕ → Type 0 → Option Object → Option Object → Type 0

@@ -1,7 +1,6 @@
 -- What structs state is put into a handle, or memory is refused.
 use Rattle.std.proofs.Common.{◌≡◌, ℕ, inl, inr, Option, Some, refl, subst, sym}
-use Rattle.flat_negotiation.specs.Said.{IsParticipantAmiss, IsParticipantSaid}
-use Rattle.flat_negotiation.specs.Said.{IsPlatformAmiss, IsPlatformSaid}
+use Rattle.flat_negotiation.specs.Said.{IsParticipantAmiss, IsParticipantSaid, IsPlatformAmiss, IsPlatformSaid}
 use Rattle.flat_negotiation.specs.Unsaid.{IfAmiss}
 use Rattle.flat_negotiation.specs.declared.parts.unsaid.Unsaid.{Unsaid}
 use Rattle.flat_negotiation.specs.declared.parts.unsaid.Unsaid.TheVariants.{NoMemory, Misstated}
@@ -12,12 +11,10 @@ use Rattle.flat_negotiation.specs.declared.parts.flat.FlatPlatform.{FlatPlatform
 use Rattle.live_book.specs.declared.object.Object.{Object}
 use Rattle.live_book.specs.declared.object.Object.TheVariants.{Platform}
 use Rattle.live_calls.specs.Behind.{constraints_in}
-use Rattle.live_calls.specs.Making.{PutsConstraints, puts_constraints, refuses_constraints, constraints_starve}
-use Rattle.live_calls.specs.Making.{PutsPlatform, puts_platform, refuses_platform, platform_starves}
-use Rattle.live_calls.specs.Making.{TellsUnsaid}
+use Rattle.live_calls.specs.Making.{PutsConstraints, puts_constraints, refuses_constraints, constraints_starve, PutsPlatform, puts_platform, refuses_platform, platform_starves, TellsUnsaid}
 use Rattle.live_calls.proofs.Endings.{Put}
 use Rattle.negotiation_inputs.specs.Participant.{Participant}
-use Rattle.sysmem_sanitise.specs.Platform.{PlatformFacts}
+use Rattle.negotiation_inputs.specs.Platform.{PlatformFacts}
 
 pub platform_by : (flat : FlatPlatform) (old new : Option Object) (why : FlatRefusal) (p : PlatformFacts) (r : ℕ) → IsPlatformSaid flat p → Put r (new ≡ Some (Platform p)) old new → PutsPlatform flat old new why why r
 platform_by flat old new why p r said (inl put) = subst (λ k. PutsPlatform flat old new why why k) (sym put.0) (puts_platform p said put.1 refl)

@@ -2,9 +2,10 @@
 use Rattle.std.proofs.Common.{◌≡◌, refl}
 use Rattle.sysmem_formats.specs.declared.offer.Offer.{Offer}
 use Rattle.sysmem_formats.specs.declared.offer.Offer.TheVariants.{NoImage, Image}
-use Rattle.sysmem_merge.specs.Fit.{IsSoundFit, fit_of}
+use Rattle.offer_fits.specs.Fit.{IsSoundFit}
+use Rattle.sysmem_merge.specs.Fit.{fit_of}
 use Rattle.sysmem_merge.specs.declared.settings.Settings.{Settings}
-use Rattle.sysmem_sanitise.specs.Platform.{PlatformFacts}
+use Rattle.negotiation_inputs.specs.Platform.{PlatformFacts}
 use Rattle.flat_negotiation.specs.Written.{CanBeWritten, HoldsOffer}
 use Rattle.live_calls.specs.Settings.{HasCode, IsWritable}
 

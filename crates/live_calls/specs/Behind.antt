@@ -7,7 +7,7 @@ use Rattle.live_book.specs.declared.object.Object.TheVariants.{Collection, Const
 use Rattle.live_book.specs.declared.object.Object.TheVariants.{Platform}
 use Rattle.live_book.specs.Collection.{CollectionFacts}
 use Rattle.live_book.specs.Decision.{DecisionFacts}
-use Rattle.sysmem_sanitise.specs.Platform.{PlatformFacts}
+use Rattle.negotiation_inputs.specs.Platform.{PlatformFacts}
 
 -- no collection
 abbrev pub IsNoCollection : Option Object → Type 0

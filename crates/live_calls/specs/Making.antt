@@ -15,7 +15,7 @@ use Rattle.live_book.specs.declared.object.Object.{Object}
 use Rattle.live_book.specs.declared.object.Object.TheVariants.{Platform}
 use Rattle.live_calls.specs.Behind.{constraints_in}
 use Rattle.negotiation_inputs.specs.Participant.{Participant}
-use Rattle.sysmem_sanitise.specs.Platform.{PlatformFacts}
+use Rattle.negotiation_inputs.specs.Platform.{PlatformFacts}
 
 -- why structs state nothing is told: what is amiss, or that memory was refused
 abbrev pub TellsUnsaid : (Amiss → Unsettled) → Unsaid → FlatRefusal → FlatRefusal → ℕ → Type 0

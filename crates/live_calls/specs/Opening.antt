@@ -5,7 +5,7 @@ use Rattle.live_book.specs.declared.object.Object.TheVariants.{Collection, Platf
 use Rattle.live_book.specs.Collection.{CollectionFacts, new_collection}
 use Rattle.live_book.specs.Snapshot.{IsCopyOf, SnapshotFacts}
 use Rattle.live_calls.specs.Behind.{IsNoCollection, IsNoPlatform}
-use Rattle.sysmem_sanitise.specs.Platform.{PlatformFacts}
+use Rattle.negotiation_inputs.specs.Platform.{PlatformFacts}
 
 -- a new collection for an allocator's platform comes behind a handle
 pub data Opens (allocator old new : Option Object) : ℕ → Type 0 where

@@ -10,9 +10,9 @@ ghost use Rattle.live_calls.specs.Numbers.{action_at};
 use crate::statuses::{DONE, MISUSED, action_of, denial_status};
 use live_book::{Object, act};
 use live_held::Held;
+use negotiation_inputs::Constraints;
 use std::alloc::Global;
 use std::sync::Arc;
-use sysmem_sanitise::Constraints;
 use sysmem_tree::Action;
 
 /// Makes an action on an object.

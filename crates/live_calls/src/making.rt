@@ -13,9 +13,9 @@ use flat_negotiation::{
 };
 use live_book::Object;
 use live_held::Held;
+use negotiation_inputs::Constraints;
 use std::alloc::Global;
 use std::sync::Arc;
-use sysmem_sanitise::Constraints;
 
 /// Puts the platform that structs state into a handle.
 pub fn put_platform(

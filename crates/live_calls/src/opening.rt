@@ -8,8 +8,8 @@ ghost use Rattle.live_calls.specs.Opening.{Opens};
 use crate::statuses::{DONE, MISUSED, NO_MEMORY};
 use live_book::{Collection, Object};
 use live_held::Held;
+use negotiation_inputs::Platform;
 use std::alloc::{AllocError, Global};
-use sysmem_sanitise::Platform;
 
 /// Puts an object into a handle.
 pub(crate) fn put_new(alloc: Global, object: Object, held: &mut Held) -> u32

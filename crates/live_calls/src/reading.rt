@@ -11,9 +11,11 @@ use crate::opening::put_new;
 use crate::statuses::{NO_MEMORY, REFUSED, code_number};
 use live_book::Object;
 use live_held::Held;
+use negotiation_inputs::{Constraints, Platform};
+use record_reading::{Code, Fault, read_platform};
 use serde_json::Value;
 use std::alloc::Global;
-use sysmem_sanitise::{Code, Constraints, Fault, Platform, read_constraints, read_platform};
+use sysmem_sanitise::read_constraints;
 
 /// Why a record states nothing.
 #[derive(Clone, Copy, Debug, Drop)]

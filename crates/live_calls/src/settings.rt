@@ -5,9 +5,9 @@ ghost use Rattle.flat_negotiation.specs.Written.{IsWritten};
 ghost use Rattle.live_calls.specs.Settings.{HasCode, IsShown, IsWritable, without_image};
 
 use flat_negotiation::{FlatSettings, domain_code, no_image, settings_of};
+use negotiation_inputs::Platform;
 use sysmem_formats::{Offer, PixelFormat};
 use sysmem_merge::{Settings, is_sound};
-use sysmem_sanitise::Platform;
 
 /// Whether C has a code for the format of an offer.
 fn has_code(offer: Offer) -> bool

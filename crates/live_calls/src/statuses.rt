@@ -5,7 +5,7 @@ ghost use Rattle.live_calls.specs.Numbers.{action_at, code_number, status_of, de
 ghost use Rattle.sysmem_tree.specs.ActionKind.{deed_of};
 
 use live_book::Denial;
-use sysmem_sanitise::Code;
+use record_reading::Code;
 use sysmem_tree::{Action, Refusal};
 
 /// The call did what it is for.

@@ -11,7 +11,7 @@ use Rattle.script_replay.specs.State.{RunState, acted, first_run_state, names_gi
 use Rattle.sysmem_alloc.specs.Decision.{DomainVerdict, choices_of}
 use Rattle.sysmem_alloc.specs.Entry.{Acted}
 use Rattle.sysmem_alloc.specs.History.{after_answer}
-use Rattle.sysmem_sanitise.specs.Platform.{PlatformFacts}
+use Rattle.negotiation_inputs.specs.Platform.{PlatformFacts}
 use Rattle.sysmem_tree.proofs.CallerLemmas.{accepted, IsAccepted}
 use Rattle.sysmem_tree.specs.ActionKind.{Deed, kind_of}
 use Rattle.sysmem_tree.specs.Domain.{TreeFacts}

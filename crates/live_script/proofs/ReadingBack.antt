@@ -5,7 +5,7 @@ use Rattle.std.specs.Arc.{arc_value}
 use Rattle.certificate_text.specs.Told.{decision_data}
 use Rattle.live_script.specs.Texts.{certified_of}
 use Rattle.record_reading.specs.Reading.{participant_of}
-use Rattle.sysmem_sanitise.specs.Platform.{PlatformFacts}
+use Rattle.negotiation_inputs.specs.Platform.{PlatformFacts}
 use Rattle.sysmem_tree.specs.Path.{path_of}
 use Rattle.verdict_claims.specs.declared.certificate.Claim.{Claim}
 use Rattle.std.proofs.lemmas.List.{map-append}
@@ -26,7 +26,7 @@ use Rattle.script_replay.specs.Answer.{AsksFor, to_duplicate, to_create_group, t
 use Rattle.serde_json.specs.Data.{Data}
 use Rattle.sysmem_alloc.specs.Decision.{Claimed}
 use Rattle.sysmem_alloc.specs.Entry.{BookEntry, Acted, Decided, deed_with, entry_in}
-use Rattle.sysmem_sanitise.specs.Participant.{Participant}
+use Rattle.negotiation_inputs.specs.Participant.{Participant}
 use Rattle.sysmem_tree.specs.ActionKind.{Deed, sets}
 use Rattle.sysmem_tree.specs.Node.{NodeFacts}
 use Rattle.sysmem_tree.specs.declared.action.ActionKind.{ActionKind}

@@ -17,8 +17,8 @@ use Rattle.sysmem_alloc.specs.Laws.{LegalIsSound, NumbersStay}
 use Rattle.sysmem_alloc.specs.State.{State, base_of}
 use Rattle.sysmem_merge.specs.Best.{IsUnmet}
 use Rattle.sysmem_proof.proofs.CallerLemmas.{asked_of_settled, meets_in_order}
-use Rattle.sysmem_sanitise.specs.Participant.{Participant}
-use Rattle.sysmem_sanitise.specs.Platform.{PlatformFacts}
+use Rattle.negotiation_inputs.specs.Participant.{Participant}
+use Rattle.negotiation_inputs.specs.Platform.{PlatformFacts}
 use Rattle.sysmem_tree.specs.Domain.{HasDomain, TreeFacts, host_number}
 use Rattle.sysmem_tree.specs.Forest.{settled}
 use Rattle.sysmem_tree.specs.Laws.{AreStill, OneForest, OnePath}

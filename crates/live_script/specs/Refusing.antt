@@ -16,7 +16,7 @@ use Rattle.sysmem_alloc.specs.Decision.{verdict_in}
 use Rattle.sysmem_alloc.specs.Entry.{BookEntry, Acted, Decided}
 use Rattle.sysmem_merge.specs.Best.{IsBest}
 use Rattle.sysmem_merge.specs.declared.settings.Settings.{Settings}
-use Rattle.sysmem_sanitise.specs.Participant.{Participant}
+use Rattle.negotiation_inputs.specs.Participant.{Participant}
 use Rattle.sysmem_tree.specs.Domain.{host_number}
 use Rattle.sysmem_tree.specs.Layout.{is_group}
 use Rattle.sysmem_tree.specs.Node.{NodeFacts}

@@ -9,7 +9,7 @@ use Rattle.live_book.specs.declared.object.Object.TheVariants.{Snapshot}
 use Rattle.live_script.specs.Script.{IsScriptOf}
 use Rattle.serde_json.specs.Data.{Data}
 use Rattle.sysmem_alloc.specs.Entry.{BookEntry, Acted, Decided}
-use Rattle.sysmem_sanitise.specs.Platform.{PlatformFacts}
+use Rattle.negotiation_inputs.specs.Platform.{PlatformFacts}
 use Rattle.sysmem_tree.specs.Node.{NodeFacts}
 use Rattle.sysmem_tree.specs.Path.{path_of}
 

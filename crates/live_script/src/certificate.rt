@@ -9,11 +9,11 @@ ghost use Rattle.sysmem_alloc.specs.Entry.{entry_in};
 ghost use Rattle.sysmem_tree.specs.Domain.{HasDomain};
 
 use crate::script::Unwritten;
+use book_events::Entry;
 use certificate_text::CertificateWriter;
 use live_book::Snapshot;
 use std::alloc::Global;
 use std::sync::Arc;
-use sysmem_alloc::Entry;
 use sysmem_tree::{DomainId, Tree};
 use verdict_claims::Claim;
 

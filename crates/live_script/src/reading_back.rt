@@ -14,13 +14,15 @@ ghost use Rattle.sysmem_tree.specs.ActionKind.{sets};
 ghost use Rattle.sysmem_tree.specs.Nodes.{HasNode};
 ghost use Rattle.verdict_claims.specs.Asked.{asks_at};
 
+use book_events::Entry;
 use live_book::Snapshot;
+use negotiation_inputs::Constraints;
 use node_names::Names;
+use record_reading::Code;
 use script_reading::{Act, Call, ParseFault, parse_script, read_script};
 use serde_json::Value;
 use std::alloc::{AllocError, Global};
-use sysmem_alloc::Entry;
-use sysmem_sanitise::{Code, Constraints, read_constraints};
+use sysmem_sanitise::read_constraints;
 use sysmem_tree::{ActionKind, NodeId, Tree};
 
 /// Whether a text is read back as the platform and the actions of a collection. `AllocError` where

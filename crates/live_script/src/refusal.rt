@@ -19,16 +19,16 @@ ghost use Rattle.sysmem_tree.specs.Nodes.{HasNode};
 ghost use Rattle.sysmem_tree.specs.declared.tree.TheConstants.{MOST_NODES};
 ghost use Rattle.verdict_claims.specs.Asked.{asked_in, asks_at};
 
+use book_events::Entry;
 use flat_negotiation::{FlatRefusal, Unsettled, refusal_of, settled};
 use live_book::{Object, Snapshot};
 use live_calls::{DONE, MISUSED, NO, NO_MEMORY};
 use live_held::Held;
+use negotiation_inputs::Constraints;
 use record_writing::copy_constraints;
 use std::alloc::{AllocError, Global};
 use std::sync::Arc;
-use sysmem_alloc::Entry;
 use sysmem_merge::Settings;
-use sysmem_sanitise::Constraints;
 use sysmem_tree::{DomainId, NodeId, NodeKind, Tree};
 use verdict_claims::{Claim, Verdict};
 

@@ -5,12 +5,12 @@ ghost use Rattle.live_script.specs.Script.{IsScriptOf};
 
 use crate::laws::settled_calls_recur;
 use crate::reading_back::reads_back;
+use book_events::Entry;
 use live_book::Snapshot;
 use node_names::Names;
 use record_writing::{write_constraints, write_platform};
 use serde_json::Value;
 use std::alloc::{AllocError, Global};
-use sysmem_alloc::Entry;
 use sysmem_tree::{ActionKind, NodeId, Tree};
 
 fn word_of(kind: ActionKind) -> &'static str {

@@ -5,7 +5,7 @@ use Rattle.std.specs.declared.alloc.AllocError.{AllocError}
 use Rattle.serde_json.specs.Data.{Data}
 use Rattle.script_reading.specs.declared.fault.ScriptFault.{ScriptFault}
 use Rattle.script_reading.specs.Text.{Outcome, too_long, not_json, spelled, IsValue}
-use Rattle.script_run.specs.Outcome.{refused}
+use Rattle.script_replay.specs.Outcome.{refused}
 use Rattle.mezulobu.specs.Explains.{ExplanationSays, explains, warns, shows_fault, HasFault, IsFaultOf}
 
 -- bytes that spell no value

@@ -4,7 +4,7 @@ use Rattle.std.specs.Prelude.{codes}
 use Rattle.script_reading.specs.declared.fault.ScriptFault.{ScriptFault}
 use Rattle.script_run.specs.Certificate.{CertifiesTo}
 use Rattle.script_check.specs.CheckedFile.{HasChecked}
-use Rattle.script_run.specs.Outcome.{RunsTo}
+use Rattle.script_replay.specs.Outcome.{RunsTo}
 use Rattle.script_run.specs.Run.{Ran, RanWithProof}
 use Rattle.script_run.specs.declared.fault.RunFault.{RunFault}
 use Rattle.script_run.specs.declared.fault.RunFault.TheVariants.{Script, Proof}

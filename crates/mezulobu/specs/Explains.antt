@@ -4,7 +4,7 @@ use Rattle.serde_json.specs.Data.{Data}
 use Rattle.script_reading.specs.Script.{ScriptFacts, script_of}
 use Rattle.script_reading.specs.Text.{Outcome}
 use Rattle.script_reading.specs.declared.fault.ScriptFault.{ScriptFault}
-use Rattle.script_run.specs.Outcome.{RunsTo}
+use Rattle.script_replay.specs.Outcome.{RunsTo}
 
 -- the value of a script has this first fault, or is one of a platform and calls
 abbrev pub IsFaultOf : Data → Option ScriptFault → Type 0

@@ -3,7 +3,7 @@ use Rattle.std.specs.Prelude.{ℕ, List, [], Some, Ok, Err, false, codes}
 use Rattle.script_reading.specs.declared.fault.ScriptFault.{ScriptFault}
 use Rattle.script_run.specs.Certificate.{CertifiesTo}
 use Rattle.script_check.specs.CheckedFile.{HasChecked, ProofIsRefused}
-use Rattle.script_run.specs.Outcome.{RunsTo}
+use Rattle.script_replay.specs.Outcome.{RunsTo}
 use Rattle.script_run.specs.declared.running.Ended.TheVariants.{Done, CheckedNo}
 use Rattle.mezulobu.specs.Words.{refusal_words}
 

@@ -1,7 +1,7 @@
 //! The words of a refusal.
 
 ghost use Rattle.std.specs.Prelude.{◌≡◌, IfOk, string_bytes};
-ghost use Rattle.script_run.specs.Lines.{Puts};
+ghost use Rattle.script_replay.specs.Lines.{Puts};
 ghost use Rattle.mezulobu.specs.Words.{at_call, refusal_words, script_words};
 
 use script_reading::ScriptFault;

@@ -1,6 +1,6 @@
 -- What is promised of a script's calls, of which two make each other's names.
 use Rattle.std.specs.Prelude.{◌==◌, ℕ, List, map, if◌then◌else◌}
-use Rattle.sysmem_sanitise.specs.Platform.{PlatformFacts}
+use Rattle.negotiation_inputs.specs.Platform.{PlatformFacts}
 use Rattle.script_reading.specs.Seen.{call_seen}
 use Rattle.script_reading.specs.declared.call.Call.{Call}
 use Rattle.script_story.specs.Told.{IsReportedOn}

@@ -1,6 +1,6 @@
 -- What is promised of a script's calls, of which some stand later.
 use Rattle.std.specs.Prelude.{◌+◌, ◌++◌, ◌<◌, ℕ, List, length, map, take, drop, slice_range}
-use Rattle.sysmem_sanitise.specs.Platform.{PlatformFacts}
+use Rattle.negotiation_inputs.specs.Platform.{PlatformFacts}
 use Rattle.script_reading.specs.Seen.{call_seen}
 use Rattle.script_reading.specs.declared.call.Call.{Call}
 use Rattle.script_story.specs.Told.{IsReportedOn}

@@ -2,11 +2,11 @@
 
 use crate::platforms::{heaps_of, outcome_on};
 use explanation_text::{Gathered, Items, Words};
+use negotiation_inputs::Platform;
 use script_story::{Setting, Story, asked_in};
 use settings_reasons::listed_before;
 use std::alloc::{AllocError, Global};
 use sysmem_formats::{Offer, Pair};
-use sysmem_sanitise::Platform;
 
 /// How many pairs are tried.
 const MOST: usize = 3;

@@ -1,11 +1,11 @@
 //! A platform with one pair more, where participants take a format that it lacks.
 
 use explanation_text::{Gathered, Items, Words};
+use negotiation_inputs::Platform;
 use script_story::Setting;
 use std::alloc::{AllocError, Global};
 use sysmem_formats::{Modifier, Pair};
 use sysmem_memory::{Heap, HeapInfo};
-use sysmem_sanitise::Platform;
 use value_sources::Asked;
 
 /// How many pairs are tried.

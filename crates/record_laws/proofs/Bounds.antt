@@ -12,7 +12,7 @@ use Rattle.sysmem_image.specs.Fields.{Bound, MinSize, MaxSize, SizeAlignment, Mi
 use Rattle.sysmem_image.specs.Size.{most_multiple, square}
 use Rattle.sysmem_image.proofs.CallerLemmas.{max_one, sides_same}
 use Rattle.record_reading.specs.declared.fault.Fault.{Fault}
-use Rattle.sysmem_sanitise.specs.Participant.{IsEntry}
+use Rattle.negotiation_inputs.specs.Participant.{IsEntry}
 use Rattle.record_reading.specs.Reading.Bounds.{some_number, is_multiple, multiple, large_number, size_to, any_size, some_size, multiple_size, stated_in, stated_each, stated_bounds, stated_by, bounds_of}
 use Rattle.record_reading.specs.Reading.Fields.{◌>>=◌, number_up_to}
 use Rattle.sysmem_sanitise.proofs.CallerLemmas.{bounds_by_numbers}

@@ -8,9 +8,10 @@ use Rattle.sysmem_memory.specs.Domain.{domain_name}
 use Rattle.sysmem_memory.specs.Heap.{HeapName, HeapFacts, same_heap}
 use Rattle.record_reading.specs.declared.fault.Code.TheVariants as code
 use Rattle.record_reading.specs.Faults.{wrong}
-use Rattle.sysmem_sanitise.specs.Platform.{IsHeap}
+use Rattle.negotiation_inputs.specs.Platform.{IsHeap}
 use Rattle.record_reading.specs.Reading.Fields.{is_key_of, required, kept, passing, read_each}
-use Rattle.record_reading.specs.Reading.Heaps.{IsHeapName, is_heap_type, heap_type_of, heap_name_of, domains_of, heap_of, has_heap, with_heap, heaps_of, permitted_heap, has_permitted, with_permitted, permitted_of}
+use Rattle.negotiation_inputs.specs.Heaps.{IsHeapName, is_heap_type, has_heap, has_permitted}
+use Rattle.record_reading.specs.Reading.Heaps.{heap_type_of, heap_name_of, domains_of, heap_of, with_heap, heaps_of, permitted_heap, with_permitted, permitted_of}
 use Rattle.record_reading.specs.Reading.Names.{domain_named}
 use Rattle.record_laws.specs.Ranges.{most_large, IsHeapId}
 use Rattle.record_laws.specs.Records.{list, item_if, heap_name_record, heap_record}

@@ -14,12 +14,14 @@ use Rattle.sysmem_memory.specs.Heap.{same_heap}
 use Rattle.sysmem_memory.specs.Wishes.{MemoryWishes}
 use Rattle.record_reading.specs.declared.fault.Code.TheVariants as code
 use Rattle.record_reading.specs.Faults.{wrong}
-use Rattle.sysmem_sanitise.specs.Participant.{Participant, IsEntry, AreApart}
+use Rattle.negotiation_inputs.specs.Participant.{Participant, IsEntry, AreApart}
 use Rattle.record_reading.specs.Reading.Bounds.{bounds_of}
 use Rattle.record_reading.specs.Reading.Constraints.{usage_of, counts_of, memory_of}
-use Rattle.record_reading.specs.Reading.Entries.{same_format, same_modifier, same_asked, asks_misfit, asked_of, pair_asked, is_asked_already, has_asked, with_asked, own_pair, asked_pairs, colour_set_of, with_entry, entries_of}
+use Rattle.negotiation_inputs.specs.Asked.{same_format, same_modifier, same_asked, asks_misfit, pair_asked, is_asked_already}
+use Rattle.record_reading.specs.Reading.Entries.{asked_of, has_asked, with_asked, own_pair, asked_pairs, colour_set_of, with_entry, entries_of}
 use Rattle.record_reading.specs.Reading.Fields.{is_key_of, passing, named, number_up_to}
-use Rattle.record_reading.specs.Reading.Heaps.{IsHeapName, permitted_of}
+use Rattle.negotiation_inputs.specs.Heaps.{IsHeapName}
+use Rattle.record_reading.specs.Reading.Heaps.{permitted_of}
 use Rattle.record_reading.specs.Reading.Names.{format_named, modifier_named, choice_named}
 use Rattle.record_laws.specs.Laws.{EachParticipantIsStated}
 use Rattle.record_laws.specs.Ranges.{AreCounts, AreWishes}

@@ -12,7 +12,7 @@ use Rattle.record_reading.specs.Faults.{wrong}
 use Rattle.record_reading.specs.Reading.Fields.{is_key_of, named, passing, read_each}
 use Rattle.record_reading.specs.Reading.Heaps.{heaps_of}
 use Rattle.record_reading.specs.Reading.Names.{format_named, modifier_named, colour_named}
-use Rattle.record_reading.specs.Reading.Pairs.{same_pair, has_pair, same_colour, lists_colour, is_tiled_misfit}
+use Rattle.negotiation_inputs.specs.Pairs.{same_pair, has_pair, same_colour, lists_colour, is_tiled_misfit}
 use Rattle.record_reading.specs.Reading.Platform.{pair_of, with_pair, pairs_of, with_new_colour, colours_of}
 use Rattle.record_laws.specs.Laws.{EachPlatformIsStated}
 use Rattle.record_laws.specs.Records.{list, heap_record, pair_record, colour_record}

@@ -6,8 +6,9 @@ use Rattle.bitflags.specs.Sets.{find_row}
 use Rattle.sysmem_counts.specs.declared.usage.Usage.{Usage}
 use Rattle.sysmem_counts.specs.Usage.{usage_bits}
 use Rattle.record_reading.specs.declared.fault.Fault.{Fault}
-use Rattle.sysmem_sanitise.specs.Participant.{IsUsage}
-use Rattle.record_reading.specs.Reading.Constraints.{is_usage, usage_of}
+use Rattle.negotiation_inputs.specs.Participant.{IsUsage}
+use Rattle.negotiation_inputs.specs.Usage.{is_usage}
+use Rattle.record_reading.specs.Reading.Constraints.{usage_of}
 use Rattle.record_laws.specs.Records.{usage_record}
 
 abbrev usage_by : ℕ → Usage

@@ -16,11 +16,14 @@ use Rattle.record_reading.specs.declared.fault.FaultPlace.TheVariants.{Whole, At
 use Rattle.record_reading.specs.Faults.{wrong}
 use Rattle.record_reading.specs.Reading.Bounds.{bounds_of}
 use Rattle.record_reading.specs.Reading.Constraints.{memory_fields, memory_of, constraints_fields, usage_of, counts_of}
-use Rattle.record_reading.specs.Reading.Entries.{entry_object, colour_set_of, entry_with, asks_misfit, is_asked_already, has_asked, with_asked, own_pair, no_pair, asked_of, with_further, further_of, asked_pairs, with_entry, entries_of}
+use Rattle.record_reading.specs.Reading.Entries.{entry_object, colour_set_of, entry_with, has_asked, with_asked, own_pair, no_pair, asked_of, with_further, further_of, asked_pairs, with_entry, entries_of}
+use Rattle.negotiation_inputs.specs.Asked.{asks_misfit, is_asked_already}
 use Rattle.record_reading.specs.Reading.Fields.{◌>>=◌, object_of, list_of, number_or, flag_or, kept, passing, text_of, named, same_field, optional, read_or, read_each, stated, required}
-use Rattle.record_reading.specs.Reading.Heaps.{name_fields, heap_info_fields, is_heap_type, has_heap, has_permitted, heap_type_of, heap_name_of, heap_of, with_heap, heaps_of, permitted_heap, with_permitted, permitted_of}
+use Rattle.record_reading.specs.Reading.Heaps.{name_fields, heap_info_fields, heap_type_of, heap_name_of, heap_of, with_heap, heaps_of, permitted_heap, with_permitted, permitted_of}
+use Rattle.negotiation_inputs.specs.Heaps.{is_heap_type, has_heap, has_permitted}
 use Rattle.record_reading.specs.Reading.Names.{colour_named}
-use Rattle.record_reading.specs.Reading.Pairs.{pair_fields, is_tiled_misfit, has_pair, lists_colour}
+use Rattle.record_reading.specs.Reading.Pairs.{pair_fields}
+use Rattle.negotiation_inputs.specs.Pairs.{is_tiled_misfit, has_pair, lists_colour}
 use Rattle.record_reading.specs.Reading.Platform.{platform_fields, pair_of, with_pair, pairs_of, with_new_colour, colours_of}
 use Rattle.record_laws.specs.Laws.{IsOrWants, ParticipantOrWants, PlatformOrWants}
 

@@ -20,9 +20,10 @@ use Rattle.sysmem_image.specs.Size.{square}
 use Rattle.record_reading.specs.declared.fault.Code.TheVariants as code
 use Rattle.record_reading.specs.declared.fault.Fault.{Fault}
 use Rattle.record_reading.specs.declared.fault.FaultPlace.TheVariants.{At}
-use Rattle.sysmem_sanitise.specs.Participant.{IsEntry}
+use Rattle.negotiation_inputs.specs.Participant.{IsEntry}
 use Rattle.record_reading.specs.Reading.Bounds.{any_size, some_number, any_number, multiple, large_number, some_size, multiple_size, size_or, bound_or, stated_in, stated_each, stated_bounds, stated_by, bounds_of}
-use Rattle.record_reading.specs.Reading.Entries.{modifier_beside, asked_of, pair_asked, is_asked_already, with_asked, no_pair, own_pair, further_of, asked_pairs, colour_set_of, entry_fields, entry_object, with_entry}
+use Rattle.record_reading.specs.Reading.Entries.{modifier_beside, asked_of, with_asked, no_pair, own_pair, further_of, asked_pairs, colour_set_of, entry_fields, entry_object, with_entry}
+use Rattle.negotiation_inputs.specs.Asked.{pair_asked, is_asked_already}
 use Rattle.record_reading.specs.Reading.Fields.{◌>>=◌, is_key_of, required, stated, named, flag_or}
 use Rattle.record_reading.specs.Reading.Names.{format_named, modifier_named, choice_named}
 use Rattle.sysmem_sanitise.proofs.CallerLemmas.{bounds_by_numbers}

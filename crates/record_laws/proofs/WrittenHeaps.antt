@@ -9,9 +9,10 @@ use Rattle.sysmem_memory.specs.declared.domain.CoherencyDomains.{CoherencyDomain
 use Rattle.sysmem_memory.specs.Heap.{HeapName, HeapFacts, same_heap}
 use Rattle.record_reading.specs.declared.fault.Code.TheVariants as code
 use Rattle.record_reading.specs.declared.fault.FaultPlace.TheVariants.{At}
-use Rattle.sysmem_sanitise.specs.Platform.{IsHeap}
+use Rattle.negotiation_inputs.specs.Platform.{IsHeap}
 use Rattle.record_reading.specs.Reading.Fields.{is_key_of, object_of, required, number_or, flag_or}
-use Rattle.record_reading.specs.Reading.Heaps.{IsHeapName, has_domains, heap_type_of, heap_name_of, domains_of, heap_info_fields, heap_of, heaps_of, name_fields, permitted_heap, permitted_of}
+use Rattle.negotiation_inputs.specs.Heaps.{IsHeapName, has_domains}
+use Rattle.record_reading.specs.Reading.Heaps.{heap_type_of, heap_name_of, domains_of, heap_info_fields, heap_of, heaps_of, name_fields, permitted_heap, permitted_of}
 use Rattle.record_laws.specs.Ranges.{most_large, IsHeapId}
 use Rattle.record_laws.specs.Records.{list}
 use Rattle.record_laws.specs.Sparse.{fields_said, number_said, names_said, domains_in, name_said, permitted_written, heap_said, heap_written}

@@ -10,11 +10,12 @@ use Rattle.sysmem_memory.specs.Heap.{same_heap}
 use Rattle.sysmem_memory.specs.Wishes.{MemoryWishes, no_wishes}
 use Rattle.record_reading.specs.declared.fault.Code.TheVariants as code
 use Rattle.record_reading.specs.declared.fault.FaultPlace.TheVariants.{Whole, At}
-use Rattle.sysmem_sanitise.specs.Participant.{Participant, IsUsage}
+use Rattle.negotiation_inputs.specs.Participant.{Participant, IsUsage}
 use Rattle.record_reading.specs.Reading.Constraints.{usage_of, counts_of, memory_fields, memory_of, constraints_fields}
 use Rattle.record_reading.specs.Reading.Entries.{entries_of}
 use Rattle.record_reading.specs.Reading.Fields.{◌>>=◌, is_key_of, object_of, optional, stated, number_or, flag_or}
-use Rattle.record_reading.specs.Reading.Heaps.{IsHeapName, permitted_of}
+use Rattle.negotiation_inputs.specs.Heaps.{IsHeapName}
+use Rattle.record_reading.specs.Reading.Heaps.{permitted_of}
 use Rattle.record_laws.specs.Laws.{WrittenParticipantIsRead}
 use Rattle.record_laws.specs.Ranges.{most_large, AreCounts, AreWishes}
 use Rattle.record_laws.specs.Sparse.{with_fields, fields_said, list_said, object_said, names_said, families_in, permitted_written, memory_said, entry_written, participant_said, participant_written}

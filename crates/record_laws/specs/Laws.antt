@@ -5,8 +5,8 @@ use Rattle.sysmem_counts.specs.declared.field.Field.{Field}
 use Rattle.record_reading.specs.declared.fault.Code.TheVariants.{WantOfMemory}
 use Rattle.record_reading.specs.declared.fault.Fault.{Fault}
 use Rattle.record_reading.specs.Faults.{wrong}
-use Rattle.sysmem_sanitise.specs.Participant.{Participant, IsParticipant}
-use Rattle.sysmem_sanitise.specs.Platform.{PlatformFacts, IsPlatform}
+use Rattle.negotiation_inputs.specs.Participant.{Participant, IsParticipant}
+use Rattle.negotiation_inputs.specs.Platform.{PlatformFacts, IsPlatform}
 use Rattle.record_reading.specs.Reading.{participant_of, participant_with}
 use Rattle.record_reading.specs.Reading.{platform_of, platform_with}
 use Rattle.record_laws.specs.Ranges.{IsParticipantInRange, IsPlatformInRange}

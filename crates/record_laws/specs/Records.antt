@@ -33,8 +33,8 @@ use Rattle.sysmem_memory.specs.declared.domain.CoherencyDomains.{CoherencyDomain
 use Rattle.sysmem_memory.specs.Domain.{domain_name}
 use Rattle.sysmem_memory.specs.Heap.{HeapName, HeapFacts}
 use Rattle.sysmem_memory.specs.Wishes.{MemoryWishes}
-use Rattle.sysmem_sanitise.specs.Participant.{Participant}
-use Rattle.sysmem_sanitise.specs.Platform.{PlatformFacts}
+use Rattle.negotiation_inputs.specs.Participant.{Participant}
+use Rattle.negotiation_inputs.specs.Platform.{PlatformFacts}
 
 -- members of these fields
 abbrev pub members : List (Field × Data) → Members

@@ -3,7 +3,7 @@
 ghost use Rattle.std.specs.Prelude.{◌≡◌, Ok, IfOk, OnOk};
 ghost use Rattle.serde_json.specs.View.{view};
 ghost use Rattle.record_reading.specs.Reading.Constraints.{participant_of};
-ghost use Rattle.sysmem_sanitise.specs.Participant.{IsParticipant};
+ghost use Rattle.negotiation_inputs.specs.Participant.{IsParticipant};
 ghost use Rattle.record_laws.specs.Ranges.{IsParticipantInRange};
 ghost use Rattle.record_laws.specs.Sparse.{participant_written};
 
@@ -12,11 +12,12 @@ use crate::fields::Fields;
 use crate::listed::values_of;
 use crate::memory::memory_fields;
 use crate::names::families_value;
+use negotiation_inputs::Constraints;
 use record_laws::laws::written_is_read;
 use serde_json::Value;
 use std::alloc::{AllocError, Global};
 use sysmem_counts::Field;
-use sysmem_sanitise::{Constraints, read_constraints};
+use sysmem_sanitise::read_constraints;
 
 fn record_of(alloc: Global, constraints: &Constraints) -> Result<Value, AllocError>
     ensures written { IfOk result (λ value. view value ≡ participant_written constraints.now) }

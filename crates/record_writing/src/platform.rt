@@ -3,17 +3,17 @@
 ghost use Rattle.std.specs.Prelude.{◌≡◌, Ok, IfOk, OnOk};
 ghost use Rattle.serde_json.specs.View.{view};
 ghost use Rattle.record_reading.specs.Reading.Platform.{platform_of};
-ghost use Rattle.sysmem_sanitise.specs.Platform.{IsPlatform};
+ghost use Rattle.negotiation_inputs.specs.Platform.{IsPlatform};
 ghost use Rattle.record_laws.specs.Ranges.{IsPlatformInRange};
 ghost use Rattle.record_laws.specs.Sparse.{platform_written};
 
 use crate::fields::Fields;
 use crate::listed::values_of;
+use negotiation_inputs::Platform;
 use record_laws::laws::written_is_read;
 use serde_json::Value;
 use std::alloc::{AllocError, Global};
 use sysmem_counts::Field;
-use sysmem_sanitise::Platform;
 
 fn record_of(alloc: Global, platform: &Platform) -> Result<Value, AllocError>
     ensures written { IfOk result (λ value. view value ≡ platform_written platform.now) }

@@ -4,7 +4,7 @@ use Rattle.std.specs.Prelude.{IfSome}
 use Rattle.byte_transfer.specs.Transfer.{ReadsToLimit}
 use Rattle.script_reading.specs.declared.fault.ScriptFault.{ScriptFault}
 use Rattle.script_reading.specs.Text.{too_long, not_json, spelled, longest}
-use Rattle.script_run.specs.Outcome.{ReportFacts, RunsTo}
+use Rattle.script_replay.specs.Outcome.{ReportFacts, RunsTo}
 
 whole_read : (input rest bytes : List ℕ) → input ≡ bytes ++ rest → (length bytes ≤ longest → rest ≡ []) → length bytes ≤ longest → input ≡ bytes
 whole_read input rest bytes e all short = e ∙ (ap (λ (t : List ℕ). bytes ++ t) (all short) ∙ append-nil bytes)

@@ -2,9 +2,9 @@
 
 use crate::image_object::put_image;
 use crate::put::{put_digits, put_name, put_number, word_at, words_of};
+use negotiation_inputs::Platform;
 use std::alloc::{AllocError, Global};
 use std::fmt::Write;
-use sysmem_sanitise::Platform;
 
 // Where the words stand in the line of settings:
 // `/ chosen - count 8 size 2402304 place cma#0 ram image NV12 LINEAR REC709 1440x1088 row 1472`.

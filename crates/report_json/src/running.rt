@@ -2,7 +2,7 @@
 
 ghost use Rattle.std.specs.Prelude.{◌≡◌, ◌≢◌, [], Err, Some, IfErr, IfSome};
 ghost use Rattle.script_reading.specs.declared.fault.ScriptFault.{ScriptFault as FaultOfScript};
-ghost use Rattle.script_run.specs.Outcome.{RunsTo};
+ghost use Rattle.script_replay.specs.Outcome.{RunsTo};
 ghost use Rattle.script_run.specs.Run.{IsCausedBy, RanWithProof, both_counts};
 
 use crate::telling::objects_of;

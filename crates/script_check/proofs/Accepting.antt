@@ -12,7 +12,7 @@ use Rattle.script_reading.proofs.CallerLemmas.{script_ids, script_platform}
 use Rattle.script_reading.specs.Script.{ScriptFacts}
 use Rattle.script_reading.specs.Text.{IsJson, longest}
 use Rattle.verdict_claims.specs.declared.certificate.Claim.{Claim}
-use Rattle.sysmem_sanitise.specs.Platform.{PlatformFacts}
+use Rattle.negotiation_inputs.specs.Platform.{PlatformFacts}
 use Rattle.script_run.specs.Certificate.{CertifiedFacts, IsCertifiedBy, IsProved, certificate_of, data_of}
 use Rattle.script_check.specs.Checked.{AreTaken, IsOf, accepts}
 use Rattle.script_check.specs.CheckedFile.{ChecksTo, EndsInYes, HasChecked, IsListOf, IsScriptOf, answer_text}

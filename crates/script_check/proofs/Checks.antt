@@ -10,12 +10,12 @@ use Rattle.certificate_text.specs.Said.{claim_said}
 use Rattle.sysmem_alloc.specs.Claims.{IsRightClaim}
 use Rattle.sysmem_alloc.specs.State.{State as BookState, base_of}
 use Rattle.sysmem_alloc.proofs.CallerLemmas.{true_has_proof, true_is_right}
-use Rattle.sysmem_proof.specs.Base.{BaseFacts, terms_of}
-use Rattle.sysmem_proof.specs.Fault.{VerdictFaults}
+use Rattle.verdict_claims.specs.Base.{BaseFacts, terms_of}
+use Rattle.verdict_claims.specs.Fault.{VerdictFaults}
 use Rattle.sysmem_tree.specs.Domain.{TreeFacts}
 use Rattle.sysmem_tree.specs.Shape.{shape_of}
 use Rattle.verdict_claims.specs.declared.certificate.Claim.{Claim}
-use Rattle.sysmem_sanitise.specs.Platform.{PlatformFacts}
+use Rattle.negotiation_inputs.specs.Platform.{PlatformFacts}
 use Rattle.sysmem_tree.specs.Path.{path_of}
 use Rattle.script_reading.specs.Script.{CallFacts}
 use Rattle.script_check.specs.Checked.{Answers, AreTaken, ClaimFails, FailsNext, IsOf, NextFails, SaidFails, TakesClaim, accepts, has_more, objects_to, too_many}

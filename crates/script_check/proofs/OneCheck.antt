@@ -14,13 +14,13 @@ use Rattle.sysmem_alloc.specs.Entry.{Decided}
 use Rattle.sysmem_alloc.specs.History.{Allows}
 use Rattle.sysmem_alloc.specs.State.{State as BookState, base_of, next_ready}
 use Rattle.sysmem_alloc.proofs.CallerLemmas.{proved_is_true}
-use Rattle.sysmem_proof.specs.Base.{terms_of}
-use Rattle.sysmem_proof.specs.Claim.{IsTrueClaim}
-use Rattle.sysmem_proof.specs.Fault.{VerdictFaults}
-use Rattle.sysmem_proof.specs.Laws.{FaultsAreFirst, TestsAreExact}
+use Rattle.verdict_claims.specs.Base.{terms_of}
+use Rattle.verdict_claims.specs.Claim.{IsTrueClaim}
+use Rattle.verdict_claims.specs.Fault.{VerdictFaults}
+use Rattle.verdict_claims.specs.Laws.{FaultsAreFirst, TestsAreExact}
 use Rattle.verdict_claims.specs.declared.certificate.Claim.{Claim}
 use Rattle.verdict_claims.specs.declared.no.No.{No}
-use Rattle.sysmem_sanitise.specs.Platform.{PlatformFacts}
+use Rattle.negotiation_inputs.specs.Platform.{PlatformFacts}
 use Rattle.sysmem_tree.specs.Path.{path_of}
 use Rattle.sysmem_tree.specs.Shape.{shape_of}
 use Rattle.script_replay.specs.Answer.{Replies}

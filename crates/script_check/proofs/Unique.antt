@@ -6,9 +6,9 @@ use Rattle.sysmem_alloc.specs.State.{next_ready}
 use Rattle.sysmem_image.specs.Corners.{IsCorner}
 use Rattle.sysmem_image.specs.Laws.{CornerIsLeast}
 use Rattle.verdict_claims.specs.declared.verdict.Verdict.{Verdict}
-use Rattle.sysmem_proof.specs.Chosen.{ChosenFacts}
-use Rattle.sysmem_proof.specs.Laws.{OneAnswer}
-use Rattle.sysmem_sanitise.specs.Platform.{PlatformFacts}
+use Rattle.verdict_claims.specs.Chosen.{ChosenFacts}
+use Rattle.verdict_claims.specs.Laws.{OneAnswer}
+use Rattle.negotiation_inputs.specs.Platform.{PlatformFacts}
 use Rattle.script_reading.specs.Script.{CallFacts}
 use Rattle.script_replay.specs.declared.reply.Reply.{Reply}
 use Rattle.script_check.specs.Laws.{OneReport}

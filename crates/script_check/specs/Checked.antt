@@ -6,12 +6,12 @@ use Rattle.serde_json.specs.Data.{Data}
 use Rattle.script_reading.specs.Script.{CallFacts}
 use Rattle.sysmem_alloc.specs.Claims.{HasProof}
 use Rattle.sysmem_alloc.specs.State.{State as BookState, base_of, next_ready}
-use Rattle.sysmem_proof.specs.Base.{terms_of}
-use Rattle.sysmem_proof.specs.Claim.{IsTrueClaim}
-use Rattle.sysmem_proof.specs.Fault.{Fails, Faults, First, VerdictFaults}
+use Rattle.verdict_claims.specs.Base.{terms_of}
+use Rattle.verdict_claims.specs.Claim.{IsTrueClaim}
+use Rattle.verdict_claims.specs.Fault.{Fails, Faults, First, VerdictFaults}
 use Rattle.verdict_claims.specs.declared.certificate.Claim.{Claim}
 use Rattle.verdict_claims.specs.declared.no.No.TheVariants.{WrongShape}
-use Rattle.sysmem_sanitise.specs.Platform.{PlatformFacts}
+use Rattle.negotiation_inputs.specs.Platform.{PlatformFacts}
 use Rattle.sysmem_tree.specs.Path.{path_of}
 use Rattle.sysmem_tree.specs.Shape.{shape_of}
 use Rattle.script_check.specs.declared.checked_file.CheckAnswer.{CheckAnswer}

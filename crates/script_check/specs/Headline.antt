@@ -6,7 +6,7 @@ use Rattle.sysmem_alloc.specs.Entry.{BookEntry, Acted, Decided}
 use Rattle.sysmem_alloc.specs.Headline.{IsNegotiated, history_with}
 use Rattle.sysmem_alloc.specs.History.{IsLegal, after_entry, replay}
 use Rattle.sysmem_alloc.specs.State.{State as BookState, first_state}
-use Rattle.sysmem_sanitise.specs.Platform.{PlatformFacts}
+use Rattle.negotiation_inputs.specs.Platform.{PlatformFacts}
 use Rattle.sysmem_tree.specs.Path.{path_of}
 use Rattle.verdict_claims.specs.declared.certificate.Claim.{Claim}
 use Rattle.script_reading.specs.Script.{CallFacts, ScriptFacts}

@@ -6,7 +6,7 @@ use Rattle.serde_json.specs.View.{items_of}
 use Rattle.verdict_claims.specs.declared.certificate.Claim.{Claim}
 use Rattle.verdict_claims.specs.declared.certificate.Proof.TheVariants.{Nothing}
 use Rattle.verdict_claims.specs.declared.verdict.Verdict.TheVariants.{NoMemory}
-use Rattle.sysmem_sanitise.specs.Platform.{PlatformFacts, IsPlatform}
+use Rattle.negotiation_inputs.specs.Platform.{PlatformFacts, IsPlatform}
 use Rattle.certificate_text.specs.CanBeRead.{HasHeapIds}
 use Rattle.certificate_text.specs.Said.{claim_said}
 use Rattle.certificate_text.specs.Told.{decision_data}

@@ -18,8 +18,8 @@ use script_run::{Ended, RunFault};
 use serde_json::Value;
 use std::alloc::{AllocError, Global};
 use std::fmt::Write;
-use sysmem_proof::No;
 use sysmem_tree::Path;
+use verdict_claims::No;
 
 /// What a check of a certificate says.
 #[derive(Drop)]

@@ -18,8 +18,9 @@ use serde_json::Value;
 use std::alloc::{AllocError, Global};
 use std::sync::Arc;
 use sysmem_alloc::Book;
-use sysmem_proof::{Claim, No, check};
+use sysmem_proof::check;
 use sysmem_tree::{DomainId, Path};
+use verdict_claims::{Claim, No};
 
 /// Takes the next object of a certificate as each decision, if a check says yes to it.
 #[derive(Drop)]

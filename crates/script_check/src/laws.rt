@@ -8,7 +8,7 @@ use certificate_text::laws::{
 };
 use sysmem_alloc::laws::{headline, legal_is_sound};
 use sysmem_image::laws::corner_is_least;
-use sysmem_proof::laws::{self, faults_are_first, tests_are_exact};
+use verdict_claims::laws::{self, faults_are_first, tests_are_exact};
 
 /// The calls of a script have one report on a platform, where memory is not refused.
 pub fn one_report()

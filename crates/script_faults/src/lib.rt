@@ -20,7 +20,6 @@ mod record_alone;
 mod script_fault;
 
 pub use call_fault::actor_of;
-pub use explanation_text::{Item, Items, Kind, Mark, are_same, show, text_of, wording};
 pub use record::{Document, Part, Whole, tell_record_fault};
 pub use record_alone::{RecordFault, RecordKind, record_fault};
 pub use script_fault::{tell_fault, tell_no_json};

@@ -9,10 +9,11 @@ ghost use Rattle.script_faults.specs.RecordFault.{Spells, TellsRecord, fault_in,
 use crate::no_json::{Broken, is_blank, tell_break};
 use crate::record::{Document, Whole, tell_record_fault};
 use explanation_text::{Items, text_of};
+use record_reading::{Code, Fault, read_platform};
 use serde_json::Value;
 use std::alloc::{AllocError, Global};
 use std::fmt;
-use sysmem_sanitise::{Code, Fault, read_constraints, read_platform};
+use sysmem_sanitise::read_constraints;
 
 /// Whose record it is.
 #[derive(Clone, Copy, Debug, PartialEq, Eq)]

@@ -3,7 +3,7 @@ use Rattle.std.proofs.Common.{◌≡◌, ◌≤◌, ◌-◌, ◌^◌, Result, Ok
 use Rattle.std.specs.Prelude.{All, ok_or}
 use Rattle.serde_json.specs.Data.{Data}
 use Rattle.record_reading.specs.declared.fault.Fault.{Fault}
-use Rattle.sysmem_sanitise.specs.Platform.{PlatformFacts, IsPlatform}
+use Rattle.negotiation_inputs.specs.Platform.{PlatformFacts, IsPlatform}
 use Rattle.record_reading.specs.Reading.{platform_of}
 use Rattle.sysmem_sanitise.proofs.CallerLemmas.{stated_platform, stated_ids}
 use Rattle.script_reading.specs.declared.fault.ScriptFault.{ScriptFault}

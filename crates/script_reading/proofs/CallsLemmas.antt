@@ -12,7 +12,7 @@ use Rattle.script_reading.specs.declared.fault.ScriptFault.TheVariants.{TooManyC
 use Rattle.script_reading.specs.declared.call.Call.{Call}
 use Rattle.script_reading.specs.Faults.{Gives}
 use Rattle.script_reading.specs.Platform.{platform_said}
-use Rattle.sysmem_sanitise.specs.Platform.{PlatformFacts}
+use Rattle.negotiation_inputs.specs.Platform.{PlatformFacts}
 use Rattle.script_reading.specs.Script.{CallFacts, KnownFacts, ◌>>=◌, few_calls, items_len, parts_of, call_of, calls_from, script_by}
 use Rattle.script_reading.specs.Seen.{call_seen}
 

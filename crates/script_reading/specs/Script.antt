@@ -14,7 +14,7 @@ use Rattle.script_reading.specs.Call.{ActFacts, name_made, FormFacts, form_of}
 use Rattle.record_reading.specs.Reading.Fields.{keys_of}
 use Rattle.script_reading.specs.Names.{is_name, is_among, with_actor, root}
 use Rattle.script_reading.specs.Platform.{platform_said}
-use Rattle.sysmem_sanitise.specs.Platform.{PlatformFacts}
+use Rattle.negotiation_inputs.specs.Platform.{PlatformFacts}
 
 -- A call: what it does, on which name, the place of that name among the names that were made
 -- before, and by which actor, in order of their first calls.

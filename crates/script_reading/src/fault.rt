@@ -2,8 +2,8 @@
 ghost use Rattle.std.specs.Prelude.{◌≡◌};
 ghost use Rattle.script_reading.specs.declared.fault.ParseFault.TheVariants.{NoMemory};
 
+use record_reading::Fault;
 use std::alloc::{AllocError, AllocFailed};
-use sysmem_sanitise::Fault;
 use thiserror::Error;
 
 /// Why a script was not read.

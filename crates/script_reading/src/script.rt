@@ -14,9 +14,9 @@ use crate::call::Call;
 use crate::calls::read_calls;
 use crate::fault::{ParseFault, ScriptFault};
 use crate::platform::read_platform;
+use negotiation_inputs::Platform;
 use serde_json::{Map, Value};
 use std::alloc::Global;
-use sysmem_sanitise::Platform;
 
 const MOST_CALLS: usize = 4096;
 

@@ -8,9 +8,9 @@ use Rattle.record_reading.specs.declared.fault.Fault.{Fault}
 use Rattle.record_reading.specs.declared.fault.Code.{Code}
 use Rattle.record_reading.specs.declared.fault.Code.TheVariants.{WantOfMemory}
 use Rattle.record_reading.specs.Faults.{lack_of}
-use Rattle.sysmem_sanitise.specs.Participant.{Participant}
+use Rattle.negotiation_inputs.specs.Participant.{Participant}
 use Rattle.record_reading.specs.Reading.{participant_of, participant_with}
-use Rattle.sysmem_sanitise.specs.Platform.{PlatformFacts}
+use Rattle.negotiation_inputs.specs.Platform.{PlatformFacts}
 use Rattle.sysmem_tree.specs.declared.refusal.Refusal.{Refusal}
 use Rattle.sysmem_tree.specs.declared.refusal.Refusal.TheVariants as refusals
 use Rattle.sysmem_tree.specs.ActionKind.{Deed}

@@ -6,7 +6,7 @@ use Rattle.std.specs.Prelude.{is_none, option_map}
 use Rattle.sysmem_alloc.specs.Decision.{answer_of}
 use Rattle.verdict_claims.specs.Base.{BaseFacts}
 use Rattle.verdict_claims.specs.declared.certificate.Claim.{Claim}
-use Rattle.sysmem_sanitise.specs.Platform.{PlatformFacts}
+use Rattle.negotiation_inputs.specs.Platform.{PlatformFacts}
 use Rattle.sysmem_tree.specs.Domain.{TreeFacts}
 use Rattle.sysmem_tree.specs.Node.{NodeFacts}
 use Rattle.sysmem_tree.specs.Path.{path_of}

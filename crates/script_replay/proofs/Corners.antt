@@ -17,8 +17,8 @@ use Rattle.verdict_claims.specs.Base.{BaseFacts, terms_of}
 use Rattle.verdict_claims.specs.Chosen.{ChosenFacts}
 use Rattle.verdict_claims.specs.Members.{participants}
 use Rattle.verdict_claims.specs.Verdict.{IsBestFor, IsOptimalIn}
-use Rattle.sysmem_sanitise.specs.Participant.{Participant}
-use Rattle.sysmem_sanitise.specs.Platform.{PlatformFacts}
+use Rattle.negotiation_inputs.specs.Participant.{Participant}
+use Rattle.negotiation_inputs.specs.Platform.{PlatformFacts}
 use Rattle.sysmem_tree.specs.declared.refusal.Refusal.{Refusal}
 use Rattle.sysmem_tree.specs.Domain.{host_node}
 use Rattle.sysmem_tree.specs.Node.{NodeFacts}

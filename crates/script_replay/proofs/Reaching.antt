@@ -2,7 +2,7 @@
 use Rattle.std.proofs.Common.{◌≡◌, ℕ, ◌+◌, ◌<◌, ◌≤◌, ◌++◌, List, [], ◌∷◌, None, false, drop, map, length, get_or, refl, sym, ◌∙◌, ap, subst, arith, append-nil, append_assoc, length-append}
 use Rattle.std.proofs.lemmas.List.{at_drop_more, at_drop_all, drop-map, length-map}
 use Rattle.sysmem_alloc.specs.State.{next_ready}
-use Rattle.sysmem_sanitise.specs.Platform.{PlatformFacts}
+use Rattle.negotiation_inputs.specs.Platform.{PlatformFacts}
 use Rattle.script_reading.specs.declared.call.Call.{Call}
 use Rattle.script_reading.specs.Script.{CallFacts}
 use Rattle.script_reading.specs.Seen.{call_seen}

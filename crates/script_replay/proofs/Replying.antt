@@ -3,7 +3,7 @@ use Rattle.std.proofs.Common.{◌≡◌, ◌≤◌, ℕ, ◌+◌, ◌++◌, List
 use Rattle.std.proofs.lemmas.List.{at_drop_all, length-map}
 use Rattle.sysmem_alloc.specs.Decision.{answer_of}
 use Rattle.sysmem_alloc.specs.State.{next_ready}
-use Rattle.sysmem_sanitise.specs.Platform.{PlatformFacts}
+use Rattle.negotiation_inputs.specs.Platform.{PlatformFacts}
 use Rattle.script_reading.specs.declared.call.Call.{Call}
 use Rattle.script_reading.specs.Script.{CallFacts}
 use Rattle.script_reading.specs.Seen.{call_seen}

@@ -8,7 +8,7 @@ use Rattle.sysmem_image.specs.Laws.{NoCorner}
 use Rattle.verdict_claims.specs.declared.verdict.Verdict.{Verdict}
 use Rattle.verdict_claims.specs.declared.verdict.Verdict.TheVariants.{Chosen, IntersectionEmpty, TooMany, Failed, NoMemory}
 use Rattle.verdict_claims.specs.Verdict.{IsOptimalIn}
-use Rattle.sysmem_sanitise.specs.Platform.{PlatformFacts}
+use Rattle.negotiation_inputs.specs.Platform.{PlatformFacts}
 use Rattle.sysmem_tree.specs.Domain.{TreeFacts, IsSoundTree}
 use Rattle.script_replay.specs.Deciding.{CanBeTold, TellsIn}
 use Rattle.script_replay.specs.Lines.{domain_line}

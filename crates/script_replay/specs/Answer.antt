@@ -12,7 +12,7 @@ use Rattle.record_reading.specs.declared.fault.Code.{Code}
 use Rattle.record_reading.specs.declared.fault.Code.TheVariants.{WantOfMemory}
 use Rattle.record_reading.specs.declared.fault.Fault.{Fault}
 use Rattle.record_reading.specs.Faults.{lack_of}
-use Rattle.sysmem_sanitise.specs.Participant.{Participant}
+use Rattle.negotiation_inputs.specs.Participant.{Participant}
 use Rattle.record_reading.specs.Reading.{participant_of, participant_with}
 use Rattle.sysmem_tree.specs.declared.refusal.Refusal.{Refusal}
 use Rattle.sysmem_tree.specs.declared.refusal.Refusal.TheVariants as refusals
@@ -28,7 +28,8 @@ use Rattle.script_reading.specs.Call.{creates_child, has_all_children, attaches_
 use Rattle.script_reading.specs.Call.{closes, checks, waits}
 use Rattle.script_reading.specs.Script.{CallFacts}
 use Rattle.script_replay.specs.declared.reply.Reply.{Reply}
-use Rattle.script_replay.specs.declared.reply.Reply.TheVariants.{Accepted, Refused, Misread, Skipped}
+use Rattle.script_replay.specs.declared.reply.Reply.TheVariants.{Accepted, Refused, Misread}
+use Rattle.script_replay.specs.declared.reply.Reply.TheVariants.{Skipped}
 use Rattle.script_replay.specs.State.{RunState, collection_tree, node_named, unmade, acted}
 
 -- the action that an act asks for, with the constraints that it states read

@@ -6,7 +6,7 @@ use Rattle.sysmem_merge.specs.declared.settings.Settings.{Settings}
 use Rattle.verdict_claims.specs.declared.verdict.Verdict.{Verdict}
 use Rattle.verdict_claims.specs.declared.verdict.Verdict.TheVariants.{Chosen, IntersectionEmpty}
 use Rattle.verdict_claims.specs.declared.verdict.Verdict.TheVariants.{TooMany, Failed, NoMemory}
-use Rattle.sysmem_sanitise.specs.Platform.{PlatformFacts}
+use Rattle.negotiation_inputs.specs.Platform.{PlatformFacts}
 use Rattle.script_replay.specs.Lines.{domain_line}
 use Rattle.script_replay.specs.Report.{Tells}
 

@@ -13,12 +13,13 @@ use Rattle.sysmem_formats.specs.Names.{colour_name, format_name, modifier_name}
 use Rattle.sysmem_image.specs.declared.size.Corner.{Corner}
 use Rattle.sysmem_merge.specs.declared.settings.Settings.{Settings}
 use Rattle.verdict_claims.specs.Chosen.{ChosenFacts}
-use Rattle.sysmem_sanitise.specs.Platform.{PlatformFacts}
+use Rattle.negotiation_inputs.specs.Platform.{PlatformFacts}
 use Rattle.record_reading.specs.Faults.{fault_text}
 use Rattle.sysmem_tree.specs.Refusal.{refusal_text}
 use Rattle.certificate_text.specs.Paths.{path_text}
 use Rattle.script_replay.specs.declared.reply.Reply.{Reply}
-use Rattle.script_replay.specs.declared.reply.Reply.TheVariants.{Accepted, Refused, Misread, Skipped}
+use Rattle.script_replay.specs.declared.reply.Reply.TheVariants.{Accepted, Refused, Misread}
+use Rattle.script_replay.specs.declared.reply.Reply.TheVariants.{Skipped}
 use Rattle.script_reading.specs.Call.{ActFacts, duplicates, binds, states, creates_group}
 use Rattle.script_reading.specs.Call.{creates_child, has_all_children, attaches_token, releases}
 use Rattle.script_reading.specs.Call.{closes, checks, waits, name_made}

@@ -4,7 +4,7 @@ use Rattle.std.specs.String.{string_bytes}
 use Rattle.serde_json.specs.Data.{Data}
 use Rattle.script_reading.specs.declared.fault.ScriptFault.{ScriptFault}
 use Rattle.script_replay.specs.declared.report.Report.{Report}
-use Rattle.sysmem_sanitise.specs.Platform.{PlatformFacts}
+use Rattle.negotiation_inputs.specs.Platform.{PlatformFacts}
 use Rattle.script_replay.specs.Report.{Gave, IsReported}
 use Rattle.script_reading.specs.Script.{ScriptFacts, script_of}
 use Rattle.script_reading.specs.Text.{Outcome}

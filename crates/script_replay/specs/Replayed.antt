@@ -1,6 +1,6 @@
 -- What a replay is: a report of calls, and the collection as they leave it.
 use Rattle.std.specs.Prelude.{◌≡◌, ℕ, List}
-use Rattle.sysmem_sanitise.specs.Platform.{PlatformFacts}
+use Rattle.negotiation_inputs.specs.Platform.{PlatformFacts}
 use Rattle.script_reading.specs.Script.{CallFacts}
 use Rattle.script_replay.specs.declared.replayed.Replayed.{Replayed}
 use Rattle.script_replay.specs.Report.{Certified, IsReport}

@@ -4,7 +4,7 @@ use Rattle.sysmem_alloc.specs.Decision.{Claimed, answer_of}
 use Rattle.sysmem_alloc.specs.Entry.{Decided}
 use Rattle.sysmem_alloc.specs.History.{Allows}
 use Rattle.sysmem_alloc.specs.State.{next_ready}
-use Rattle.sysmem_sanitise.specs.Platform.{PlatformFacts}
+use Rattle.negotiation_inputs.specs.Platform.{PlatformFacts}
 use Rattle.script_reading.specs.Script.{CallFacts}
 use Rattle.script_replay.specs.declared.reply.Reply.{Reply}
 use Rattle.script_replay.specs.Answer.{Replies}

@@ -14,7 +14,7 @@ use Rattle.verdict_claims.specs.declared.certificate.Claim.{Claim}
 use Rattle.verdict_claims.specs.declared.verdict.Verdict.{Verdict}
 use Rattle.verdict_claims.specs.declared.verdict.Verdict.TheVariants.{Chosen, IntersectionEmpty}
 use Rattle.verdict_claims.specs.declared.verdict.Verdict.TheVariants.{TooMany}
-use Rattle.sysmem_sanitise.specs.Platform.{PlatformFacts}
+use Rattle.negotiation_inputs.specs.Platform.{PlatformFacts}
 use Rattle.sysmem_tree.specs.Domain.{TreeFacts, newly_failed}
 use Rattle.sysmem_tree.specs.Path.{path_of}
 use Rattle.sysmem_tree.specs.Tree as trees

@@ -5,7 +5,7 @@ use Rattle.sysmem_alloc.specs.Entry.{BookEntry}
 use Rattle.sysmem_alloc.specs.History.{after_entry}
 use Rattle.sysmem_alloc.specs.State.{State as BookState}
 use Rattle.sysmem_alloc.specs.State as books
-use Rattle.sysmem_sanitise.specs.Platform.{PlatformFacts}
+use Rattle.negotiation_inputs.specs.Platform.{PlatformFacts}
 use Rattle.sysmem_tree.specs.Domain.{TreeFacts}
 use Rattle.sysmem_tree.specs.Node.{NodeFacts}
 use Rattle.sysmem_tree.specs.Nodes.{HasNode}

@@ -1,7 +1,7 @@
 -- Where decisions stop.
 use Rattle.std.specs.Prelude.{◌≡◌, ℕ, ◌++◌, List, Some, ⊤, false}
 use Rattle.sysmem_alloc.specs.State.{State as BookState, next_ready}
-use Rattle.sysmem_sanitise.specs.Platform.{PlatformFacts}
+use Rattle.negotiation_inputs.specs.Platform.{PlatformFacts}
 use Rattle.script_reading.specs.Script.{CallFacts}
 use Rattle.script_replay.specs.declared.decider.Objection.{Objection}
 use Rattle.script_replay.specs.declared.decider.Stop.{Stop}

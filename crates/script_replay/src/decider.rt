@@ -9,7 +9,7 @@ ghost use Rattle.sysmem_alloc.specs.Entry.{Decided};
 ghost use Rattle.sysmem_alloc.specs.History.{Allows};
 ghost use Rattle.sysmem_alloc.specs.Sound.{MayWait};
 ghost use Rattle.sysmem_alloc.specs.State.{State, next_ready};
-ghost use Rattle.sysmem_sanitise.specs.Platform.{PlatformFacts};
+ghost use Rattle.negotiation_inputs.specs.Platform.{PlatformFacts};
 ghost use Rattle.sysmem_tree.specs.Path.{path_of};
 ghost use Rattle.script_replay.specs.declared.decider.Objection.{Objection};
 ghost use Rattle.script_replay.specs.declared.decider.Stop.TheVariants.{NoMemory};

@@ -17,12 +17,12 @@ ghost use Rattle.sysmem_tree.specs.Path.{path_of};
 ghost use Rattle.script_replay.specs.Deciding.{CanBeTold, HasCorner, TellsIn};
 
 use crate::domain_line::{put_chosen, put_word};
+use negotiation_inputs::Platform;
 use std::alloc::{AllocError, Global};
 use std::sync::Arc;
 use sysmem_alloc::Book;
 use sysmem_image::corner;
 use sysmem_image::laws::no_corner;
-use sysmem_sanitise::Platform;
 use sysmem_search::{NoGate, prove, search};
 use sysmem_tree::{DomainId, Path, Tree};
 use verdict_claims::{Base, Chosen, Claim, Proof, Verdict};

@@ -8,13 +8,13 @@ ghost use Rattle.sysmem_tree.specs.Domain.{HasDomain};
 ghost use Rattle.sysmem_tree.specs.Path.{path_of};
 
 use certificate_text::push_path;
+use negotiation_inputs::Platform;
 use std::alloc::AllocError;
 use std::fmt::Write;
 use sysmem_formats::{ColourSpace, Offer, Pair};
 use sysmem_image::Corner;
 use sysmem_memory::HeapInfo;
 use sysmem_merge::Settings;
-use sysmem_sanitise::Platform;
 use sysmem_tree::{DomainId, Path, Tree};
 use verdict_claims::Chosen;
 

@@ -7,10 +7,10 @@ ghost use Rattle.script_replay.specs.Lines.{Puts, act_name, call_line, new_name,
 ghost use Rattle.script_reading.specs.Seen.{act_seen, call_seen};
 
 use crate::reply::Reply;
+use record_reading::Fault;
 use script_reading::{Act, Call};
 use std::alloc::AllocError;
 use std::fmt::Write;
-use sysmem_sanitise::Fault;
 
 /// Puts the line of a call after the text: `7 duplicate root a ok`.
 pub(crate) fn put_call(

@@ -12,10 +12,10 @@ use crate::decider::{Decider, Stop};
 use crate::report::{Report, put_pending};
 use crate::runner::Runner;
 use crate::searching::Searching;
+use negotiation_inputs::Platform;
 use script_reading::Call;
 use std::alloc::{AllocError, Global};
 use sysmem_alloc::Book;
-use sysmem_sanitise::Platform;
 
 /// A collection on which calls were made, and their report.
 #[derive(Debug)]

@@ -7,9 +7,9 @@ ghost use Rattle.script_replay.specs.Replies.{AreReplies};
 use crate::decider::Stop;
 use crate::reply::Reply;
 use crate::runner::Runner;
+use negotiation_inputs::Platform;
 use script_reading::Call;
 use std::alloc::{AllocError, Global};
-use sysmem_sanitise::Platform;
 
 /// What each call answers where they are made in order on one collection of this platform, whose
 /// domains are decided by a search. `AllocError` where memory is refused, to a reply or a decision

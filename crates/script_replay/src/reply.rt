@@ -1,6 +1,6 @@
 //! What a call answers.
 
-use sysmem_sanitise::Fault;
+use record_reading::Fault;
 use sysmem_tree::Refusal;
 
 /// What a call of a script answers.

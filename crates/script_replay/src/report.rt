@@ -12,10 +12,10 @@ ghost use Rattle.sysmem_tree.specs.Domain.{HasDomain};
 use crate::decider::{Decider, Stop};
 use crate::domain_line::put_domain;
 use crate::replayed::replayed_of;
+use negotiation_inputs::Platform;
 use script_reading::Call;
 use std::alloc::{AllocError, Global};
 use sysmem_alloc::Book;
-use sysmem_sanitise::Platform;
 use sysmem_tree::DomainId;
 
 /// A report.

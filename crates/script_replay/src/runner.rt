@@ -29,13 +29,15 @@ use crate::line::put_call;
 use crate::reply::Reply;
 use crate::searching::Searching;
 use crate::telling::told;
+use negotiation_inputs::Platform;
+use record_reading::{Code, Fault};
 use script_reading::{Act, Call};
 use serde_json::Value;
 use std::alloc::{AllocError, Global};
 use std::sync::Arc;
 use sysmem_alloc::Book;
 use sysmem_alloc::laws::{few_entries, legal_is_sound};
-use sysmem_sanitise::{Code, Fault, Platform, read_constraints};
+use sysmem_sanitise::read_constraints;
 use sysmem_tree::{Action, DomainId, Event, NodeId, Refusal};
 use verdict_claims::Claim;
 

@@ -6,7 +6,7 @@ use Rattle.byte_transfer.specs.Transfer.{ReadsToLimit}
 use Rattle.script_reading.specs.declared.fault.ScriptFault.{ScriptFault}
 use Rattle.script_reading.specs.Text.{too_long, not_json, spelled, longest}
 use Rattle.serde_json.specs.Data.{Data}
-use Rattle.sysmem_sanitise.specs.Platform.{PlatformFacts}
+use Rattle.negotiation_inputs.specs.Platform.{PlatformFacts}
 use Rattle.script_replay.specs.Outcome.{ReportFacts, RunsWith, SaysOf, ValueRunsTo, refused, reported}
 use Rattle.script_replay.specs.Report.{Certified}
 

@@ -7,7 +7,7 @@ use Rattle.certificate_text.specs.Told.{decision_data}
 use Rattle.serde_json.specs.Data.{Data}
 use Rattle.sysmem_alloc.specs.Claims.{HasProof}
 use Rattle.verdict_claims.specs.declared.certificate.Claim.{Claim}
-use Rattle.sysmem_sanitise.specs.Platform.{PlatformFacts}
+use Rattle.negotiation_inputs.specs.Platform.{PlatformFacts}
 use Rattle.script_run.specs.Certificate.{AreProved, IsProved, data_of}
 use Rattle.script_replay.specs.Report.{Certified}
 

@@ -2,11 +2,3 @@ pub mod Certificate
 pub mod Endings
 pub mod Faults
 pub mod Run
-pub use Rattle.script_replay.specs.Answer
-pub use Rattle.script_replay.specs.Lines
-pub use Rattle.script_replay.specs.Outcome
-pub use Rattle.script_replay.specs.Replayed
-pub use Rattle.script_replay.specs.Report
-pub use Rattle.script_replay.specs.Runner
-pub use Rattle.script_replay.specs.State
-pub use Rattle.script_replay.specs.Stop

@@ -11,7 +11,7 @@ ghost use Rattle.script_replay.specs.Outcome.{RunsWith, ValueRunsTo, report_seen
 ghost use Rattle.script_replay.specs.Report.{IsReported};
 ghost use Rattle.script_run.specs.Run.{IsCausedBy, Ran, RanWithProof, WritesFronts, both_counts};
 ghost use Rattle.script_run.specs.Certificate.{CertifiesTo, certified_seen};
-ghost use Rattle.sysmem_sanitise.specs.Platform.{PlatformFacts};
+ghost use Rattle.negotiation_inputs.specs.Platform.{PlatformFacts};
 
 use crate::certifying::Certifying;
 use crate::fault::RunFault;

@@ -1,7 +1,7 @@
 -- What reports say of domains.
 use Rattle.std.specs.Prelude.{◌≡◌, ◌++◌, ◌⊎◌, ℕ, All, Contains, List, [], codes, false}
 use Rattle.std.specs.Str.Lines.{lines}
-use Rattle.sysmem_sanitise.specs.Platform.{PlatformFacts}
+use Rattle.negotiation_inputs.specs.Platform.{PlatformFacts}
 use Rattle.script_reading.specs.Script.{CallFacts}
 use Rattle.script_replay.specs.Report.{Certified, IsReport}
 use Rattle.script_story.specs.Paths.{path_at}

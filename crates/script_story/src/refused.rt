@@ -3,11 +3,12 @@
 use crate::story::{Deed, Made, Story};
 use explanation_text::wording::{MOST_NAMES, mark_after, put_few, put_joined};
 use explanation_text::{Gathered, Items, Name, Step, Text, Words};
+use record_reading::{Code, Fault};
 use script_faults::{Document, tell_record_fault};
 use script_reading::Act;
 use std::alloc::{AllocError, Global};
 use sysmem_counts::Field;
-use sysmem_sanitise::{Code, Fault, read_constraints};
+use sysmem_sanitise::read_constraints;
 use sysmem_tree::NodeKind;
 
 /// How many rows of refused calls are told.

@@ -11,10 +11,10 @@ ghost use Rattle.script_story.specs.Told.{IsReportedOn, line_on};
 
 use crate::effort::Effort;
 use crate::words::said_on;
+use negotiation_inputs::Platform;
 use script_reading::Call;
 use script_replay::{Replayed, replay};
 use std::alloc::{AllocError, Global};
-use sysmem_sanitise::Platform;
 
 /// A script's platform and its calls, with what its runs cost so far.
 #[derive(Clone, Copy)]

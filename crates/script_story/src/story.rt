@@ -4,10 +4,10 @@ ghost use Rattle.std.specs.Prelude.{◌≡◌};
 ghost use Rattle.script_story.specs.Paths.{path_at};
 
 use explanation_text::{Name, Words};
+use negotiation_inputs::Constraints;
 use script_reading::Act;
 use std::alloc::{AllocError, Global};
 use sysmem_merge::Settings;
-use sysmem_sanitise::Constraints;
 use sysmem_tree::{NodeKind, NodeState};
 
 /// A call, with its answer.

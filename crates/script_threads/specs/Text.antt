@@ -4,8 +4,8 @@ use Rattle.std.specs.Prelude.{◌≡◌, ℕ, ◌++◌, ◌||◌, Bool, true, fa
 use Rattle.std.specs.Fmt.{decimal}
 use Rattle.sysmem_image.specs.declared.size.Corner.{Corner}
 use Rattle.sysmem_image.specs.Corners.{IsCorner}
-use Rattle.sysmem_proof.specs.Chosen.{ChosenFacts}
-use Rattle.sysmem_sanitise.specs.Platform.{PlatformFacts}
+use Rattle.verdict_claims.specs.Chosen.{ChosenFacts}
+use Rattle.negotiation_inputs.specs.Platform.{PlatformFacts}
 use Rattle.sysmem_participants.specs.declared.faults.Audit.{Audit}
 use Rattle.script_replay.specs.Lines.{chosen_text, domain_line}
 

@@ -4,13 +4,13 @@ ghost use Rattle.std.specs.Prelude.{false, IfOk, OnOk};
 ghost use Rattle.std.specs.String.{string_bytes};
 ghost use Rattle.script_threads.specs.Text.{AreLines, HasLine};
 
+use negotiation_inputs::Platform;
 use script_replay::{put_chosen, put_word};
 use std::alloc::{AllocError, Global};
 use sysmem_alloc::Book;
 use sysmem_image::corner;
-use sysmem_proof::{Chosen, Verdict};
-use sysmem_sanitise::Platform;
 use sysmem_tree::{Path, Tree};
+use verdict_claims::{Chosen, Verdict};
 
 /// The lines of all domains.
 #[derive(Drop)]

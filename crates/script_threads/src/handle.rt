@@ -2,6 +2,8 @@
 
 use crate::activity::{Activity, Woken};
 use crate::called::Called;
+use negotiation_inputs::Constraints;
+use record_reading::Code;
 use script_reading::Act;
 use serde_json::Value;
 use std::alloc::Global;
@@ -9,7 +11,7 @@ use std::sync::ledger::Ledger;
 use std::sync::{Arc, Wait};
 use std::thread::Threads;
 use sysmem_participants::{Collection, Group, Stub, Token};
-use sysmem_sanitise::{Code, Constraints, read_constraints};
+use sysmem_sanitise::read_constraints;
 use sysmem_search::NoGate;
 use sysmem_tree::Refusal;
 

@@ -12,6 +12,7 @@ use crate::handle::Handle;
 use crate::planning::names_made;
 use crate::stage::{Remains, Stage};
 use crate::start::Signal;
+use negotiation_inputs::Platform;
 use script_reading::Call;
 use std::alloc::{AllocError, Global};
 use std::fmt::Write;
@@ -20,7 +21,6 @@ use std::sync::ledger::{Blank, Ledger};
 use std::thread;
 use std::thread::Threads;
 use sysmem_participants::{Allocator, Audit, AuditFault, Reader, Stub, Token, audit};
-use sysmem_sanitise::Platform;
 use sysmem_search::NoGate;
 
 /// What is told of a script that was played.

@@ -11,6 +11,7 @@ use crate::fault::PlayFault;
 use crate::planning::settle_waits;
 use crate::playing::{Told, play};
 use byte_transfer::{Sink, Source, read_up_to_limit, write_fully};
+use negotiation_inputs::Platform;
 use script_reading::{Call, LONGEST, Script, parse_script, read_script_apart};
 use script_replay::replies_of;
 use script_run::{Ended, RunFault};
@@ -21,7 +22,6 @@ use std::sync::Wait;
 use std::sync::ledger::Blank;
 use std::thread::Threads;
 use sysmem_participants::AuditFault;
-use sysmem_sanitise::Platform;
 
 /// The parts of a collection's ledger: one for each node that there can be, and one for the lock.
 const PARTS: u64 = 129;

@@ -6,10 +6,10 @@ use Rattle.list_lemmas.proofs.CallerLemmas.{and_parts}
 use Rattle.sysmem_counts.specs.Bounds.{IsTallyOf}
 use Rattle.sysmem_counts.specs.Tally.{Tally, sum_of}
 use Rattle.sysmem_merge.specs.declared.settings.Settings.{Settings}
-use Rattle.sysmem_merge.specs.Demands.{counts_asked}
+use Rattle.offer_fits.specs.Demands.{counts_asked}
 use Rattle.sysmem_merge.specs.Settings.{CoversOn}
-use Rattle.sysmem_sanitise.specs.Participant.{Participant}
-use Rattle.sysmem_sanitise.specs.Platform.{PlatformFacts}
+use Rattle.negotiation_inputs.specs.Participant.{Participant}
+use Rattle.negotiation_inputs.specs.Platform.{PlatformFacts}
 use Rattle.search_questions.specs.declared.on_base.OnBase.{OnBase}
 use Rattle.search_questions.specs.Kept.{TakesBase}
 use Rattle.search_questions.proofs.Taking.{both_have, front_has, rest_has, counted_more}

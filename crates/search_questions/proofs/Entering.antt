@@ -6,10 +6,10 @@ use Rattle.std.proofs.lemmas.List.{take_all, length-set}
 use Rattle.std.proofs.lemmas.List.Elements.{filter_map-append}
 use Rattle.std.proofs.lemmas.List.Sorted.{length_permutation}
 use Rattle.std.proofs.lemmas.Option.{same_Some, slice_get_within}
-use Rattle.list_lemmas.proofs.CallerLemmas.{slice_get-set_same, slice_get-set_other, of_some}
+use Rattle.list_lemmas.proofs.CallerLemmas.{slice_get-set_same, slice_get-set_other, of_some, taken_in_order}
 use Rattle.sysmem_merge.specs.Sum.{SumsInAnyOrder}
 use Rattle.verdict_claims.specs.Members.{participants}
-use Rattle.sysmem_sanitise.specs.Participant.{Participant}
+use Rattle.negotiation_inputs.specs.Participant.{Participant}
 use Rattle.search_questions.specs.declared.kept.Part.{Part}
 use Rattle.search_questions.specs.declared.levels.Level.{Level}
 use Rattle.search_questions.specs.Kept.{IsKeptFor, IsPartFor, HaveRoom}
@@ -17,7 +17,6 @@ use Rattle.verdict_claims.specs.Matter.{Matter, forest}
 use Rattle.verdict_claims.specs.Asked.{asks_at, asked_in}
 use Rattle.search_questions.specs.Standing.{IsLevel, AreLevels, AreMade, AreParts, IsSlot, StandsAt, numbers}
 use Rattle.search_questions.proofs.Keeping.{kept_in_order, have_room}
-use Rattle.list_lemmas.proofs.CallerLemmas.{taken_in_order}
 use Rattle.search_questions.proofs.AskedMembers.{root_there, numbers_left, same_asked, some_of, if_some}
 use Rattle.search_questions.proofs.Shapes.{few_settled}
 use Rattle.search_questions.proofs.Taking.{few_asked_of}

@@ -6,8 +6,8 @@ use Rattle.std.proofs.lemmas.List.{take_more, take_all, take-append-drop, map-ap
 use Rattle.std.proofs.lemmas.List.Elements.{filter_map-append}
 use Rattle.list_lemmas.proofs.CallerLemmas.{slice_get_some}
 use Rattle.sysmem_counts.specs.declared.constraints.CountConstraints.{CountConstraints}
-use Rattle.sysmem_merge.specs.Demands.{counts_asked}
-use Rattle.sysmem_sanitise.specs.Participant.{Participant}
+use Rattle.offer_fits.specs.Demands.{counts_asked}
+use Rattle.negotiation_inputs.specs.Participant.{Participant}
 use Rattle.verdict_claims.specs.Asked.{asks_at, asked_in}
 use Rattle.sysmem_tree.specs.Node.{NodeFacts}
 

@@ -4,15 +4,15 @@ use Rattle.std.specs.Prelude.{Option, Some, None, length}
 use Rattle.sysmem_counts.specs.Bounds as counts
 use Rattle.sysmem_counts.specs.Tally.{sum_of}
 use Rattle.sysmem_merge.specs.declared.settings.Settings.{Settings}
-use Rattle.sysmem_merge.specs.Demands.{counts_asked}
+use Rattle.offer_fits.specs.Demands.{counts_asked}
 use Rattle.sysmem_merge.specs.Settings.{CoversOn}
 use Rattle.sysmem_merge.specs.Share.{IsShareOf}
 use Rattle.sysmem_merge.specs.Sum.{SumsUp}
 use Rattle.sysmem_merge.specs.declared.sum.TheConstants.{MOST_ADDED}
 use Rattle.verdict_claims.specs.Base.{BaseFacts}
 use Rattle.verdict_claims.specs.Matter.{Matter}
-use Rattle.sysmem_sanitise.specs.Participant.{Participant}
-use Rattle.sysmem_sanitise.specs.Platform.{PlatformFacts}
+use Rattle.negotiation_inputs.specs.Participant.{Participant}
+use Rattle.negotiation_inputs.specs.Platform.{PlatformFacts}
 use Rattle.search_questions.specs.declared.kept.Kept.{Kept}
 use Rattle.search_questions.specs.declared.kept.Kept.TheVariants as kept_as
 use Rattle.search_questions.specs.declared.kept.Part.{Part}

@@ -3,7 +3,7 @@ use Rattle.std.specs.Prelude.{◌≡◌, ◌≤◌, ◌+◌, ℕ, List, [], Opti
 use Rattle.std.specs.Prelude.{length, slice_get, take}
 use Rattle.conflict_finding.specs.Subject.{IsSubject}
 use Rattle.verdict_claims.specs.Members.{participants}
-use Rattle.sysmem_sanitise.specs.Participant.{Participant}
+use Rattle.negotiation_inputs.specs.Participant.{Participant}
 use Rattle.search_questions.specs.declared.kept.Part.{Part}
 use Rattle.search_questions.specs.declared.levels.Level.{Level}
 use Rattle.search_questions.specs.Kept.{IsKeptFor, IsPartFor}

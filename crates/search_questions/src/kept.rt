@@ -5,7 +5,7 @@ ghost use Rattle.std.specs.Prelude.{◌≡◌, ◌↔◌, ◌++◌, List, [], �
 ghost use Rattle.sysmem_merge.specs.declared.settings.Settings.{Settings as Settled};
 ghost use Rattle.verdict_claims.specs.Matter.{Matter};
 ghost use Rattle.verdict_claims.specs.Members.{participants};
-ghost use Rattle.sysmem_sanitise.specs.Participant.{Participant};
+ghost use Rattle.negotiation_inputs.specs.Participant.{Participant};
 ghost use Rattle.search_questions.specs.Kept.{IsKeptFor, IsPartFor, HasRoom, HaveRoom};
 ghost use Rattle.search_questions.specs.Question.{MeetsOf, MeetsSoFar, IsBestOf};
 ghost use Rattle.search_questions.specs.declared.kept.Kept.TheVariants as kept_as;
@@ -13,9 +13,9 @@ ghost use Rattle.sysmem_tree.specs.Shape.{Member};
 
 use crate::on_base::OnBase;
 use conflict_finding::Subject;
+use negotiation_inputs::Constraints;
 use std::alloc::AllocError;
 use sysmem_merge::{Settings, Share, Sum};
-use sysmem_sanitise::Constraints;
 
 /// What is kept of the participants that one choice settles, made once for a search.
 #[derive(Drop)]

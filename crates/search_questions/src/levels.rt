@@ -1,7 +1,7 @@
 //! What a search keeps at each prefix from no choice on to where it stands.
 
 ghost use Rattle.std.specs.Prelude.{◌≡◌, ◌≢◌, ◌<◌, ◌≤◌, ◌+◌, ◌++◌, ℕ, List, [], Option, Some, IfOk, IsSomeAnd, OnOk, length, slice_get};
-ghost use Rattle.sysmem_sanitise.specs.Participant.{Participant};
+ghost use Rattle.negotiation_inputs.specs.Participant.{Participant};
 ghost use Rattle.search_questions.specs.Kept.{IsKeptFor, IsPartFor, HaveRoom};
 ghost use Rattle.search_questions.specs.Standing.{AreMade, AreParts, IsLevel, IsSlot, LaysOut};
 ghost use Rattle.search_questions.specs.declared.kept.Part.{Part as APart};

@@ -6,19 +6,19 @@ ghost use Rattle.sysmem_counts.specs.Bounds.{IsTallyOf};
 ghost use Rattle.sysmem_counts.specs.Counts.{IsCounted};
 ghost use Rattle.sysmem_counts.specs.Tally.{sum_of};
 ghost use Rattle.sysmem_counts.specs.declared.constraints.CountConstraints.{CountConstraints as Counted};
-ghost use Rattle.sysmem_merge.specs.Demands.{counts_asked};
+ghost use Rattle.offer_fits.specs.Demands.{counts_asked};
 ghost use Rattle.sysmem_merge.specs.Settings.{CoversOn};
 ghost use Rattle.sysmem_merge.specs.declared.settings.Settings.{Settings as Settled};
-ghost use Rattle.sysmem_sanitise.specs.Participant.{Participant};
-ghost use Rattle.sysmem_sanitise.specs.Platform.{PlatformFacts};
+ghost use Rattle.negotiation_inputs.specs.Participant.{Participant};
+ghost use Rattle.negotiation_inputs.specs.Platform.{PlatformFacts};
 ghost use Rattle.search_questions.specs.Kept.{TakesBase};
 ghost use Rattle.sysmem_tree.specs.declared.tree.TheConstants.{MOST_NODES};
 ghost use Rattle.verdict_claims.specs.Asked.{asked_in};
 ghost use Rattle.sysmem_tree.specs.Nodes.{HasNode};
 
+use negotiation_inputs::{Constraints, Platform};
 use sysmem_counts::CountBounds;
 use sysmem_merge::{Settings, meets_one};
-use sysmem_sanitise::{Constraints, Platform};
 use sysmem_tree::{NodeId, Tree};
 
 /// What participants ask of the number of buffers together with those accepted before them, and

@@ -2,14 +2,14 @@
 
 ghost use Rattle.std.specs.Prelude.{◌≤◌, ◌++◌, ℕ, List, [], length, option_map};
 ghost use Rattle.std.specs.List.{cons_option};
-ghost use Rattle.sysmem_sanitise.specs.Participant.{Participant};
+ghost use Rattle.negotiation_inputs.specs.Participant.{Participant};
 ghost use Rattle.search_questions.specs.Kept.{HasRoom, IsPartFor};
 ghost use Rattle.verdict_claims.specs.Asked.{asked_in};
 ghost use Rattle.sysmem_tree.specs.OpenGroups.{HasLeft, HoldsNodes};
 
 use crate::kept::Part;
 use conflict_finding::Subject;
-use sysmem_sanitise::Constraints;
+use negotiation_inputs::Constraints;
 use sysmem_tree::{Layout, MOST_NODES, SettledNodes};
 
 /// Adds what is asked, if anything is.

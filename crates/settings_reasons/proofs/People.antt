@@ -10,10 +10,10 @@ use Rattle.sysmem_memory.specs.Heap.{HeapFacts}
 use Rattle.sysmem_memory.specs.PlaceTable.{PlaceDemand}
 use Rattle.sysmem_memory.specs.Wishes.{MemoryWishes}
 use Rattle.sysmem_merge.specs.Best.{IsUnmet}
-use Rattle.sysmem_merge.specs.Demands.{offer_demands, place_demand, place_demands}
+use Rattle.offer_fits.specs.Demands.{offer_demands, place_demand, place_demands}
 use Rattle.sysmem_merge.specs.OfferRead.{IsRefusingLine}
-use Rattle.sysmem_sanitise.specs.Participant.{Participant}
-use Rattle.sysmem_sanitise.specs.Platform.{PlatformFacts}
+use Rattle.negotiation_inputs.specs.Participant.{Participant}
+use Rattle.negotiation_inputs.specs.Platform.{PlatformFacts}
 use Rattle.settings_reasons.specs.declared.rows.Reason.{Reason}
 use Rattle.settings_reasons.specs.True.{AreInTheWay, IsLineReason, IsPlaceReason}
 use Rattle.value_sources.specs.declared.asked.Asked.{Asked}

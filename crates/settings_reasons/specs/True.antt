@@ -6,10 +6,10 @@ use Rattle.sysmem_memory.specs.declared.domain.CoherencyDomain.{CoherencyDomain}
 use Rattle.sysmem_memory.specs.Heap.{HeapFacts}
 use Rattle.sysmem_memory.specs.PlaceTable.{refuses_by}
 use Rattle.sysmem_merge.specs.Best.{IsUnmet}
-use Rattle.sysmem_merge.specs.Demands.{offer_demand, offer_demands}
-use Rattle.sysmem_merge.specs.Offers.{has_format, has_colour}
+use Rattle.offer_fits.specs.Demands.{offer_demand, offer_demands}
+use Rattle.offer_fits.specs.Offers.{has_format, has_colour}
 use Rattle.sysmem_merge.specs.OfferRead.{IsRefusingLine}
-use Rattle.sysmem_sanitise.specs.Platform.{PlatformFacts}
+use Rattle.negotiation_inputs.specs.Platform.{PlatformFacts}
 use Rattle.settings_reasons.specs.declared.rows.Reason.{Reason}
 use Rattle.value_sources.specs.declared.asked.Asked.{Asked}
 use Rattle.value_sources.specs.Sources.{all_asked}

@@ -7,11 +7,11 @@ use crate::placing::{place_name, places_of};
 use crate::refusing::{place_rows, tell_offers};
 use crate::rows::tell_rows;
 use explanation_text::{Items, Words};
+use negotiation_inputs::Platform;
 use std::alloc::{AllocError, Global};
 use sysmem_counts::Field;
 use sysmem_formats::{Offer, Pair, bytes_per_pixel};
 use sysmem_merge::Settings;
-use sysmem_sanitise::Platform;
 use value_sources::{Asked, Derived, Side, Wishes, why_needed};
 
 /// Tells where the settings come from that were chosen for participants.

@@ -3,9 +3,9 @@
 use crate::amounts::{Amount, amount_at, put_amount};
 use crate::offer_words::pair_name;
 use explanation_text::{Items, Words};
+use negotiation_inputs::Constraints;
 use sysmem_counts::Field;
 use sysmem_image::{Entry, ImageBounds};
-use sysmem_sanitise::Constraints;
 use value_sources::Asked;
 
 /// How many are told.

@@ -13,11 +13,11 @@ use crate::refusing::{offer_rows, place_rows};
 use crate::rows::{nearest, tell_rows};
 use explanation_text::wording::MOST_NAMES;
 use explanation_text::{Items, Words};
+use negotiation_inputs::Platform;
 use std::alloc::{AllocError, Global};
 use sysmem_counts::Field;
 use sysmem_formats::Offer;
 use sysmem_merge::Aggregate;
-use sysmem_sanitise::Platform;
 use value_sources::{Asked, count_text, is_count_line, put_people};
 
 /// The two lines on a count.

@@ -9,12 +9,12 @@ use crate::offering::{are_refused, offers_of};
 use crate::placing::{put_place, put_place_reason};
 use crate::refusing::tell_offers;
 use explanation_text::{Gathered, Items, Words};
+use negotiation_inputs::{Constraints, Platform};
 use std::alloc::{AllocError, Global};
 use sysmem_counts::Field;
 use sysmem_formats::Offer;
 use sysmem_image::{entry_for, takes_colour};
 use sysmem_merge::{Settings, fails_in};
-use sysmem_sanitise::{Constraints, Platform};
 use value_sources::Asked;
 
 /// The fields in which settings may fail a participant, in the order in which they are looked at.

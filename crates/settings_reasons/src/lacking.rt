@@ -4,10 +4,10 @@ use crate::listed::is_taken;
 use crate::offer_words::pair_name;
 use crate::rows::{Row, add, tell_rows};
 use explanation_text::{Items, Text, Words};
+use negotiation_inputs::Platform;
 use std::alloc::AllocError;
 use sysmem_image::{ColourSet, Entry};
 use sysmem_memory::Heap;
-use sysmem_sanitise::Platform;
 use value_sources::{Asked, put_has};
 
 /// Something that a participant names.

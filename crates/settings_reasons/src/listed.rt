@@ -1,9 +1,9 @@
 //! Pairs that participants list before the one that was chosen.
 
+use negotiation_inputs::Platform;
 use std::alloc::{AllocError, Global};
 use sysmem_formats::{Modifier, Pair, PixelFormat};
 use sysmem_image::Entry;
-use sysmem_sanitise::Platform;
 use value_sources::Asked;
 
 /// The pairs that stand after one on a platform, and that a participant names in an entry before

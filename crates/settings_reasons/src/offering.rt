@@ -1,21 +1,20 @@
 //! Which offers of a platform participants refuse, and by which line.
 
 ghost use Rattle.std.specs.Prelude.{List, All, IfOk, OnOk, IsTrue};
-ghost use Rattle.settings_reasons.specs.True.{IsColourReason, IsEntryReason, IsLineReason};
-ghost use Rattle.settings_reasons.specs.True.{LacksColour, LacksEntry};
+ghost use Rattle.settings_reasons.specs.True.{IsColourReason, IsEntryReason, IsLineReason, LacksColour, LacksEntry};
 ghost use Rattle.sysmem_formats.specs.declared.offer.Offer.{Offer as Offered};
-ghost use Rattle.sysmem_merge.specs.Demands.{OfferDemand, offer_demands};
+ghost use Rattle.offer_fits.specs.Demands.{OfferDemand, offer_demands};
 ghost use Rattle.sysmem_merge.specs.OfferRead.{IsOfferRead, IsRefusingLine};
 ghost use Rattle.sysmem_merge.specs.Reasons.{IsOfferRefused};
 ghost use Rattle.value_sources.specs.Sources.{all_asked};
 
 use crate::rows::Reason;
+use negotiation_inputs::Platform;
 use std::alloc::{AllocError, Global};
 use sysmem_counts::Field;
 use sysmem_formats::{Offer, offer_at};
 use sysmem_image::{entry_for, takes_colour};
 use sysmem_merge::OfferRead;
-use sysmem_sanitise::Platform;
 use value_sources::Asked;
 
 /// The lines on the bounds of images, in the order of the conflict table.

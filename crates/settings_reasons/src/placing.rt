@@ -3,16 +3,16 @@
 ghost use Rattle.std.specs.Prelude.{All, IfOk, OnOk, IsTrue};
 ghost use Rattle.settings_reasons.specs.True.{IsPlaceReason, Refuses};
 ghost use Rattle.sysmem_memory.specs.Place.{HasNoPlace};
-ghost use Rattle.sysmem_merge.specs.Demands.{place_demands};
+ghost use Rattle.offer_fits.specs.Demands.{place_demands};
 ghost use Rattle.value_sources.specs.Sources.{all_asked};
 
 use crate::rows::{Reason, put_those};
 use explanation_text::wording::put_visible;
 use explanation_text::{Gathered, Words};
+use negotiation_inputs::Platform;
 use std::alloc::{AllocError, Global};
 use sysmem_counts::Field;
 use sysmem_memory::{CoherencyDomain, Heap, HeapInfo, MemoryBounds, Place, refuses_in};
-use sysmem_sanitise::Platform;
 use value_sources::{Asked, put_has};
 
 /// The fields by which a place is refused, in the order of the place table.

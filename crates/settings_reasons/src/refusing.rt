@@ -5,11 +5,11 @@ use crate::offering::{distance_of, offer_reasons};
 use crate::placing::{place_name, place_reasons, put_place_reason};
 use crate::rows::{Reason, Row, add, tell_rows};
 use explanation_text::{Gathered, Items, Text, Words};
+use negotiation_inputs::Platform;
 use std::alloc::{AllocError, Global};
 use std::mem;
 use sysmem_formats::Offer;
 use sysmem_memory::Place;
-use sysmem_sanitise::Platform;
 use value_sources::Asked;
 
 /// Rows of places that participants refuse. Where all reasons of all are asked for, the nearest

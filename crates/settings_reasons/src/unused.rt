@@ -3,10 +3,10 @@
 ghost use Rattle.std.specs.Prelude.{◌≡◌, ◌<◌, All, IfOk, IfSome, IsTrue, length};
 ghost use Rattle.settings_reasons.specs.Held.{IsHolder, IsNeverUsed, is_taken_before, takes};
 
+use negotiation_inputs::Platform;
 use std::alloc::{AllocError, Global};
 use sysmem_formats::{ColourSpace, Offer, Pair};
 use sysmem_image::{Entry, entry_for};
-use sysmem_sanitise::Platform;
 
 /// The entries, by index, that hold for no pair of a platform.
 pub fn unused_entries(

@@ -11,7 +11,7 @@ use Rattle.verdict_claims.specs.declared.verdict.Verdict.{Verdict}
 use Rattle.verdict_claims.specs.declared.verdict.Verdict.TheVariants as verdicts
 use Rattle.verdict_claims.specs.Base.{BaseFacts}
 use Rattle.verdict_claims.specs.Verdict.{IsOptimalIn}
-use Rattle.sysmem_sanitise.specs.Platform.{PlatformFacts}
+use Rattle.negotiation_inputs.specs.Platform.{PlatformFacts}
 use Rattle.sysmem_tree.specs.declared.domain.Decision.{Decision as Standing}
 use Rattle.sysmem_tree.specs.declared.domain.Decision.TheVariants.{Undecided, Chosen, NoneChosen}
 use Rattle.sysmem_tree.specs.declared.domain.Domain.{Domain}

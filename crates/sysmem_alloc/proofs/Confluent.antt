@@ -7,7 +7,7 @@ use Rattle.verdict_claims.specs.declared.verdict.Verdict.{Verdict}
 use Rattle.verdict_claims.specs.Base.{terms_of}
 use Rattle.verdict_claims.specs.Laws.{OneAnswer}
 use Rattle.verdict_claims.specs.Verdict.{IsOptimal, IsOptimalIn}
-use Rattle.sysmem_sanitise.specs.Platform.{PlatformFacts}
+use Rattle.negotiation_inputs.specs.Platform.{PlatformFacts}
 use Rattle.sysmem_tree.specs.declared.refusal.Refusal.{Refusal}
 use Rattle.sysmem_tree.specs.Domain.{TreeFacts, HasDomain, host_node, is_ready}
 use Rattle.sysmem_tree.specs.History as trees

@@ -8,7 +8,7 @@ use Rattle.std.proofs.lemmas.Option.{same_Some, slice_get_within}
 use Rattle.sysmem_merge.specs.declared.settings.Settings.{Settings}
 use Rattle.verdict_claims.specs.Base.{BaseFacts, IsElsewhere, IsGivenBase, Terms, terms_of}
 use Rattle.verdict_claims.specs.Members.{member_at, members_at}
-use Rattle.sysmem_sanitise.specs.Platform.{PlatformFacts}
+use Rattle.negotiation_inputs.specs.Platform.{PlatformFacts}
 use Rattle.sysmem_tree.specs.Domain.{TreeFacts}
 use Rattle.sysmem_tree.specs.Node.{NodeFacts}
 use Rattle.sysmem_tree.specs.Nodes.{HasNode}

@@ -12,7 +12,7 @@ use Rattle.verdict_claims.specs.declared.verdict.Verdict.{Verdict}
 use Rattle.verdict_claims.specs.declared.verdict.Verdict.TheVariants as verdicts
 use Rattle.sysmem_tree.specs.declared.domain.Decision.TheVariants.{Chosen, NoneChosen}
 use Rattle.verdict_claims.specs.Base.{IsBase, IsElsewhere, IsGivenBase}
-use Rattle.sysmem_sanitise.specs.Platform.{PlatformFacts}
+use Rattle.negotiation_inputs.specs.Platform.{PlatformFacts}
 use Rattle.sysmem_tree.specs.declared.node.Birth.{Birth}
 use Rattle.sysmem_tree.specs.Domain.{TreeFacts, HasDomain, decision_of, has_failed, host_node, host_number, is_chosen, is_complete, is_host_selected, is_ready}
 use Rattle.sysmem_tree.specs.Members.{MembersStandOnce}

@@ -9,7 +9,7 @@ use Rattle.sysmem_tree.specs.declared.refusal.Refusal.{Refusal}
 use Rattle.sysmem_tree.specs.Domain.{TreeFacts, HasDomain, has_failed, host_node, is_complete, is_host_selected, is_ready}
 use Rattle.sysmem_tree.specs.Laws.{FailedStays, OneForest, ReadyStays}
 use Rattle.sysmem_tree.specs.Tree.{Applied, applied}
-use Rattle.sysmem_sanitise.specs.Platform.{PlatformFacts}
+use Rattle.negotiation_inputs.specs.Platform.{PlatformFacts}
 use Rattle.sysmem_alloc.specs.Decision.{DomainVerdict, answer_of, choices_of, decision_for}
 use Rattle.sysmem_alloc.specs.Entry.{BookEntry, Acted, Decided, tree_entry}
 use Rattle.sysmem_alloc.specs.History.{after_answer, after_entry, replay, Allows, IsLegal}

@@ -13,7 +13,7 @@ use Rattle.verdict_claims.specs.Check.{IsProof}
 use Rattle.verdict_claims.specs.Claim.{IsTrueClaim}
 use Rattle.verdict_claims.specs.Members.{members_at}
 use Rattle.verdict_claims.specs.Verdict.{IsOptimal, IsOptimalIn}
-use Rattle.sysmem_sanitise.specs.Platform.{PlatformFacts}
+use Rattle.negotiation_inputs.specs.Platform.{PlatformFacts}
 use Rattle.sysmem_tree.specs.declared.refusal.Refusal.{Refusal}
 use Rattle.sysmem_tree.specs.ActionKind.{Deed}
 use Rattle.sysmem_tree.specs.Domain.{TreeFacts, HasDomain, host_node}

@@ -8,8 +8,8 @@ use Rattle.list_lemmas.proofs.CallerLemmas.{and_parts}
 use Rattle.verdict_claims.specs.Asked.{asks_at}
 use Rattle.book_events.specs.declared.entry.Entry.{Entry}
 use Rattle.book_events.specs.declared.entry.Entry.TheVariants as entries
-use Rattle.sysmem_sanitise.specs.Participant.{Participant}
-use Rattle.sysmem_sanitise.specs.Platform.{PlatformFacts}
+use Rattle.negotiation_inputs.specs.Participant.{Participant}
+use Rattle.negotiation_inputs.specs.Platform.{PlatformFacts}
 use Rattle.sysmem_tree.specs.declared.action.ActionKind.{ActionKind}
 use Rattle.sysmem_tree.specs.declared.action.ActionKind.TheVariants as kinds
 use Rattle.sysmem_tree.specs.declared.refusal.Refusal.{Refusal}

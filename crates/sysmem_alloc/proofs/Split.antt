@@ -2,7 +2,7 @@
 use Rattle.std.proofs.Common.{◌≡◌, ◌⊎◌, inl, inr, ℕ, Bool, true, false, List, [], ◌∷◌, ◌++◌, Option, Some, None, Result, Ok, Err, refl, sym, ◌∙◌, ap, subst}
 use Rattle.std.specs.Prelude.{option_map, unwrap_or, if◌then◌else◌}
 use Rattle.std.proofs.lemmas.Option.{same_Some}
-use Rattle.sysmem_sanitise.specs.Platform.{PlatformFacts}
+use Rattle.negotiation_inputs.specs.Platform.{PlatformFacts}
 use Rattle.sysmem_tree.specs.declared.refusal.Refusal.{Refusal}
 use Rattle.sysmem_tree.specs.Domain.{has_failed}
 use Rattle.sysmem_tree.specs.Forest.{Forest}

@@ -11,7 +11,7 @@ use Rattle.verdict_claims.specs.Base.{Terms, terms_of}
 use Rattle.verdict_claims.specs.Check.{IsProof}
 use Rattle.verdict_claims.specs.Claim.{IsTrueClaim}
 use Rattle.verdict_claims.specs.Verdict.{IsOptimal}
-use Rattle.sysmem_sanitise.specs.Platform.{PlatformFacts}
+use Rattle.negotiation_inputs.specs.Platform.{PlatformFacts}
 use Rattle.sysmem_tree.specs.Forest.{Forest}
 use Rattle.sysmem_tree.specs.Shape.{Member, shape_of}
 

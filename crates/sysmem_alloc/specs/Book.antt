@@ -1,7 +1,7 @@
 -- What a book keeps.
 use Rattle.std.specs.Prelude.{◌≡◌, ◌++◌, ℕ, Bool, false, List, [], ◌∷◌, map, filter, get_or}
 use Rattle.std.specs.List.{filter_map}
-use Rattle.sysmem_sanitise.specs.Platform.{PlatformFacts}
+use Rattle.negotiation_inputs.specs.Platform.{PlatformFacts}
 use Rattle.book_events.specs.declared.entry.Entry.{Entry}
 use Rattle.sysmem_alloc.specs.Entry.{BookEntry, entry_in, decision_in}
 use Rattle.sysmem_alloc.specs.History.{IsLegal, after_entry, replay}

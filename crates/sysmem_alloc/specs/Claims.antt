@@ -6,7 +6,7 @@ use Rattle.verdict_claims.specs.declared.verdict.Verdict.TheVariants.{TooMany}
 use Rattle.verdict_claims.specs.Base.{BaseFacts}
 use Rattle.verdict_claims.specs.Claim.{IsProofIn}
 use Rattle.verdict_claims.specs.Verdict.{IsOptimalIn}
-use Rattle.sysmem_sanitise.specs.Platform.{PlatformFacts}
+use Rattle.negotiation_inputs.specs.Platform.{PlatformFacts}
 use Rattle.sysmem_tree.specs.Node.{NodeFacts}
 
 -- a claim comes without a proof

@@ -4,7 +4,7 @@ use Rattle.std.specs.Arc.{arc_value}
 use Rattle.book_events.specs.declared.entry.Entry.{Entry}
 use Rattle.book_events.specs.declared.entry.Entry.TheVariants as entries
 use Rattle.sysmem_alloc.specs.Decision.{Claimed, DomainVerdict, answer_of, choices_of}
-use Rattle.sysmem_sanitise.specs.Participant.{Participant}
+use Rattle.negotiation_inputs.specs.Participant.{Participant}
 use Rattle.verdict_claims.specs.Asked.{asks_at}
 use Rattle.sysmem_tree.specs.declared.action.ActionKind.{ActionKind}
 use Rattle.sysmem_tree.specs.declared.action.ActionKind.TheVariants as kinds

@@ -1,7 +1,7 @@
 -- What a decision is made from.
 use Rattle.std.specs.Prelude.{◌≡◌, ℕ, Option, Some, option_map}
 use Rattle.verdict_claims.specs.Base.{BaseFacts, IsGivenBase, terms_of}
-use Rattle.sysmem_sanitise.specs.Platform.{PlatformFacts}
+use Rattle.negotiation_inputs.specs.Platform.{PlatformFacts}
 use Rattle.sysmem_tree.specs.Domain.{TreeFacts}
 use Rattle.sysmem_tree.specs.Shape.{shape_of}
 use Rattle.sysmem_alloc.specs.Book.{BookFacts}

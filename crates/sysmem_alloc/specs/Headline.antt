@@ -2,10 +2,10 @@
 use Rattle.std.specs.Prelude.{◌≡◌, ◌≤◌, ◌<◌, ◌++◌, ℕ, true, List, ◌∷◌, Option, Some, None, All}
 use Rattle.std.specs.Prelude.{option_map}
 use Rattle.sysmem_counts.specs.Counts.{IsCounted}
-use Rattle.sysmem_merge.specs.Demands.{counts_asked}
+use Rattle.offer_fits.specs.Demands.{counts_asked}
 use Rattle.sysmem_merge.specs.Settings.{CoversOn}
-use Rattle.sysmem_sanitise.specs.Participant.{Participant}
-use Rattle.sysmem_sanitise.specs.Platform.{PlatformFacts}
+use Rattle.negotiation_inputs.specs.Participant.{Participant}
+use Rattle.negotiation_inputs.specs.Platform.{PlatformFacts}
 use Rattle.sysmem_tree.specs.Domain.{HasDomain, is_ready}
 use Rattle.sysmem_tree.specs.Forest.{Forest, count, settled}
 use Rattle.sysmem_tree.specs.Selection.{IsSelection}

@@ -1,7 +1,7 @@
 -- Histories of a book: the states that they lead to, and which are legal.
 use Rattle.std.specs.Prelude.{◌≡◌, List, [], ◌∷◌, Some, Result, Ok, Err, IsOk, IfSome, map}
 use Rattle.std.specs.List.{AllByRecursion}
-use Rattle.sysmem_sanitise.specs.Platform.{PlatformFacts}
+use Rattle.negotiation_inputs.specs.Platform.{PlatformFacts}
 use Rattle.sysmem_tree.specs.declared.refusal.Refusal.{Refusal}
 use Rattle.sysmem_tree.specs.History as trees
 use Rattle.sysmem_tree.specs.Tree.{Applied, applied, decided}

@@ -8,7 +8,7 @@ use Rattle.verdict_claims.specs.declared.verdict.Verdict.{Verdict}
 use Rattle.verdict_claims.specs.Base.{BaseFacts, IsGivenBase, terms_of}
 use Rattle.verdict_claims.specs.Claim.{IsTrueClaim}
 use Rattle.verdict_claims.specs.Verdict.{IsOptimalIn, IsSameAnswer}
-use Rattle.sysmem_sanitise.specs.Platform.{PlatformFacts}
+use Rattle.negotiation_inputs.specs.Platform.{PlatformFacts}
 use Rattle.sysmem_tree.specs.Domain.{HasDomain, decision_of, is_ready, is_undecided}
 use Rattle.sysmem_tree.specs.Laws.{AreStill, SameInitial, SameReady, IsSameDomain}
 use Rattle.sysmem_tree.specs.Node.{NodeFacts}

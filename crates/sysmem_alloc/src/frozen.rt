@@ -4,8 +4,8 @@ ghost use Rattle.std.specs.Prelude.{◌≡◌, option_map};
 ghost use Rattle.sysmem_alloc.specs.Sound.{MayWait};
 ghost use Rattle.verdict_claims.specs.Base.{IsGivenBase};
 
+use negotiation_inputs::Platform;
 use std::marker::Model;
-use sysmem_sanitise::Platform;
 use sysmem_tree::{DomainId, Tree};
 use verdict_claims::Base;
 

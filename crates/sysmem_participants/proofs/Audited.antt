@@ -3,8 +3,8 @@ use Rattle.std.proofs.Common.{◌≡◌, ℕ, List, [], ◌∷◌, Option, Some,
 use Rattle.std.specs.Prelude.{IfSome, map, option_map, option_and_then, unwrap_or}
 use Rattle.std.proofs.lemmas.Option.{same_Some}
 use Rattle.verdict_claims.specs.declared.verdict.Verdict.{Verdict}
-use Rattle.sysmem_proof.specs.Verdict.{IsSameAnswer}
-use Rattle.sysmem_sanitise.specs.Platform.{PlatformFacts}
+use Rattle.verdict_claims.specs.Verdict.{IsSameAnswer}
+use Rattle.negotiation_inputs.specs.Platform.{PlatformFacts}
 use Rattle.sysmem_tree.specs.declared.refusal.Refusal.{Refusal}
 use Rattle.sysmem_tree.specs.ActionKind.{Deed}
 use Rattle.sysmem_tree.specs.Domain.{TreeFacts}

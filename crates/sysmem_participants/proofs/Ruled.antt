@@ -7,13 +7,13 @@ use Rattle.sysmem_alloc.specs.State.{base_of, next_ready}
 use Rattle.verdict_claims.specs.declared.certificate.Claim.{Claim as AClaim}
 use Rattle.verdict_claims.specs.declared.certificate.Proof.{Proof}
 use Rattle.verdict_claims.specs.declared.verdict.Verdict.{Verdict}
-use Rattle.sysmem_proof.specs.Base.{BaseFacts}
-use Rattle.sysmem_proof.specs.Claim.{IsProofIn, IsTrueClaim}
-use Rattle.sysmem_proof.specs.Verdict.{IsOptimalIn}
+use Rattle.verdict_claims.specs.Base.{BaseFacts}
+use Rattle.verdict_claims.specs.Claim.{IsProofIn, IsTrueClaim}
+use Rattle.verdict_claims.specs.Verdict.{IsOptimalIn}
 use Rattle.sysmem_room.specs.declared.outcome.Outcome.TheVariants as outcomes
 use Rattle.sysmem_room.specs.Ruling.{RulingFacts, IsRuling}
-use Rattle.sysmem_sanitise.specs.Platform.{PlatformFacts}
-use Rattle.sysmem_sanitise.specs.Participant.{Participant}
+use Rattle.negotiation_inputs.specs.Platform.{PlatformFacts}
+use Rattle.negotiation_inputs.specs.Participant.{Participant}
 use Rattle.sysmem_tree.specs.declared.refusal.Refusal.{Refusal}
 use Rattle.sysmem_tree.specs.Domain.{TreeFacts}
 use Rattle.sysmem_participants.specs.Told.{Asks, IsChosenFor, IsRefusedBy, IsShownAt, IsTold}

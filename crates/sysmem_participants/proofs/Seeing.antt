@@ -7,7 +7,7 @@ use Rattle.std.proofs.lemmas.Option.{same_Some}
 use Rattle.sysmem_alloc.specs.Book.{BookFacts}
 use Rattle.sysmem_room.specs.declared.outcome.Outcome.{Outcome}
 use Rattle.sysmem_room.specs.Agreeing.{IsKnown, book_log}
-use Rattle.sysmem_sanitise.specs.Platform.{PlatformFacts}
+use Rattle.negotiation_inputs.specs.Platform.{PlatformFacts}
 use Rattle.sysmem_tree.specs.Path.{node_at}
 use Rattle.sysmem_participants.specs.Audit.{AreFor, AreMatched, AreRead, HasAt, HaveCalls, HaveVerdicts, IsAmong, IsAmongPaths, IsOf, IsRead}
 use Rattle.sysmem_participants.specs.Held.{Left}

@@ -2,7 +2,7 @@
 use Rattle.std.proofs.Common.{◌≡◌, ◌<◌, false, List, [], ◌∷◌, None, Some, length, slice_get, get_or, sym, ◌∙◌, ap, subst, arith}
 use Rattle.std.specs.Prelude.{IfSome, IsSomeAnd}
 use Rattle.std.specs.List.{AllByRecursion}
-use Rattle.sysmem_sanitise.specs.Platform.{PlatformFacts}
+use Rattle.negotiation_inputs.specs.Platform.{PlatformFacts}
 use Rattle.sysmem_tree.specs.ActionKind.{kind_of}
 use Rattle.sysmem_tree.specs.History.{is_close}
 use Rattle.sysmem_tree.specs.Node.{NodeFacts}

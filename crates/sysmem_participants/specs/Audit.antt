@@ -1,8 +1,9 @@
 -- What stubs and a book say of one another.
-use Rattle.std.specs.Prelude.{◌≡◌, ◌<◌, ◌+◌, ◌⊎◌, ℕ, List, [], ◌∷◌, Some, IfSome, codes, length, slice_index_or, sum_by}
+use Rattle.std.specs.Prelude.{◌≡◌, ◌<◌, ◌+◌, ◌⊎◌, ℕ, List, [], ◌∷◌, Some, IfSome, codes, length}
+use Rattle.std.specs.Prelude.{slice_index_or, sum_by}
 use Rattle.sysmem_alloc.specs.Book.{BookFacts}
 use Rattle.sysmem_alloc.specs.Entry.{BookEntry, Acted, Decided}
-use Rattle.sysmem_sanitise.specs.Platform.{PlatformFacts}
+use Rattle.negotiation_inputs.specs.Platform.{PlatformFacts}
 use Rattle.sysmem_room.specs.Agreeing.{AgreesAt, IsKnown, book_log}
 use Rattle.sysmem_room.specs.Counting.{actions_in}
 use Rattle.sysmem_tree.specs.Path.{node_at}

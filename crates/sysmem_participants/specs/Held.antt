@@ -1,7 +1,8 @@
 -- What a handle holds, and what a call makes of it.
-use Rattle.std.specs.Prelude.{◌≡◌, ◌≢◌, ◌++◌, ℕ, Bool, true, List, [], ◌∷◌, Option, None, Some, IfSome}
+use Rattle.std.specs.Prelude.{◌≡◌, ◌≢◌, ◌++◌, ℕ, Bool, true, List, [], ◌∷◌, Option, None, Some}
+use Rattle.std.specs.Prelude.{IfSome}
 use Rattle.sysmem_alloc.specs.Book.{BookFacts, IsBook}
-use Rattle.sysmem_sanitise.specs.Platform.{PlatformFacts}
+use Rattle.negotiation_inputs.specs.Platform.{PlatformFacts}
 use Rattle.sysmem_tree.specs.declared.refusal.Refusal.{Refusal}
 use Rattle.sysmem_tree.specs.declared.refusal.Refusal.TheVariants.{NoMemory, Strange, WrongState}
 use Rattle.sysmem_tree.specs.declared.state.NodeKind.{NodeKind}

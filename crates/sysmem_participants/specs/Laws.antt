@@ -8,10 +8,10 @@ use Rattle.sysmem_alloc.specs.Headline.{HasNegotiated}
 use Rattle.sysmem_alloc.specs.History.{NoEarlyClose}
 use Rattle.sysmem_alloc.specs.State.{verdict_of}
 use Rattle.verdict_claims.specs.declared.verdict.Verdict.{Verdict}
-use Rattle.sysmem_proof.specs.Verdict.{IsSameAnswer}
+use Rattle.verdict_claims.specs.Verdict.{IsSameAnswer}
 use Rattle.sysmem_room.specs.declared.outcome.Outcome.TheVariants as outcomes
 use Rattle.sysmem_room.specs.Ruling.{RulingFacts}
-use Rattle.sysmem_sanitise.specs.Platform.{PlatformFacts}
+use Rattle.negotiation_inputs.specs.Platform.{PlatformFacts}
 use Rattle.sysmem_tree.specs.ActionKind.{kind_of}
 use Rattle.sysmem_tree.specs.History.{is_close}
 use Rattle.sysmem_tree.specs.Laws.{SameReady}

@@ -17,13 +17,13 @@ use crate::deciding::decide;
 use crate::holding::{Hold, in_hold};
 use crate::seat::{Prepared, Seat};
 use crate::shared::{Rules, Shared};
+use negotiation_inputs::Constraints;
 use once_cell::race::{Note, OnceBox};
 use std::alloc::{AllocError, Global};
 use std::sync::ledger::Ledger;
 use std::sync::{Arc, Wait};
 use std::thread::Threads;
 use sysmem_room::{Entered, FreshCell, Log, Outcome};
-use sysmem_sanitise::Constraints;
 use sysmem_search::Gate;
 use sysmem_tree::{Action, NodeKind, Refusal};
 

@@ -9,9 +9,10 @@ ghost use Rattle.sysmem_tree.specs.Path.{node_at};
 
 use crate::faults::{Audit, AuditFault};
 use crate::stub::Stub;
+use book_events::Entry;
 use std::sync::ledger::Ledger;
+use sysmem_alloc::Book;
 use sysmem_alloc::laws::few_entries;
-use sysmem_alloc::{Book, Entry};
 use sysmem_room::{has_actions, has_verdict};
 use sysmem_tree::{MOST_NODES, NodeId};
 

@@ -9,13 +9,13 @@ ghost use Rattle.sysmem_search.specs.declared.wide.TheConstants.{MOST_WORKERS};
 use crate::seat::Seat;
 use crate::shared::{Rules, Shared};
 use crate::token::Token;
+use negotiation_inputs::Platform;
 use node_limits::Limits;
 use std::alloc::{AllocError, Global};
 use std::marker::Model;
 use std::sync::ledger::{Blank, Ledger};
 use std::sync::{Arc, Condvar, Mutex};
 use sysmem_room::Room;
-use sysmem_sanitise::Platform;
 use sysmem_search::Gate;
 use sysmem_tree::Refusal;
 
@@ -27,7 +27,7 @@ pub struct Allocator<G: Gate + Drop> {
 
 impl<G: Gate + Drop> Model for Allocator<G> {
     ghost use Rattle.std.specs.Arc.{arc_value};
-    ghost use Rattle.sysmem_sanitise.specs.Platform.{PlatformFacts};
+    ghost use Rattle.negotiation_inputs.specs.Platform.{PlatformFacts};
 
     ghost Value = { PlatformFacts };
 

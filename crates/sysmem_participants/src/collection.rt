@@ -10,12 +10,12 @@ use crate::seat::Seat;
 use crate::stub::Stub;
 use crate::token::Token;
 use crate::view::View;
+use negotiation_inputs::Constraints;
 use std::marker::Model;
 use std::sync::ledger::Ledger;
 use std::sync::{Arc, Wait};
 use std::thread::Threads;
 use sysmem_room::Outcome;
-use sysmem_sanitise::Constraints;
 use sysmem_search::Gate;
 use sysmem_tree::{NodeKind, Refusal};
 

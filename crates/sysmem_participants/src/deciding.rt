@@ -4,7 +4,7 @@ ghost use Rattle.std.specs.Prelude.{◌≡◌, ◌≤◌, None, option_map, IfOk
 ghost use Rattle.std.specs.Arc.{arc_value};
 ghost use Rattle.sysmem_alloc.specs.Frozen.{frozen_of};
 ghost use Rattle.sysmem_alloc.specs.State.{next_ready};
-ghost use Rattle.sysmem_proof.specs.Claim.{IsTrueClaim};
+ghost use Rattle.verdict_claims.specs.Claim.{IsTrueClaim};
 ghost use Rattle.sysmem_search.specs.declared.wide.TheConstants.{MOST_WORKERS};
 
 use crate::shared::{Rules, Shared};
@@ -13,9 +13,9 @@ use std::sync::ledger::Ledger;
 use std::sync::{Arc, Wait};
 use std::thread::Threads;
 use sysmem_alloc::Frozen;
-use sysmem_proof::Claim;
 use sysmem_room::{Seen, Turn};
 use sysmem_search::{Gate, prove, search_wide};
+use verdict_claims::Claim;
 
 /// From so many nanoseconds on, a search is long enough for a second worker to be worth its thread.
 const LONG: u64 = 500_000;

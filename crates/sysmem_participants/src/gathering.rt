@@ -9,10 +9,10 @@ use crate::agreeing::stubs_agree;
 use crate::faults::{Audit, AuditFault};
 use crate::shared::Shared;
 use crate::stub::Stub;
+use negotiation_inputs::Platform;
 use std::sync::ledger::{Ledger, Share};
 use std::sync::{Arc, Wait};
 use sysmem_room::{Room, Seen};
-use sysmem_sanitise::Platform;
 
 /// A share with all parts and amounts of the stubs'.
 fn joined<L: Ledger>(start: Share<L>, stubs: Vec<Stub<L>>) -> Share<L>

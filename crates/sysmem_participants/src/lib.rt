@@ -49,7 +49,6 @@ pub use collection::Collection;
 pub use faults::{Audit, AuditFault};
 pub use gathering::audit;
 pub use group::Group;
-pub use node_limits::Limits;
 pub use reading::{Reader, Reading};
 pub use stub::Stub;
 pub use token::Token;

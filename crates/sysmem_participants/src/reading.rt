@@ -20,7 +20,7 @@ pub struct Reader<L: Ledger> {
 
 impl<L: Ledger> Model for Reader<L> {
     ghost use Rattle.std.specs.Arc.{arc_value};
-    ghost use Rattle.sysmem_sanitise.specs.Platform.{PlatformFacts};
+    ghost use Rattle.negotiation_inputs.specs.Platform.{PlatformFacts};
 
     ghost Value = { PlatformFacts };
 

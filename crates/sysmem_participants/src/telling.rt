@@ -5,12 +5,12 @@ ghost use Rattle.sysmem_room.specs.Log.{shown_by};
 ghost use Rattle.sysmem_participants.specs.Told.{Asks, IsChosenFor, IsRefusedBy, IsShownAt, IsTold};
 
 use crate::view::View;
+use negotiation_inputs::Platform;
 use std::sync::ledger::Ledger;
 use sysmem_alloc::Frozen;
-use sysmem_proof::Verdict;
 use sysmem_room::{Log, Outcome, Ruling, is_member};
-use sysmem_sanitise::Platform;
 use sysmem_tree::Refusal;
+use verdict_claims::Verdict;
 
 /// Whether a ruling is for this platform.
 fn is_for(ruling: &Ruling, platform: &Platform) -> bool

@@ -2,16 +2,16 @@
 
 ghost use Rattle.std.specs.Prelude.{◌≡◌, option_map};
 ghost use Rattle.sysmem_alloc.specs.Sound.{MayWait};
-ghost use Rattle.sysmem_proof.specs.Base.{IsGivenBase};
+ghost use Rattle.verdict_claims.specs.Base.{IsGivenBase};
 ghost use Rattle.verdict_claims.specs.declared.verdict.Verdict.TheVariants as verdicts;
 ghost use Rattle.sysmem_participants.specs.Told.{IsSelected, IsSet};
 ghost use Rattle.sysmem_room.specs.Ruling.{IsRuling};
 
+use negotiation_inputs::Platform;
 use sysmem_merge::Settings;
-use sysmem_proof::{Base, Chosen, Claim, Verdict};
 use sysmem_room::Ruling;
-use sysmem_sanitise::Platform;
 use sysmem_tree::{DomainId, Prefix, Tree};
+use verdict_claims::{Base, Chosen, Claim, Verdict};
 
 /// What was decided of a collection's domain, and on what: all that a checker wants.
 ///

@@ -9,8 +9,8 @@ use Rattle.list_lemmas.proofs.CallerLemmas.{slice_get_some, some_in_order}
 use Rattle.sysmem_counts.proofs.CallerLemmas.{counted_some}
 use Rattle.sysmem_counts.specs.Counts.{IsCounted}
 use Rattle.sysmem_counts.specs.declared.constraints.CountConstraints.{CountConstraints}
-use Rattle.sysmem_merge.specs.Demands.{counts_asked}
-use Rattle.sysmem_sanitise.specs.Participant.{Participant}
+use Rattle.offer_fits.specs.Demands.{counts_asked}
+use Rattle.negotiation_inputs.specs.Participant.{Participant}
 use Rattle.sysmem_tree.specs.Node.{NodeFacts}
 use Rattle.sysmem_tree.specs.Nodes.{HasNode}
 use Rattle.verdict_claims.specs.Asked.{asks_at, asked_in}

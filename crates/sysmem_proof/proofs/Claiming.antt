@@ -2,7 +2,7 @@
 use Rattle.std.proofs.Common.{◌≡◌, ◌<◌, ◌≤◌, inl, inr, arith, Bool, true, false, ℕ, List, [], ◌∷◌, Option, refl, subst}
 use Rattle.std.specs.Prelude.{◌↔◌, IfOk, IsOk, IsTrue, MatchResult, Ok, Err, Result, option_map}
 use Rattle.std.proofs.lemmas.Bool.{cases_lt}
-use Rattle.sysmem_sanitise.specs.Platform.{PlatformFacts}
+use Rattle.negotiation_inputs.specs.Platform.{PlatformFacts}
 use Rattle.sysmem_tree.specs.Forest.{Forest, count}
 use Rattle.sysmem_tree.specs.Node.{NodeFacts}
 use Rattle.sysmem_tree.specs.Shape.{Member, shape_of}

@@ -12,13 +12,13 @@ use Rattle.sysmem_formats.specs.declared.offer.Offer.TheVariants.{NoImage, Image
 use Rattle.sysmem_image.specs.Entries.{first_match}
 use Rattle.sysmem_memory.specs.Heap.{HeapFacts}
 use Rattle.sysmem_merge.specs.declared.settings.Settings.{Settings}
-use Rattle.sysmem_merge.specs.Demands.{OfferDemand, counts_asked, offer_demand, offer_demands}
+use Rattle.offer_fits.specs.Demands.{OfferDemand, counts_asked, offer_demand, offer_demands}
 use Rattle.sysmem_merge.specs.Laws.{OfferLineLeavesNone, CountLineLeavesNone}
-use Rattle.sysmem_merge.specs.Offers.{is_named, names_format, names_modifier, names_colour, is_format_named, is_modifier_named, is_colour_named}
-use Rattle.sysmem_merge.specs.Reasons.{IsOfferLine}
+use Rattle.offer_fits.specs.Offers.{is_named, names_format, names_modifier, names_colour, is_format_named, is_modifier_named, is_colour_named}
+use Rattle.offer_fits.specs.OfferLines.{IsOfferLine}
 use Rattle.sysmem_merge.specs.Settings.{Covers, CoversOn, IsNamed, IsSound, Meets}
-use Rattle.sysmem_sanitise.specs.Participant.{Participant}
-use Rattle.sysmem_sanitise.specs.Platform.{PlatformFacts}
+use Rattle.negotiation_inputs.specs.Participant.{Participant}
+use Rattle.negotiation_inputs.specs.Platform.{PlatformFacts}
 use Rattle.sysmem_tree.specs.Node.{NodeFacts}
 use Rattle.sysmem_tree.specs.Shape.{Member}
 use Rattle.verdict_claims.specs.Asked.{asked_in}

@@ -7,7 +7,7 @@ use Rattle.sysmem_memory.specs.Heap.{HeapFacts}
 use Rattle.sysmem_memory.specs.Listed.{put_if, places_from, places_of}
 use Rattle.sysmem_merge.specs.declared.settings.Settings.{Settings}
 use Rattle.sysmem_merge.specs.Failing.{FailsOn}
-use Rattle.sysmem_sanitise.specs.Platform.{PlatformFacts, offers_of}
+use Rattle.negotiation_inputs.specs.Platform.{PlatformFacts, offers_of}
 use Rattle.sysmem_tree.specs.Forest.{Forest, settled}
 use Rattle.sysmem_tree.specs.Shape.{Member}
 use Rattle.verdict_claims.specs.declared.conflict.Conflict.TheVariants.{Places, Offers, Fixed}

@@ -13,7 +13,7 @@ use Rattle.sysmem_memory.specs.declared.domain.CoherencyDomains.{CoherencyDomain
 use Rattle.sysmem_memory.specs.Heap.{HeapFacts}
 use Rattle.sysmem_memory.specs.Listed.{HeapPlace, put_if, places_from, places_of}
 use Rattle.sysmem_memory.specs.PlaceTable.{IsPlaceLine}
-use Rattle.sysmem_merge.specs.Demands.{place_demands}
+use Rattle.offer_fits.specs.Demands.{place_demands}
 use Rattle.sysmem_tree.specs.Shape.{Member}
 use Rattle.verdict_claims.specs.Conflict.{RefusesOffer, RefusesPlace}
 use Rattle.sysmem_proof.specs.EachLine.{GoesPast}

@@ -14,7 +14,7 @@ use Rattle.sysmem_memory.specs.Heap.{HeapFacts}
 use Rattle.sysmem_memory.specs.Listed.{HeapPlace, put_if, places_from, places_of}
 use Rattle.sysmem_memory.specs.Place.{IsPlace}
 use Rattle.sysmem_merge.specs.declared.settings.Settings.{Settings}
-use Rattle.sysmem_sanitise.specs.Platform.{PlatformFacts}
+use Rattle.negotiation_inputs.specs.Platform.{PlatformFacts}
 use Rattle.sysmem_tree.specs.Shape.{Member}
 use Rattle.verdict_claims.specs.declared.no.No.{No}
 use Rattle.verdict_claims.specs.declared.no.No.TheVariants.{Missing, WrongShape}

@@ -1,7 +1,7 @@
 -- What is tested of a choice behind its form.
 use Rattle.std.specs.Prelude.{ℕ, List, Option}
 use Rattle.sysmem_merge.specs.declared.settings.Settings.{Settings}
-use Rattle.sysmem_sanitise.specs.Platform.{PlatformFacts}
+use Rattle.negotiation_inputs.specs.Platform.{PlatformFacts}
 use Rattle.sysmem_tree.specs.Forest.{Forest}
 use Rattle.sysmem_tree.specs.Shape.{Member}
 use Rattle.verdict_claims.specs.declared.no.No.TheVariants.{WrongShape}

@@ -3,17 +3,17 @@
 ghost use Rattle.std.specs.Prelude.{◌≡◌, ◌↔◌, true, [], ◌∷◌, Any, IsTrue, option_map};
 ghost use Rattle.std.specs.List.{cons_option};
 ghost use Rattle.sysmem_memory.specs.PlaceTable.{refuses_by};
-ghost use Rattle.sysmem_merge.specs.Demands.{offer_demands};
+ghost use Rattle.offer_fits.specs.Demands.{offer_demands};
 ghost use Rattle.sysmem_merge.specs.Failing.{FailsOn};
 ghost use Rattle.sysmem_merge.specs.OfferRead.{IsOfferRead};
 ghost use Rattle.verdict_claims.specs.Roll.{asked_by, listed};
 
 use crate::roll::Roll;
+use negotiation_inputs::{Constraints, Platform};
 use sysmem_counts::Field;
 use sysmem_formats::Offer;
 use sysmem_memory::{CoherencyDomain, HeapInfo, refuses_in};
 use sysmem_merge::{OfferRead, Settings, fails_in};
-use sysmem_sanitise::{Constraints, Platform};
 use verdict_claims::{PathList, add_read};
 
 /// What they ask of an offer.

@@ -11,7 +11,7 @@ ghost use Rattle.sysmem_tree.specs.Domain.{HasDomain};
 ghost use Rattle.sysmem_tree.specs.Shape.{shape_of};
 
 use crate::checking::{Checker, choice_fault, refutation_fault};
-use sysmem_sanitise::Platform;
+use negotiation_inputs::Platform;
 use sysmem_tree::{DomainId, Prefix, Tree};
 use verdict_claims::laws::{faults_are_first, tests_are_exact};
 use verdict_claims::{Base, Claim, No, Proof, Refutation, Verdict};

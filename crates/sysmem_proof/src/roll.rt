@@ -14,8 +14,8 @@ ghost use Rattle.sysmem_tree.specs.OpenGroups.{HoldsNodes};
 ghost use Rattle.sysmem_tree.specs.Selection.{IsPrefix};
 ghost use Rattle.sysmem_tree.specs.Shape.{by_number, forest_of, shape_of};
 
+use negotiation_inputs::Constraints;
 use std::marker::Model;
-use sysmem_sanitise::Constraints;
 use sysmem_tree::laws::{one_forest, one_path};
 use sysmem_tree::layout_laws::choices_leave_one_forest;
 use sysmem_tree::{DomainId, Layout, MOST_NODES, NodeId, Prefix, Tree};

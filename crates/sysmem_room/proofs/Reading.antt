@@ -6,7 +6,7 @@ use Rattle.std.proofs.lemmas.Option.{same_Some}
 use Rattle.book_events.specs.declared.entry.Entry.{Entry}
 use Rattle.book_events.specs.declared.entry.Entry.TheVariants as entries
 use Rattle.sysmem_alloc.specs.Entry.{BookEntry, Acted, Decided, entry_in, deed_with}
-use Rattle.sysmem_proof.specs.Asked.{asks_at}
+use Rattle.verdict_claims.specs.Asked.{asks_at}
 use Rattle.sysmem_tree.specs.declared.action.ActionKind.{ActionKind}
 use Rattle.sysmem_tree.specs.declared.action.Action.{Action}
 use Rattle.sysmem_tree.specs.ActionKind.{Deed, deed_of}

@@ -1,7 +1,7 @@
 //! A node's path, how it was made, and the actions on it that were accepted.
 
 ghost use Rattle.std.specs.Prelude.{◌≡◌, ◌≢◌, ◌<◌, ◌≤◌, ◌+◌, ◌++◌, ◌↔◌, [], ◌∷◌, false, true, length, map, option_map, replicate, IfOk, IfSome, IsTrue, OnOk};
-ghost use Rattle.sysmem_proof.specs.Asked.{asks_at};
+ghost use Rattle.verdict_claims.specs.Asked.{asks_at};
 ghost use Rattle.sysmem_tree.specs.Nodes.{HasNode};
 ghost use Rattle.sysmem_room.specs.Agreeing.{StandsAs};
 ghost use Rattle.sysmem_room.specs.Log.{begun_as, next_path, shown_by};
@@ -9,10 +9,10 @@ ghost use Rattle.sysmem_tree.specs.ActionKind.{deed_of, duplicates, ends_node, k
 ghost use Rattle.sysmem_tree.specs.declared.tree.TheConstants.{MOST_NODES};
 
 use crate::agreeing::{has_set, lent};
+use negotiation_inputs::Constraints;
 use smallvec::SmallVec;
 use std::alloc::{AllocError, Global};
 use std::marker::Model;
-use sysmem_sanitise::Constraints;
 use sysmem_tree::{Action, ActionKind, NodeId, NodeKind, NodeState, Tree};
 
 /// A log without its share, as it is before its node is made: the node's path, how it was made, and

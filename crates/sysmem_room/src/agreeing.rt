@@ -2,18 +2,18 @@
 
 ghost use Rattle.std.specs.Prelude.{◌≡◌, ◌≢◌, ◌<◌, ◌≤◌, ◌++◌, ◌↔◌, List, [], ◌∷◌, IfSome, IsTrue, None, drop, length, map, option_map, take};
 ghost use Rattle.std.specs.Arc.{arc_value};
-ghost use Rattle.sysmem_alloc.specs.Entry.{entry_in};
+ghost use Rattle.sysmem_alloc.specs.Entry.{entry_in, deed_with};
 ghost use Rattle.sysmem_room.specs.Agreeing.{book_log, own_deeds};
 ghost use Rattle.sysmem_room.specs.Places.{ArePlaces};
-ghost use Rattle.sysmem_proof.specs.Asked.{asks_at};
+ghost use Rattle.verdict_claims.specs.Asked.{asks_at};
 ghost use Rattle.sysmem_tree.specs.ActionKind.{Deed, deed_of};
 ghost use Rattle.sysmem_tree.specs.Nodes.{HasNode};
-ghost use Rattle.sysmem_alloc.specs.Entry.{deed_with};
 
 use crate::places::Places;
+use book_events::Entry;
+use negotiation_inputs::Constraints;
 use std::sync::Arc;
-use sysmem_alloc::{Book, Entry};
-use sysmem_sanitise::Constraints;
+use sysmem_alloc::Book;
 use sysmem_tree::{Action, ActionKind, NodeId, Tree};
 
 /// What an action sets.

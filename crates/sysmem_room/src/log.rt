@@ -1,7 +1,7 @@
 //! What a handle knows of its node, and its share of the count.
 
 ghost use Rattle.std.specs.Prelude.{◌≡◌, ◌≤◌, ◌+◌, ◌↔◌, [], Some, length, map, IfOk, IsTrue, OnOk};
-ghost use Rattle.sysmem_proof.specs.Asked.{asks_at};
+ghost use Rattle.verdict_claims.specs.Asked.{asks_at};
 ghost use Rattle.sysmem_room.specs.Log.{begun_as, begun_by, next_path, shown_by};
 ghost use Rattle.sysmem_tree.specs.ActionKind.{deed_of};
 ghost use Rattle.sysmem_tree.specs.Nodes.{HasNode};
@@ -34,8 +34,8 @@ impl<L: Ledger> Drop for Log<L> {
 }
 
 impl<L: Ledger> Model for Log<L> {
-    ghost use Rattle.std.specs.Prelude.{◌≡◌, length};
-    ghost use Rattle.sysmem_room.specs.Log.{LogFacts};
+    ghost use Rattle.std.specs.Prelude.{◌≡◌, length, []};
+    ghost use Rattle.sysmem_room.specs.Log.{LogFacts, EnteredFacts};
 
     ghost Value = { LogFacts };
 
@@ -56,9 +56,6 @@ impl Drop for FreshLog {
 }
 
 impl Model for FreshLog {
-    ghost use Rattle.std.specs.Prelude.{◌≡◌, []};
-    ghost use Rattle.sysmem_room.specs.Log.{LogFacts};
-
     ghost Value = { LogFacts };
 
     ghost view = { λ f. f.account };
@@ -88,9 +85,7 @@ pub struct Entered<L: Ledger> {
 }
 
 impl<L: Ledger> Model for Entered<L> {
-    ghost use Rattle.std.specs.Prelude.{◌≡◌};
     ghost use Rattle.sysmem_room.specs.Counting.{nodes_by};
-    ghost use Rattle.sysmem_room.specs.Log.{EnteredFacts};
 
     ghost Value = { EnteredFacts };
 
@@ -205,8 +200,6 @@ impl<L: Ledger> Drop for SpentLog<L> {
 }
 
 impl<L: Ledger> Model for SpentLog<L> {
-    ghost use Rattle.sysmem_room.specs.Log.{LogFacts};
-
     ghost Value = { LogFacts };
 
     ghost view = { λ s. s.log };

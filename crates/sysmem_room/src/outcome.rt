@@ -2,12 +2,13 @@
 
 ghost use Rattle.std.specs.Prelude.{◌≡◌, true};
 ghost use Rattle.std.specs.Arc.{arc_value};
-ghost use Rattle.sysmem_proof.specs.Claim.{IsTrueClaim};
+ghost use Rattle.verdict_claims.specs.Claim.{IsTrueClaim};
 
 use std::marker::Model;
 use std::sync::Arc;
 use sysmem_alloc::Frozen;
-use sysmem_proof::{Claim, check};
+use sysmem_proof::check;
+use verdict_claims::Claim;
 
 /// A claim with what was frozen for it, of which it is true.
 #[derive(Drop)]

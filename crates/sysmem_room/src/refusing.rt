@@ -6,8 +6,8 @@ ghost use Rattle.sysmem_room.specs.Refusals.{IsAnswer, IsUnforeseen, due, is_mem
 use crate::outcome::Outcome;
 use node_limits::state_refusal;
 use sysmem_alloc::Frozen;
-use sysmem_proof::Verdict;
 use sysmem_tree::{ActionKind, NodeState, Prefix, Refusal};
+use verdict_claims::Verdict;
 
 /// Whether the tree that was frozen has a node at the path, and it is a member of the selection.
 pub fn is_member(frozen: &Frozen, selection: &Prefix, path: &[u32]) -> bool

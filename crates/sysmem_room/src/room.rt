@@ -6,7 +6,7 @@ ghost use Rattle.sysmem_alloc.specs.Book.{entered, new_book};
 ghost use Rattle.sysmem_alloc.specs.Entry.{Acted, Decided};
 ghost use Rattle.sysmem_alloc.specs.Frozen.{IsStill, frozen_of};
 ghost use Rattle.sysmem_alloc.specs.State.{next_ready};
-ghost use Rattle.sysmem_proof.specs.Claim.{IsTrueClaim};
+ghost use Rattle.verdict_claims.specs.Claim.{IsTrueClaim};
 ghost use Rattle.sysmem_room.specs.Agreeing.{IsAsKnown, IsOwn, book_log};
 ghost use Rattle.sysmem_room.specs.Counting.{actions_in, all_parts, nodes_by};
 ghost use Rattle.sysmem_room.specs.Entering.{HasEntered, IsRefused};
@@ -29,6 +29,7 @@ use crate::places::Places;
 use crate::refusing::{due, unforeseen};
 use crate::seen::Seen;
 use crate::verdicts::has_verdict;
+use negotiation_inputs::Platform;
 use node_limits::{Limits, Offspring, tree_refusal};
 use once_cell::race::OnceBox;
 use smallvec::SmallVec;
@@ -39,10 +40,9 @@ use std::sync::Arc;
 use std::sync::ledger::{Blank, Book as Counted, Ledger, Share};
 use sysmem_alloc::laws::{few_entries, legal_agrees};
 use sysmem_alloc::{Book, Frozen};
-use sysmem_proof::Claim;
-use sysmem_sanitise::Platform;
 use sysmem_tree::laws::one_path;
 use sysmem_tree::{Action, ActionKind, DomainId, Event, MOST_NODES, NodeId, NodeKind, Refusal};
+use verdict_claims::Claim;
 
 /// A collection's book, the count of its actions, and the cells of its domains. Whoever has the
 /// lock finds a legal book, and as many actions counted as its history has.

@@ -6,8 +6,8 @@ ghost use Rattle.sysmem_tree.specs.Nodes.{HasNode};
 
 use crate::outcome::Outcome;
 use sysmem_alloc::Book;
-use sysmem_proof::Verdict;
 use sysmem_tree::NodeId;
+use verdict_claims::Verdict;
 
 /// Whether this is the verdict of what became of a domain.
 fn is_verdict(verdict: &Verdict, outcome: &Outcome) -> bool

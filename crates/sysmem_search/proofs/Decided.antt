@@ -7,7 +7,7 @@ use Rattle.verdict_claims.specs.Chosen.{ChosenFacts}
 use Rattle.verdict_claims.specs.Matter.{Matter, forest}
 use Rattle.verdict_claims.specs.declared.verdict.Verdict.TheVariants as verdicts
 use Rattle.verdict_claims.specs.Verdict.{IsChosen, IsBestFor, IsOptimalIn, MeetsFor}
-use Rattle.sysmem_sanitise.specs.Platform.{PlatformFacts}
+use Rattle.negotiation_inputs.specs.Platform.{PlatformFacts}
 use Rattle.search_questions.specs.Live.{IsLiveUpTo}
 use Rattle.search_questions.specs.Question.{MeetsOf, MeetsSoFar, IsBestOf}
 use Rattle.search_questions.specs.Searching.{FirstFound, IsFoundOf}

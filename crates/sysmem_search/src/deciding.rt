@@ -9,9 +9,9 @@ ghost use Rattle.sysmem_tree.specs.Domain.{HasDomain, is_ready};
 use crate::gate::Gate;
 use crate::searching::search_from;
 use conflict_finding::Subject;
+use negotiation_inputs::Platform;
 use search_questions::Question;
 use std::alloc::{AllocError, Global};
-use sysmem_sanitise::Platform;
 use sysmem_tree::{DomainId, Tree};
 use verdict_claims::{Base, Chosen, MOST_SELECTIONS, Verdict};
 

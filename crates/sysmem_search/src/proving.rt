@@ -12,9 +12,9 @@ ghost use Rattle.sysmem_tree.specs.Domain.{HasDomain};
 
 use crate::refuting::{refute_earlier, refute_from};
 use conflict_finding::{Subject, lines_before};
+use negotiation_inputs::Platform;
 use search_questions::Question;
 use std::alloc::{AllocError, Global};
-use sysmem_sanitise::Platform;
 use sysmem_tree::layout_laws::few_choices;
 use sysmem_tree::{DomainId, Tree};
 use verdict_claims::{Base, Certificate, Chosen, Proof, Refutation, Verdict};

@@ -6,15 +6,18 @@ use Rattle.sysmem_formats.specs.declared.offer.Offer.{Offer}
 use Rattle.sysmem_image.specs.Entries.{first_match}
 use Rattle.sysmem_image.specs.declared.entry.Entry.{Entry}
 use Rattle.sysmem_image.specs.declared.size.Size.{Size}
-use Rattle.sysmem_sanitise.specs.Participant.{Participant}
+use Rattle.negotiation_inputs.specs.Participant.{Participant}
 use Rattle.value_sources.specs.declared.asked.Asked.{Asked}
 use Rattle.value_sources.specs.declared.counting.Part.{Part}
-use Rattle.value_sources.specs.declared.counting.Part.TheVariants.{Camping, Dedicated, Shared, Minimum}
+use Rattle.value_sources.specs.declared.counting.Part.TheVariants.{Camping, Dedicated, Shared}
+use Rattle.value_sources.specs.declared.counting.Part.TheVariants.{Minimum}
 use Rattle.value_sources.specs.declared.wishes.Side.{Side}
 use Rattle.value_sources.specs.declared.wishes.Side.TheVariants.{Width, Height}
 use Rattle.value_sources.specs.declared.wishes.Wish.{Wish}
-use Rattle.value_sources.specs.declared.wishes.Wish.TheVariants.{Least, Most, RequiredLeast, RequiredMost}
-use Rattle.value_sources.specs.declared.wishes.Wish.TheVariants.{Alignment, LeastRow, MostRow, RowDivisor}
+use Rattle.value_sources.specs.declared.wishes.Wish.TheVariants.{Least, Most, RequiredLeast}
+use Rattle.value_sources.specs.declared.wishes.Wish.TheVariants.{RequiredMost}
+use Rattle.value_sources.specs.declared.wishes.Wish.TheVariants.{Alignment, LeastRow, MostRow}
+use Rattle.value_sources.specs.declared.wishes.Wish.TheVariants.{RowDivisor}
 use Rattle.value_sources.specs.declared.wishes.Wish.TheVariants.{WholePixels, MostPixels}
 
 -- what participants ask, in their order

@@ -2,9 +2,9 @@
 
 use explanation_text::wording::{MOST_NAMES, put_few};
 use explanation_text::{Gathered, Name, Words};
+use negotiation_inputs::Constraints;
 use serde_json::Value;
 use std::alloc::AllocError;
-use sysmem_sanitise::Constraints;
 
 /// A participant that has constraints.
 #[derive(Clone, Copy)]

@@ -14,9 +14,9 @@ use Rattle.sysmem_memory.specs.Place.{IsPlace, IsEarlier}
 use Rattle.sysmem_memory.specs.PlaceTable.{AllowsPlace}
 use Rattle.sysmem_merge.specs.declared.settings.Settings.{Settings}
 use Rattle.sysmem_merge.specs.Best.{IsBest}
-use Rattle.sysmem_merge.specs.Demands.{place_demand, place_demands, offer_demands}
+use Rattle.offer_fits.specs.Demands.{place_demand, place_demands, offer_demands}
 use Rattle.sysmem_merge.specs.Settings.{Covers, Meets}
-use Rattle.sysmem_sanitise.specs.Platform.{PlatformFacts, offers_of}
+use Rattle.negotiation_inputs.specs.Platform.{PlatformFacts, offers_of}
 use Rattle.sysmem_tree.specs.Forest.{Forest, settled}
 use Rattle.sysmem_tree.specs.Laws.{PathsDiffer}
 use Rattle.sysmem_tree.specs.Selection.{IsSelection}

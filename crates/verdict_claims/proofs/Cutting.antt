@@ -4,11 +4,11 @@ use Rattle.list_lemmas.specs.Some.{AreSomeOf}
 use Rattle.list_lemmas.proofs.CallerLemmas.{some_itself, some_taken, some_left_out, some_map, All-some}
 use Rattle.sysmem_counts.proofs.CallerLemmas.{counted_some}
 use Rattle.sysmem_merge.specs.declared.settings.Settings.{Settings}
-use Rattle.sysmem_merge.specs.Demands.{counts_asked}
+use Rattle.offer_fits.specs.Demands.{counts_asked}
 use Rattle.sysmem_merge.specs.Laws.{SomeAreMet}
 use Rattle.sysmem_merge.specs.Settings.{CoversOn}
-use Rattle.sysmem_sanitise.specs.Participant.{Participant}
-use Rattle.sysmem_sanitise.specs.Platform.{PlatformFacts}
+use Rattle.negotiation_inputs.specs.Participant.{Participant}
+use Rattle.negotiation_inputs.specs.Platform.{PlatformFacts}
 use Rattle.sysmem_tree.specs.Forest.{settled}
 use Rattle.sysmem_tree.specs.Shape.{Member}
 use Rattle.sysmem_tree.specs.Sublist.{IsSublist, ended, taken, left_out}

@@ -11,12 +11,12 @@ use Rattle.sysmem_image.specs.Fields.{Bound, Width, Height, Rule, Greatest, Leas
 use Rattle.sysmem_memory.specs.Heap.{HeapFacts}
 use Rattle.sysmem_memory.specs.PlaceTable.{refuses_by}
 use Rattle.sysmem_merge.specs.declared.settings.Settings.{Settings}
-use Rattle.sysmem_merge.specs.Demands.{offer_demand}
+use Rattle.offer_fits.specs.Demands.{offer_demand}
 use Rattle.sysmem_merge.specs.Failing.{FailsIn, FailsOn}
-use Rattle.sysmem_merge.specs.Offers.{has_format, has_colour, entry_bounds, Asks}
+use Rattle.offer_fits.specs.Offers.{has_format, has_colour, entry_bounds, Asks}
 use Rattle.sysmem_merge.specs.Settings.{CoversOn}
-use Rattle.sysmem_sanitise.specs.Participant.{Participant}
-use Rattle.sysmem_sanitise.specs.Platform.{PlatformFacts}
+use Rattle.negotiation_inputs.specs.Participant.{Participant}
+use Rattle.negotiation_inputs.specs.Platform.{PlatformFacts}
 use Rattle.verdict_claims.proofs.Deciding.{Told, told_le, told_divides, told_bool, any_or_all}
 use Rattle.verdict_claims.proofs.ReasonOrMet.{refuses_or_allows}
 

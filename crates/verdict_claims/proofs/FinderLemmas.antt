@@ -12,9 +12,9 @@ use Rattle.sysmem_image.specs.Entries.{first_match}
 use Rattle.sysmem_memory.proofs.CallerLemmas.{listed_is_place}
 use Rattle.sysmem_memory.specs.Listed.{places_of}
 use Rattle.sysmem_merge.specs.declared.reason.Reason.TheVariants.{Count as CountReason, NoPlace, NoOffer}
-use Rattle.sysmem_merge.specs.Offers.{bounds_asked}
-use Rattle.sysmem_sanitise.specs.Participant.{Participant}
-use Rattle.sysmem_sanitise.specs.Platform.{offers_of}
+use Rattle.offer_fits.specs.Offers.{bounds_asked}
+use Rattle.negotiation_inputs.specs.Participant.{Participant}
+use Rattle.negotiation_inputs.specs.Platform.{offers_of}
 use Rattle.sysmem_tree.specs.Forest.{Forest, choices, settled}
 use Rattle.sysmem_tree.specs.Laws.{PathsDiffer}
 use Rattle.sysmem_tree.specs.Shape.{Member}

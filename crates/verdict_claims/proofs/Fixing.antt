@@ -14,11 +14,11 @@ use Rattle.sysmem_memory.proofs.CallerLemmas.{none_refuses}
 use Rattle.sysmem_memory.specs.Heap.{HeapFacts}
 use Rattle.sysmem_memory.specs.PlaceTable.{refuses_by}
 use Rattle.sysmem_merge.specs.declared.settings.Settings.{Settings}
-use Rattle.sysmem_merge.specs.Demands.{counts_asked, offer_demand}
-use Rattle.sysmem_merge.specs.Offers.{entry_bounds}
+use Rattle.offer_fits.specs.Demands.{counts_asked, offer_demand}
+use Rattle.offer_fits.specs.Offers.{entry_bounds}
 use Rattle.sysmem_merge.specs.Settings.{Covers, CoversOn}
-use Rattle.sysmem_sanitise.specs.Participant.{Participant}
-use Rattle.sysmem_sanitise.specs.Platform.{PlatformFacts}
+use Rattle.negotiation_inputs.specs.Participant.{Participant}
+use Rattle.negotiation_inputs.specs.Platform.{PlatformFacts}
 use Rattle.sysmem_tree.specs.Forest.{Forest, settled}
 use Rattle.sysmem_tree.specs.Shape.{Member}
 use Rattle.sysmem_tree.specs.Sublist.{IsSublist}

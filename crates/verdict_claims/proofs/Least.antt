@@ -12,12 +12,13 @@ use Rattle.sysmem_merge.specs.contracts.settings.Settings.{the_type as settings_
 use Rattle.offer_fits.specs.declared.fit.Fit.{Fit}
 use Rattle.sysmem_merge.specs.declared.settings.Settings.{Settings}
 use Rattle.sysmem_merge.specs.Best.{IsEarlierOffer}
-use Rattle.sysmem_merge.specs.Demands.{counts_asked, offer_demand, offer_demands}
-use Rattle.sysmem_merge.specs.Fit.{fit_of, CoversFit, IsBestFit, MeetsFit}
+use Rattle.offer_fits.specs.Demands.{counts_asked, offer_demand, offer_demands}
+use Rattle.sysmem_merge.specs.Fit.{fit_of}
+use Rattle.offer_fits.specs.Fit.{CoversFit, IsBestFit, MeetsFit}
 use Rattle.sysmem_merge.specs.Laws.{OneFit}
 use Rattle.sysmem_merge.specs.Settings.{Covers, IsNamed, Meets, MeetsLoosely}
-use Rattle.sysmem_sanitise.specs.Participant.{Participant}
-use Rattle.sysmem_sanitise.specs.Platform.{PlatformFacts, offers_of}
+use Rattle.negotiation_inputs.specs.Participant.{Participant}
+use Rattle.negotiation_inputs.specs.Platform.{PlatformFacts, offers_of}
 use Rattle.verdict_claims.specs.Check.{IsLeastAt}
 use Rattle.verdict_claims.specs.Laws.{LeastIsComputed}
 

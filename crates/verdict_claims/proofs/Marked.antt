@@ -11,10 +11,10 @@ use Rattle.sysmem_counts.specs.declared.field.Field.{Field}
 use Rattle.sysmem_counts.specs.declared.field.Field.TheVariants.{UnnamedPixelFormat, UnnamedPixelFormatModifier, UnnamedColorSpace}
 use Rattle.sysmem_formats.specs.declared.offer.Offer.{Offer}
 use Rattle.sysmem_image.specs.Entries.{first_match}
-use Rattle.sysmem_merge.specs.Demands.{OfferDemand, offer_demand, offer_demands}
-use Rattle.sysmem_merge.specs.Offers.{names_format, names_modifier, names_colour}
+use Rattle.offer_fits.specs.Demands.{OfferDemand, offer_demand, offer_demands}
+use Rattle.offer_fits.specs.Offers.{names_format, names_modifier, names_colour}
 use Rattle.sysmem_merge.specs.Reasons.{IsUnnamedLine}
-use Rattle.sysmem_sanitise.specs.Participant.{Participant}
+use Rattle.negotiation_inputs.specs.Participant.{Participant}
 use Rattle.sysmem_tree.specs.Node.{NodeFacts}
 use Rattle.verdict_claims.specs.Roll.{RollFacts, asked_on, numbers_on}
 use Rattle.verdict_claims.specs.Asked.{asks_at}

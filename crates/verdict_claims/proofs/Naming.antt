@@ -8,7 +8,7 @@ use Rattle.std.proofs.lemmas.List.Sorted.{IsPermutation-refl, IsPermutation-cons
 use Rattle.std.proofs.lemmas.Option.{none-some}
 use Rattle.list_lemmas.specs.Some.{AreSomeOf}
 use Rattle.list_lemmas.proofs.CallerLemmas.{some_trans}
-use Rattle.sysmem_sanitise.specs.Participant.{Participant}
+use Rattle.negotiation_inputs.specs.Participant.{Participant}
 use Rattle.sysmem_tree.specs.Shape.{Member}
 use Rattle.sysmem_tree.specs.Sublist.{IsSublist}
 use Rattle.verdict_claims.specs.Members.{participants}

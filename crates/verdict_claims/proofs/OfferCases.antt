@@ -19,10 +19,11 @@ use Rattle.sysmem_image.specs.Images.{Image as AnImage, IsSoundBounds}
 use Rattle.sysmem_image.specs.Lines.{AlignmentsMeet, DivisorsMeet, IsBoundsLine}
 use Rattle.sysmem_image.specs.Size.{square}
 use Rattle.sysmem_image.proofs.CallerLemmas.{image_bytes_mono}
-use Rattle.sysmem_merge.specs.Demands.{OfferDemand}
-use Rattle.sysmem_merge.specs.Fit.{MeetsFit, OwnWithoutImage}
-use Rattle.sysmem_merge.specs.Offers.{has_format, has_colour, entry_bounds, bounds_asked, Asks, is_named, is_format_named, is_modifier_named, is_colour_named}
-use Rattle.sysmem_merge.specs.Reasons.{IsOfferLine, IsUnnamedLine, IsOfferRefused}
+use Rattle.offer_fits.specs.Demands.{OfferDemand}
+use Rattle.offer_fits.specs.Fit.{MeetsFit, OwnWithoutImage}
+use Rattle.offer_fits.specs.Offers.{has_format, has_colour, entry_bounds, bounds_asked, Asks, is_named, is_format_named, is_modifier_named, is_colour_named}
+use Rattle.offer_fits.specs.OfferLines.{IsOfferLine}
+use Rattle.sysmem_merge.specs.Reasons.{IsUnnamedLine, IsOfferRefused}
 use Rattle.verdict_claims.proofs.Deciding.{Told, told_le, told_lt, told_bool, told_both, told_all, any_or_all, search_below}
 use Rattle.verdict_claims.proofs.SmallestImages.{told_meets, Smallest, bounds_of, keeps_all, the_image, sound_bounds, smallest_or_line}
 

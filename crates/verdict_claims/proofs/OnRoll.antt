@@ -11,8 +11,8 @@ use Rattle.sysmem_counts.specs.declared.field.Field.{Field}
 use Rattle.sysmem_memory.specs.declared.domain.CoherencyDomain.{CoherencyDomain}
 use Rattle.sysmem_memory.specs.Heap.{HeapFacts}
 use Rattle.sysmem_memory.specs.PlaceTable.{refuses_by, IsPlaceLine}
-use Rattle.sysmem_merge.specs.Demands.{counts_asked, offer_demand, offer_demands, place_demand, place_demands}
-use Rattle.sysmem_sanitise.specs.Participant.{Participant}
+use Rattle.offer_fits.specs.Demands.{counts_asked, offer_demand, offer_demands, place_demand, place_demands}
+use Rattle.negotiation_inputs.specs.Participant.{Participant}
 use Rattle.sysmem_tree.specs.Shape.{Member}
 use Rattle.verdict_claims.specs.declared.no.No.TheVariants.{NoConflict}
 use Rattle.verdict_claims.specs.Fault.{AreNamed, LineFaults}

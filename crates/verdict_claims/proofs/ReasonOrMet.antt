@@ -20,12 +20,13 @@ use Rattle.sysmem_memory.specs.Wishes.{MemoryWishes}
 use Rattle.sysmem_merge.specs.declared.reason.Reason.{Reason}
 use Rattle.sysmem_merge.specs.declared.reason.Reason.TheVariants.{Count, NoPlace, NoOffer}
 use Rattle.sysmem_merge.specs.declared.settings.Settings.{Settings}
-use Rattle.sysmem_merge.specs.Demands.{counts_asked, place_demand, place_demands, offer_demand, offer_demands}
-use Rattle.sysmem_merge.specs.Fit.{CoversFit, fit_of}
+use Rattle.offer_fits.specs.Demands.{counts_asked, place_demand, place_demands, offer_demand, offer_demands}
+use Rattle.offer_fits.specs.Fit.{CoversFit}
+use Rattle.sysmem_merge.specs.Fit.{fit_of}
 use Rattle.sysmem_merge.specs.Reasons.{IsOfferRefused, IsReason}
 use Rattle.sysmem_merge.specs.Settings.{MeetsLoosely, MeetsAs}
-use Rattle.sysmem_sanitise.specs.Participant.{Participant}
-use Rattle.sysmem_sanitise.specs.Platform.{PlatformFacts, offers_of}
+use Rattle.negotiation_inputs.specs.Participant.{Participant}
+use Rattle.negotiation_inputs.specs.Platform.{PlatformFacts, offers_of}
 use Rattle.verdict_claims.proofs.Deciding.{any_or_all}
 use Rattle.verdict_claims.proofs.OfferCases.{NamedFit, refused_or_fit}
 

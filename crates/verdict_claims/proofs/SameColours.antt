@@ -13,10 +13,11 @@ use Rattle.sysmem_formats.specs.declared.offer.Pair.{Pair}
 use Rattle.sysmem_image.specs.declared.bounds.ImageBounds.{ImageBounds}
 use Rattle.sysmem_image.specs.Entries.{first_match}
 use Rattle.sysmem_image.specs.Lines.{FitsWidth, FitsHeight, FitsRow, WidthAbove, HeightAbove}
-use Rattle.sysmem_merge.specs.Demands.{OfferDemand, offer_demands}
-use Rattle.sysmem_merge.specs.Offers.{names_format, names_modifier, names_colour}
-use Rattle.sysmem_merge.specs.Reasons.{IsOfferLine, IsUnnamedLine}
-use Rattle.sysmem_sanitise.specs.Participant.{Participant}
+use Rattle.offer_fits.specs.Demands.{OfferDemand, offer_demands}
+use Rattle.offer_fits.specs.Offers.{names_format, names_modifier, names_colour}
+use Rattle.offer_fits.specs.OfferLines.{IsOfferLine}
+use Rattle.sysmem_merge.specs.Reasons.{IsUnnamedLine}
+use Rattle.negotiation_inputs.specs.Participant.{Participant}
 use Rattle.sysmem_tree.specs.Shape.{Member}
 use Rattle.verdict_claims.specs.Conflict.{RefusesOffer}
 use Rattle.verdict_claims.specs.Line.{LineFacts}

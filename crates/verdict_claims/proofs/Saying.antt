@@ -14,11 +14,12 @@ use Rattle.sysmem_image.specs.Lines.{IsBoundsLine, KeepsCorner, KeepsLine}
 use Rattle.sysmem_memory.specs.Heap.{HeapFacts}
 use Rattle.sysmem_memory.specs.PlaceTable.{PlaceDemand, refuses_by}
 use Rattle.sysmem_merge.specs.declared.settings.Settings.{Settings}
-use Rattle.sysmem_merge.specs.Demands.{OfferDemand, counts_asked, place_demand, place_demands, offer_demands}
-use Rattle.sysmem_merge.specs.Offers.{entry_bounds, has_format, has_colour, Asks, bounds_asked, is_named, is_format_named, is_modifier_named, is_colour_named}
-use Rattle.sysmem_merge.specs.Reasons.{IsOfferLine, IsUnnamedLine}
+use Rattle.offer_fits.specs.Demands.{OfferDemand, counts_asked, place_demand, place_demands, offer_demands}
+use Rattle.offer_fits.specs.Offers.{entry_bounds, has_format, has_colour, Asks, bounds_asked, is_named, is_format_named, is_modifier_named, is_colour_named}
+use Rattle.offer_fits.specs.OfferLines.{IsOfferLine}
+use Rattle.sysmem_merge.specs.Reasons.{IsUnnamedLine}
 use Rattle.sysmem_merge.specs.Settings.{IsSound}
-use Rattle.sysmem_sanitise.specs.Platform.{PlatformFacts}
+use Rattle.negotiation_inputs.specs.Platform.{PlatformFacts}
 use Rattle.verdict_claims.specs.Cannot.{ObeysLine, LinesSay}
 use Rattle.verdict_claims.proofs.Fixing.{count_clash, fails_on_clash}
 

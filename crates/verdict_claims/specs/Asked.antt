@@ -1,7 +1,7 @@
 -- What nodes ask, by their numbers.
 use Rattle.std.specs.Prelude.{ℕ, List, Option, option_and_then, slice_get}
 use Rattle.std.specs.List.{filter_map}
-use Rattle.sysmem_sanitise.specs.Participant.{Participant}
+use Rattle.negotiation_inputs.specs.Participant.{Participant}
 use Rattle.sysmem_tree.specs.Node.{NodeFacts}
 
 -- what a node asks, if it has constraints

@@ -4,7 +4,7 @@ use Rattle.std.specs.Prelude.{AllPairs, IsSome, IsSomeAnd, slice_get}
 use Rattle.sysmem_counts.specs.declared.bounds.TheConstants.{BUFFER_COUNT_LIMIT}
 use Rattle.sysmem_image.specs.Bounds.{IsInRange}
 use Rattle.sysmem_merge.specs.declared.settings.Settings.{Settings}
-use Rattle.sysmem_sanitise.specs.Platform.{PlatformFacts}
+use Rattle.negotiation_inputs.specs.Platform.{PlatformFacts}
 use Rattle.sysmem_tree.specs.Domain.{host_number}
 use Rattle.sysmem_tree.specs.Node.{NodeFacts}
 use Rattle.sysmem_tree.specs.Shape.{Member}

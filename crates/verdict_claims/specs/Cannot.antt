@@ -9,12 +9,13 @@ use Rattle.sysmem_image.specs.Lines.{KeepsCorner, KeepsLine}
 use Rattle.sysmem_memory.specs.Heap.{HeapFacts}
 use Rattle.sysmem_memory.specs.PlaceTable.{IsPlaceLine, refuses_by}
 use Rattle.sysmem_merge.specs.declared.settings.Settings.{Settings}
-use Rattle.sysmem_merge.specs.Demands.{OfferDemand, counts_asked, place_demands, offer_demands}
-use Rattle.sysmem_merge.specs.Offers.{has_format, has_colour, Asks}
-use Rattle.sysmem_merge.specs.Reasons.{IsOfferLine, IsUnnamedLine}
+use Rattle.offer_fits.specs.Demands.{OfferDemand, counts_asked, place_demands, offer_demands}
+use Rattle.offer_fits.specs.Offers.{has_format, has_colour, Asks}
+use Rattle.offer_fits.specs.OfferLines.{IsOfferLine}
+use Rattle.sysmem_merge.specs.Reasons.{IsUnnamedLine}
 use Rattle.sysmem_merge.specs.Settings.{CoversOn, IsSound, IsNamed}
-use Rattle.sysmem_sanitise.specs.Participant.{Participant}
-use Rattle.sysmem_sanitise.specs.Platform.{PlatformFacts}
+use Rattle.negotiation_inputs.specs.Participant.{Participant}
+use Rattle.negotiation_inputs.specs.Platform.{PlatformFacts}
 use Rattle.sysmem_merge.specs.Failing.{FailsOn}
 
 -- settings are as one participant asks in what the line of the field reads

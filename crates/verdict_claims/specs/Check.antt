@@ -3,8 +3,8 @@ use Rattle.std.specs.Prelude.{◌≡◌, ℕ, ◌<◌, ◌≤◌, List, Option, 
 use Rattle.sysmem_merge.specs.declared.settings.Settings.{Settings}
 use Rattle.sysmem_merge.specs.Best.{IsNoBetter}
 use Rattle.sysmem_merge.specs.Settings.{Meets}
-use Rattle.sysmem_sanitise.specs.Participant.{Participant}
-use Rattle.sysmem_sanitise.specs.Platform.{PlatformFacts}
+use Rattle.negotiation_inputs.specs.Participant.{Participant}
+use Rattle.negotiation_inputs.specs.Platform.{PlatformFacts}
 use Rattle.sysmem_tree.specs.Forest.{Forest, settled, count}
 use Rattle.sysmem_tree.specs.Selection.{IsSelection}
 use Rattle.sysmem_tree.specs.Shape.{Member}

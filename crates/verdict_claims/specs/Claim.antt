@@ -1,6 +1,6 @@
 -- Verdicts with what is to prove them.
 use Rattle.std.specs.Prelude.{ℕ, List, Option, option_map}
-use Rattle.sysmem_sanitise.specs.Platform.{PlatformFacts}
+use Rattle.negotiation_inputs.specs.Platform.{PlatformFacts}
 use Rattle.sysmem_tree.specs.Node.{NodeFacts}
 use Rattle.sysmem_tree.specs.Shape.{shape_of}
 use Rattle.verdict_claims.specs.declared.certificate.Claim.{Claim as AClaim}

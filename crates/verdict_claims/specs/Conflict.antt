@@ -6,13 +6,15 @@ use Rattle.sysmem_counts.specs.Counts.{IsCountLine, IsFixedCountLine}
 use Rattle.sysmem_formats.specs.declared.offer.Offer.{Offer}
 use Rattle.sysmem_memory.specs.Listed.{HeapPlace, places_of}
 use Rattle.sysmem_memory.specs.PlaceTable.{IsPlaceLine}
-use Rattle.sysmem_merge.specs.Demands.{counts_asked, place_demands, offer_demands}
-use Rattle.sysmem_merge.specs.Reasons.{IsOfferLine, IsUnnamedLine}
-use Rattle.sysmem_sanitise.specs.Platform.{PlatformFacts, offers_of}
+use Rattle.offer_fits.specs.Demands.{counts_asked, place_demands, offer_demands}
+use Rattle.offer_fits.specs.OfferLines.{IsOfferLine}
+use Rattle.sysmem_merge.specs.Reasons.{IsUnnamedLine}
+use Rattle.negotiation_inputs.specs.Platform.{PlatformFacts, offers_of}
 use Rattle.sysmem_tree.specs.Forest.{Forest, choices, settled}
 use Rattle.sysmem_tree.specs.Shape.{Member}
 use Rattle.verdict_claims.specs.declared.conflict.Conflict.{Conflict}
-use Rattle.verdict_claims.specs.declared.conflict.Conflict.TheVariants.{Count, Places, Offers, Fixed}
+use Rattle.verdict_claims.specs.declared.conflict.Conflict.TheVariants.{Count, Places, Offers}
+use Rattle.verdict_claims.specs.declared.conflict.Conflict.TheVariants.{Fixed}
 use Rattle.verdict_claims.specs.Base.{Terms}
 use Rattle.verdict_claims.specs.Line.{LineFacts}
 use Rattle.sysmem_merge.specs.Failing.{FailsOn}

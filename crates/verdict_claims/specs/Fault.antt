@@ -4,8 +4,8 @@ use Rattle.std.specs.Prelude.{Option, Some, None, All, MatchOption, length, take
 use Rattle.std.specs.List.{AllZip}
 use Rattle.sysmem_memory.specs.Listed.{HeapPlace, places_of}
 use Rattle.sysmem_merge.specs.declared.settings.Settings.{Settings}
-use Rattle.sysmem_sanitise.specs.Participant.{Participant}
-use Rattle.sysmem_sanitise.specs.Platform.{PlatformFacts, offers_of}
+use Rattle.negotiation_inputs.specs.Participant.{Participant}
+use Rattle.negotiation_inputs.specs.Platform.{PlatformFacts, offers_of}
 use Rattle.sysmem_tree.specs.Forest.{Forest, choices, settled, count}
 use Rattle.sysmem_tree.specs.Selection.{IsSelection}
 use Rattle.sysmem_tree.specs.Shape.{Member}
@@ -25,7 +25,8 @@ use Rattle.verdict_claims.specs.Certificate.{Refutes, RefutesEarlier, HoldBefore
 use Rattle.verdict_claims.specs.Check.{IsLeastAt}
 use Rattle.verdict_claims.specs.Line.{LineFacts}
 use Rattle.verdict_claims.specs.declared.conflict.Conflict.{Conflict}
-use Rattle.verdict_claims.specs.declared.conflict.Conflict.TheVariants.{Count, Places, Offers, Fixed}
+use Rattle.verdict_claims.specs.declared.conflict.Conflict.TheVariants.{Count, Places, Offers}
+use Rattle.verdict_claims.specs.declared.conflict.Conflict.TheVariants.{Fixed}
 use Rattle.verdict_claims.specs.Conflict.{RefusesPlace, RefusesOffer, IsConflictFor}
 use Rattle.verdict_claims.specs.Members.{participants}
 use Rattle.verdict_claims.specs.Naming.{Names}

@@ -10,10 +10,10 @@ use Rattle.sysmem_formats.specs.declared.offer.Offer.{Offer}
 use Rattle.sysmem_image.specs.Entries.{first_match}
 use Rattle.sysmem_merge.specs.declared.reason.Reason.{Reason}
 use Rattle.sysmem_merge.specs.declared.reason.Reason.TheVariants as reasons
-use Rattle.sysmem_merge.specs.Demands.{OfferDemand}
-use Rattle.sysmem_merge.specs.Offers.{bounds_asked}
+use Rattle.offer_fits.specs.Demands.{OfferDemand}
+use Rattle.offer_fits.specs.Offers.{bounds_asked}
 use Rattle.sysmem_merge.specs.Reasons.{IsReason}
-use Rattle.sysmem_sanitise.specs.Platform.{PlatformFacts}
+use Rattle.negotiation_inputs.specs.Platform.{PlatformFacts}
 use Rattle.sysmem_tree.specs.Forest.{Forest, choices, settled}
 use Rattle.sysmem_tree.specs.Laws.{PathsDiffer}
 use Rattle.sysmem_tree.specs.Shape.{Member}

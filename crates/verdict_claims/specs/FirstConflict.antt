@@ -13,18 +13,19 @@ use Rattle.sysmem_formats.specs.declared.offer.Pair.{Pair}
 use Rattle.sysmem_memory.specs.Listed.{HeapPlace, places_of}
 use Rattle.sysmem_memory.specs.PlaceTable.{AllowsPlace, first_refusing}
 use Rattle.sysmem_merge.specs.declared.reason.Reason.TheVariants as reasons
-use Rattle.sysmem_merge.specs.Demands.{counts_asked, offer_demands}
+use Rattle.offer_fits.specs.Demands.{counts_asked, offer_demands}
 use Rattle.sysmem_merge.specs.Failing.{IsFirstUncovered}
 use Rattle.sysmem_merge.specs.First.{IsFirstOf}
 use Rattle.sysmem_merge.specs.OfferRead.{IsRefusingLine, offer_lines}
 use Rattle.sysmem_merge.specs.Reasons.{IsFirstReason}
 use Rattle.sysmem_merge.specs.Settings.{CoversOn}
-use Rattle.sysmem_sanitise.specs.Participant.{Participant}
-use Rattle.sysmem_sanitise.specs.Platform.{PlatformFacts, offers_of}
+use Rattle.negotiation_inputs.specs.Participant.{Participant}
+use Rattle.negotiation_inputs.specs.Platform.{PlatformFacts, offers_of}
 use Rattle.sysmem_tree.specs.Forest.{Forest, choices, settled}
 use Rattle.sysmem_tree.specs.Shape.{Member}
 use Rattle.verdict_claims.specs.declared.conflict.Conflict.{Conflict}
-use Rattle.verdict_claims.specs.declared.conflict.Conflict.TheVariants.{Count, Places, Offers, Fixed}
+use Rattle.verdict_claims.specs.declared.conflict.Conflict.TheVariants.{Count, Places, Offers}
+use Rattle.verdict_claims.specs.declared.conflict.Conflict.TheVariants.{Fixed}
 use Rattle.verdict_claims.specs.Base.{Terms}
 use Rattle.verdict_claims.specs.Conflict.{RefusesOffer, RefusesPlace}
 use Rattle.verdict_claims.specs.Line.{LineFacts}

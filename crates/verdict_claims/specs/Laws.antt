@@ -4,11 +4,12 @@ use Rattle.std.specs.Prelude.{length, take, slice_get}
 use Rattle.std.specs.List.{AllZip, flat_map}
 use Rattle.sysmem_counts.specs.Counts.{IsLeastCount}
 use Rattle.sysmem_merge.specs.declared.settings.Settings.{Settings}
-use Rattle.sysmem_merge.specs.Demands.{counts_asked, offer_demands}
-use Rattle.sysmem_merge.specs.Fit.{fit_of, IsBestFit}
+use Rattle.offer_fits.specs.Demands.{counts_asked, offer_demands}
+use Rattle.sysmem_merge.specs.Fit.{fit_of}
+use Rattle.offer_fits.specs.Fit.{IsBestFit}
 use Rattle.sysmem_merge.specs.Settings.{Meets}
-use Rattle.sysmem_sanitise.specs.Participant.{Participant}
-use Rattle.sysmem_sanitise.specs.Platform.{PlatformFacts}
+use Rattle.negotiation_inputs.specs.Participant.{Participant}
+use Rattle.negotiation_inputs.specs.Platform.{PlatformFacts}
 use Rattle.sysmem_tree.specs.Domain.{HasDomain}
 use Rattle.sysmem_tree.specs.Forest.{Forest, choices, settled}
 use Rattle.sysmem_tree.specs.Node.{NodeFacts}

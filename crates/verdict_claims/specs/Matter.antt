@@ -1,6 +1,6 @@
 -- What is asked of a search, and what a verdict is checked against.
 use Rattle.std.specs.Prelude.{ℕ, List, Option, option_map}
-use Rattle.sysmem_sanitise.specs.Platform.{PlatformFacts}
+use Rattle.negotiation_inputs.specs.Platform.{PlatformFacts}
 use Rattle.sysmem_tree.specs.Forest.{Forest}
 use Rattle.sysmem_tree.specs.Node.{NodeFacts}
 use Rattle.sysmem_tree.specs.Shape.{Member, shape_of}

@@ -1,7 +1,7 @@
 -- The members of a domain, and what those of them with constraints ask.
 use Rattle.std.specs.Prelude.{◌≡◌, ℕ, List, Option, option_map, slice_get}
 use Rattle.std.specs.List.{filter_map}
-use Rattle.sysmem_sanitise.specs.Participant.{Participant}
+use Rattle.negotiation_inputs.specs.Participant.{Participant}
 use Rattle.sysmem_tree.specs.Laws.{PathsDiffer}
 use Rattle.sysmem_tree.specs.Node.{NodeFacts}
 use Rattle.sysmem_tree.specs.Path.{path_of}

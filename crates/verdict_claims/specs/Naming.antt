@@ -2,7 +2,7 @@
 use Rattle.std.specs.Prelude.{◌≡◌, ◌≢◌, ℕ, ◌==◌, Bool, List, Option, Some, map}
 use Rattle.std.specs.Prelude.{option_and_then, find, AllPairs}
 use Rattle.std.specs.Cmp.Lexicographic.{pointwise}
-use Rattle.sysmem_sanitise.specs.Participant.{Participant}
+use Rattle.negotiation_inputs.specs.Participant.{Participant}
 use Rattle.sysmem_tree.specs.Shape.{Member}
 
 -- the two paths are one

@@ -6,12 +6,12 @@ ghost use Rattle.sysmem_counts.specs.Bounds.{IsTallyOf};
 ghost use Rattle.sysmem_counts.specs.Tally.{sum_of};
 ghost use Rattle.sysmem_counts.specs.declared.constraints.CountConstraints.{CountConstraints as Counted};
 ghost use Rattle.sysmem_formats.specs.declared.offer.Offer.{Offer as Offered};
-ghost use Rattle.sysmem_merge.specs.Demands.{OfferDemand, counts_asked, offer_demands};
+ghost use Rattle.offer_fits.specs.Demands.{OfferDemand, counts_asked, offer_demands};
 ghost use Rattle.sysmem_merge.specs.OfferRead.{IsOfferRead};
 
+use negotiation_inputs::Constraints;
 use sysmem_counts::CountBounds;
 use sysmem_merge::OfferRead;
-use sysmem_sanitise::Constraints;
 
 /// Adds what one more asks of the number of buffers, if there is one.
 pub fn add_count(counts: &mut CountBounds, asked: Option<&Constraints>)

@@ -26,12 +26,12 @@ use crate::rows::play_rows;
 pub(crate) use adding::choose;
 use adding::{add_again, settle_again};
 use deciding::{check_again, prove_again, search_again, search_together_again};
+use negotiation_inputs::Platform;
 use script_reading::Script;
 use serde_json::Value;
 use std::alloc::Global;
 use std::thread::Threads;
 use sysmem_alloc::Book;
-use sysmem_sanitise::Platform;
 use sysmem_tree::Tree;
 use writing::{serialise_again, write_again};
 

@@ -40,6 +40,7 @@ mod tokens;
 use crate::failure::Failure;
 use crowding::{Crowd, crowd_on};
 use happened::script_after;
+use negotiation_inputs::{Constraints, Platform};
 pub(crate) use repeating::book_after;
 use repeating::{repeat_book, repeat_handles};
 pub(crate) use script::all_stated;
@@ -51,7 +52,6 @@ use std::io::{self, Write};
 use std::sync::{Arc, Wait};
 use std::thread::Threads;
 use std::time::Clock;
-use sysmem_sanitise::{Constraints, Platform};
 use taking::{all_asked, apply_again, take_again};
 
 /// Plays a script, and prints what the handles answer.

@@ -5,12 +5,13 @@
 //! - `platform RECORD`: the record of a platform.
 
 use crate::failure::Failure;
+use record_reading::{Fault, read_platform};
 use record_writing::{write_constraints, write_platform};
 use serde_json::Value;
 use std::alloc::Global;
 use std::fmt::Write;
 use std::io;
-use sysmem_sanitise::{Fault, read_constraints, read_platform};
+use sysmem_sanitise::read_constraints;
 
 /// Writes the records of standard input.
 pub(crate) fn write_records(rt: &HostRuntime) -> Result<(), Failure> {

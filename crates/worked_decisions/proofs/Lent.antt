@@ -1,9 +1,9 @@
 -- What was lent stands for what it was lent from.
 use Rattle.std.proofs.Common.{◌≡◌, ℕ, Option, subst}
 use Rattle.sysmem_alloc.specs.Claims.{IsRightClaim}
-use Rattle.sysmem_proof.specs.Base.{BaseFacts}
+use Rattle.verdict_claims.specs.Base.{BaseFacts}
 use Rattle.verdict_claims.specs.declared.certificate.Claim.{Claim}
-use Rattle.sysmem_sanitise.specs.Platform.{PlatformFacts}
+use Rattle.negotiation_inputs.specs.Platform.{PlatformFacts}
 use Rattle.sysmem_tree.specs.Domain.{TreeFacts}
 
 -- what is right on what was lent is right

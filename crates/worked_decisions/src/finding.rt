@@ -4,8 +4,8 @@
 use std::alloc::{AllocError, Global};
 use std::cell::Cell;
 use sysmem_alloc::Frozen;
-use sysmem_proof::Verdict;
 use sysmem_search::{Gate, search};
+use verdict_claims::Verdict;
 
 // Counts the visits of which it is told, and keeps how many choices there were at most.
 #[derive(Drop)]

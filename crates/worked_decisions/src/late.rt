@@ -7,8 +7,9 @@ use std::alloc::{AllocError, Global};
 use std::process::Abort;
 use std::test::Fail;
 use sysmem_alloc::{Book, Frozen};
-use sysmem_proof::{Claim, Verdict, check};
+use sysmem_proof::check;
 use sysmem_search::{NoGate, prove, search};
+use verdict_claims::{Claim, Verdict};
 
 // a and b need eight buffers and have nine, the ninth for x, who was attached to a; y, attached
 // next, wants a tenth. z, attached to b, wants one more, and once its domain waits a is released.

@@ -11,9 +11,9 @@ use std::alloc::Global;
 use std::sync::Arc;
 use std::test::Fail;
 use sysmem_alloc::{Book, Frozen};
-use sysmem_proof::{Claim, Proof};
 use sysmem_search::{NoGate, search};
 use sysmem_tree::{DomainId, Event};
+use verdict_claims::{Claim, Proof};
 
 fn read_ordinals(ordinals: &mut Vec<u32>, text: &str) -> Result<(), Fail> {
     for part in text.split('/') {

@@ -8,7 +8,7 @@ use std::alloc::{AllocError, Global};
 use std::process::Abort;
 use std::test::Fail;
 use sysmem_alloc::Frozen;
-use sysmem_proof::Verdict;
+use verdict_claims::Verdict;
 
 // A group: the path of the node below which it stands, its own path, and how many children it has.
 type Group = (&'static str, &'static str, u8);

@@ -1,10 +1,12 @@
 //! The words of scripts, and what they do: actions on a node, and constraints to set.
 
+use negotiation_inputs::{Constraints, Platform};
+use record_reading::read_platform;
 use serde_json::Value;
 use std::alloc::Global;
 use std::sync::Arc;
 use std::test::Fail;
-use sysmem_sanitise::{Constraints, Platform, read_constraints, read_platform};
+use sysmem_sanitise::read_constraints;
 use sysmem_tree::Action;
 
 const PLATFORM: &str =

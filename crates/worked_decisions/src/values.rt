@@ -3,6 +3,8 @@
 
 use crate::equal::is_equal;
 use crate::steps::{asked, platform};
+use negotiation_inputs::{Constraints, Platform};
+use record_reading::{Code, Fault, FaultPlace};
 use std::alloc::{AllocError, Global};
 use std::test::Fail;
 use sysmem_counts::Field;
@@ -10,7 +12,6 @@ use sysmem_formats::{ColourSpace, Modifier, Offer, Pair, PixelFormat};
 use sysmem_image::{Corner, ImageBounds, corner};
 use sysmem_memory::{CoherencyDomains, Heap, HeapInfo};
 use sysmem_merge::{Aggregate, Reason};
-use sysmem_sanitise::{Code, Constraints, Fault, FaultPlace, Platform};
 
 #[test]
 fn want_of_memory(rt: HostRuntime) -> Result<(), Fail> {

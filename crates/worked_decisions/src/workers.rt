@@ -14,8 +14,8 @@ use std::test::Fail;
 use std::thread::Threads;
 use std::time::Clock;
 use sysmem_alloc::Frozen;
-use sysmem_proof::Verdict;
 use sysmem_search::{Gate, MOST_WORKERS, NoGate, search_wide};
+use verdict_claims::Verdict;
 
 // So many workers find the verdict of what is frozen.
 fn find_alike<R: Threads + Abort + Sync, G: Gate + Sync>(

@@ -4,12 +4,12 @@ use crate::trials::bounding::Bound;
 use crate::trials::entries::states_bound;
 use constraint_edits::{Amount, Edit};
 use explanation_text::Gathered;
+use negotiation_inputs::Constraints;
 use serde_json::Value;
 use std::alloc::{AllocError, Global};
 use sysmem_counts::{CountConstraints, Field, Usage};
 use sysmem_image::Entry;
 use sysmem_memory::{Heap, MemoryConstraints};
-use sysmem_sanitise::Constraints;
 use value_sources::Asked;
 
 /// A change of a participant: an edit, after which the field has an amount if one is given.

@@ -1,11 +1,11 @@
 //! Entries of a participant's record that stand behind others.
 
+use negotiation_inputs::Platform;
 use serde_json::Value;
 use std::alloc::{AllocError, Global};
 use sysmem_counts::Field;
 use sysmem_formats::Pair;
 use sysmem_image::Entry;
-use sysmem_sanitise::Platform;
 use value_sources::Asked;
 
 const ENTRIES: &str = "image_format_constraints";

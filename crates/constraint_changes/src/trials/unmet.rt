@@ -8,12 +8,14 @@ use crate::trials::restating::Stated;
 use crate::trials::trying::MOST_HALVINGS;
 use constraint_edits::{Amount, Changed, Edit, Halving};
 use explanation_text::Gathered;
+use negotiation_inputs::Constraints;
+use record_reading::Code;
 use script_story::Story;
 use serde_json::Value;
 use settings_reasons::is_unmet;
 use std::alloc::{AllocError, Global};
 use std::slice::from_ref;
-use sysmem_sanitise::{Code, Constraints, read_constraints};
+use sysmem_sanitise::read_constraints;
 use value_sources::Asked;
 
 /// What a participant asks in the place of what it states.

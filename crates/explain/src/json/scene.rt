@@ -2,11 +2,11 @@
 
 use crate::json::object::Object;
 use explanation_text::Gathered;
+use negotiation_inputs::Platform;
 use script_faults::Document;
 use script_story::{Domain, Story, refused_calls};
 use serde_json::Value;
 use std::alloc::{AllocError, Global};
-use sysmem_sanitise::Platform;
 
 /// What a script's calls did, on its platform.
 #[derive(Clone, Copy)]

@@ -2,9 +2,10 @@
 
 use crate::record::paths::{Path, extended};
 use explanation_text::{Step, Words, value_at};
+use record_reading::{Code, Fault, read_platform};
 use serde_json::Value;
 use std::alloc::{AllocError, Global};
-use sysmem_sanitise::{Code, Fault, read_constraints, read_platform};
+use sysmem_sanitise::read_constraints;
 
 /// A copy of a value in which the list at a path has its first items alone, as many as are said.
 fn cut(alloc: Global, value: &Value, path: &[Step<'_>], most: usize) -> Result<Value, AllocError> {

@@ -2,8 +2,8 @@
 
 use crate::record::paths::put_longer;
 use explanation_text::{Step, Words, value_at};
+use record_reading::Code;
 use serde_json::Value;
-use sysmem_sanitise::Code;
 
 /// Puts where the value at a path, which its list has twice, stands first after a text, if it is
 /// found.

@@ -13,9 +13,9 @@ use crate::record::paths::{Path, joined, with};
 use crate::record::record_place::place_of;
 use crate::record::unknown::{first_unknown, key_of};
 use explanation_text::{Gathered, Items, Step, Words, nearest};
+use record_reading::{Code, Fault};
 use serde_json::Value;
 use std::alloc::{AllocError, Global};
-use sysmem_sanitise::{Code, Fault};
 
 /// The first fault of a record, and where it is.
 #[derive(Clone, Copy)]

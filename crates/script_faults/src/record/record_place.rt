@@ -5,9 +5,9 @@ use crate::record::keys::{ENTRY, HEAP_NAME, MEMORY, PAIR, PLATFORM_HEAP, is_one_
 use crate::record::names::MODIFIERS_OR_ANY;
 use crate::record::paths::{Path, joined, with};
 use explanation_text::{Step, value_at};
+use record_reading::Fault;
 use serde_json::Value;
 use std::alloc::{AllocError, Global};
-use sysmem_sanitise::Fault;
 
 /// The path from a record to the value that its first fault is about, or to where it would stand.
 pub(crate) fn place_of(

@@ -5,17 +5,17 @@ ghost use Rattle.std.specs.List.{cons_option};
 ghost use Rattle.sysmem_counts.specs.Bounds.{IsTallyOf};
 ghost use Rattle.sysmem_counts.specs.Tally.{sum_of};
 ghost use Rattle.sysmem_counts.specs.declared.constraints.CountConstraints.{CountConstraints as Counted};
-ghost use Rattle.sysmem_merge.specs.Demands.{counts_asked, offer_demands};
+ghost use Rattle.offer_fits.specs.Demands.{counts_asked, offer_demands};
 ghost use Rattle.sysmem_merge.specs.OfferRead.{IsOfferRead};
 ghost use Rattle.sysmem_merge.specs.Settings.{CoversOn};
 ghost use Rattle.sysmem_tree.specs.declared.tree.TheConstants.{MOST_NODES};
 ghost use Rattle.verdict_claims.specs.Asked.{asked_in};
 ghost use Rattle.sysmem_tree.specs.Nodes.{HasNode};
 
+use negotiation_inputs::{Constraints, Platform};
 use sysmem_counts::CountBounds;
 use sysmem_formats::Offer;
 use sysmem_merge::{OfferRead, Settings, meets_one};
-use sysmem_sanitise::{Constraints, Platform};
 use sysmem_tree::{NodeId, Tree};
 use verdict_claims::{add_count, add_read};
 

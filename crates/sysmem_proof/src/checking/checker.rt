@@ -12,8 +12,8 @@ ghost use Rattle.sysmem_tree.specs.Selection.{IsPrefix, after};
 ghost use Rattle.sysmem_tree.specs.Shape.{Member};
 
 use crate::roll::Roll;
+use negotiation_inputs::Platform;
 use std::marker::Model;
-use sysmem_sanitise::Platform;
 use sysmem_tree::layout_laws::{choices_leave_one_forest, few_children, few_choices};
 use sysmem_tree::{DomainId, Layout, Prefix, Tree};
 use verdict_claims::Base;
@@ -30,10 +30,9 @@ pub(crate) struct Checker<'a> {
 }
 
 impl<'a> Model for Checker<'a> {
-    ghost use Rattle.std.specs.Prelude.{option_map};
+    ghost use Rattle.std.specs.Prelude.{option_map, []};
     ghost use Rattle.verdict_claims.specs.Base.{IsGivenBase};
     ghost use Rattle.verdict_claims.specs.Matter.{Matter};
-    ghost use Rattle.std.specs.Prelude.{[]};
     ghost use Rattle.sysmem_tree.specs.Domain.{HasDomain, IsSoundTree};
     ghost use Rattle.sysmem_tree.specs.Layout.{IsLayout};
     ghost use Rattle.sysmem_tree.specs.OpenGroups.{HoldsNodes};

@@ -16,8 +16,8 @@ use super::offers_before::offers_before_fault;
 use super::places_before::places_before_fault;
 use super::settings_faults::{attached_fault, initial_fault};
 use crate::roll::Roll;
+use negotiation_inputs::Platform;
 use sysmem_merge::Settings;
-use sysmem_sanitise::Platform;
 use sysmem_tree::Prefix;
 use verdict_claims::{Base, Certificate, Chosen, No};
 

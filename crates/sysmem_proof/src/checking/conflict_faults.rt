@@ -9,7 +9,7 @@ ghost use Rattle.sysmem_proof.specs.EachLine.{LinesOfItem};
 ghost use Rattle.verdict_claims.specs.Fault.{AreNamed, ConflictFaults, Fails, First};
 ghost use Rattle.verdict_claims.specs.Roll.{listed};
 ghost use Rattle.verdict_claims.specs.declared.no.No.TheVariants.{WrongNode, NoConflict as Untrue};
-ghost use Rattle.sysmem_sanitise.specs.Platform.{offers_of};
+ghost use Rattle.negotiation_inputs.specs.Platform.{offers_of};
 ghost use Rattle.sysmem_tree.specs.Forest.{Forest, choices};
 ghost use Rattle.sysmem_tree.specs.Selection.{IsPrefix, after};
 ghost use Rattle.sysmem_tree.specs.Shape.{Member};
@@ -21,7 +21,7 @@ use super::names::is_named;
 use super::offer_lines::refuse_offers;
 use super::place_lines::refuse_places;
 use crate::roll::Roll;
-use sysmem_sanitise::Platform;
+use negotiation_inputs::Platform;
 use sysmem_tree::Prefix;
 use verdict_claims::{Base, Conflict, Line, No};
 

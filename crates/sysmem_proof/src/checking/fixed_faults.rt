@@ -9,17 +9,17 @@ ghost use Rattle.sysmem_proof.specs.EachLine.{many_in};
 ghost use Rattle.verdict_claims.specs.Fault.{AreNamed, ConflictFaults, Fails, First};
 ghost use Rattle.verdict_claims.specs.Roll.{listed};
 ghost use Rattle.verdict_claims.specs.declared.no.No.TheVariants.{WrongNode, NoConflict as Untrue};
-ghost use Rattle.sysmem_sanitise.specs.Platform.{offers_of};
+ghost use Rattle.negotiation_inputs.specs.Platform.{offers_of};
 ghost use Rattle.sysmem_tree.specs.Forest.{Forest, settled};
 ghost use Rattle.sysmem_tree.specs.Shape.{Member};
 
 use super::line_faults::{failing_fault, fixed_count_fault};
 use super::names::are_named;
 use crate::roll::Roll;
+use negotiation_inputs::Platform;
 use sysmem_formats::offer_at;
 use sysmem_memory::{CoherencyDomains, HeapInfo};
 use sysmem_merge::Settings;
-use sysmem_sanitise::Platform;
 use verdict_claims::{Conflict, Line, No};
 
 /// Whether a platform has so many offers.

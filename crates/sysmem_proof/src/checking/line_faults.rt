@@ -3,7 +3,7 @@
 
 ghost use Rattle.std.specs.Prelude.{[], ◌∷◌, Any, MatchResult};
 ghost use Rattle.sysmem_counts.specs.Counts.{IsCountLine, IsFixedCountLine};
-ghost use Rattle.sysmem_merge.specs.Demands.{counts_asked};
+ghost use Rattle.offer_fits.specs.Demands.{counts_asked};
 ghost use Rattle.sysmem_merge.specs.Failing.{FailsOn};
 ghost use Rattle.verdict_claims.specs.Conflict.{RefusesPlace};
 ghost use Rattle.verdict_claims.specs.Fault.{LineFaults};
@@ -13,10 +13,10 @@ ghost use Rattle.verdict_claims.specs.Roll.{listed};
 use super::line_tests::{is_count_line, is_failed_at, is_fixed_count_line, is_place_line};
 use super::names::{are_named, counts_named, is_named};
 use crate::roll::Roll;
+use negotiation_inputs::Platform;
 use sysmem_counts::Field;
 use sysmem_memory::{HeapInfo, Place};
 use sysmem_merge::Settings;
-use sysmem_sanitise::Platform;
 use verdict_claims::{Line, No};
 
 /// Of a line that says that no count suits participants.

@@ -4,20 +4,20 @@ ghost use Rattle.std.specs.Prelude.{◌↔◌, [], ◌∷◌, Any, IsTrue};
 ghost use Rattle.sysmem_counts.specs.Bounds.{IsTallyOf};
 ghost use Rattle.sysmem_counts.specs.Counts.{IsCountLine, IsFixedCountLine};
 ghost use Rattle.sysmem_memory.specs.PlaceTable.{IsPlaceLine};
-ghost use Rattle.sysmem_merge.specs.Demands.{counts_asked, offer_demands, place_demands};
+ghost use Rattle.offer_fits.specs.Demands.{counts_asked, offer_demands, place_demands};
 ghost use Rattle.sysmem_merge.specs.Failing.{FailsOn};
-ghost use Rattle.sysmem_merge.specs.Reasons.{IsOfferLine};
+ghost use Rattle.offer_fits.specs.OfferLines.{IsOfferLine};
 ghost use Rattle.verdict_claims.specs.Fault.{AreNamed};
 ghost use Rattle.verdict_claims.specs.Naming.{IsTrueOf};
 ghost use Rattle.verdict_claims.specs.Roll.{asked_by, listed};
 
 use crate::asked::{fail_at, read_of, refuse_place};
 use crate::roll::Roll;
+use negotiation_inputs::Platform;
 use sysmem_counts::{CountBounds, Field};
 use sysmem_formats::Offer;
 use sysmem_memory::{CoherencyDomain, HeapInfo};
 use sysmem_merge::Settings;
-use sysmem_sanitise::Platform;
 use verdict_claims::Line;
 
 /// Whether no count suits the participants whom the line names, by its field, where this is what

@@ -2,7 +2,7 @@
 
 ghost use Rattle.std.specs.Prelude.{◌↔◌, [], ◌∷◌, IfNone, IfSome, IsTrue};
 ghost use Rattle.sysmem_counts.specs.Bounds.{IsTallyOf};
-ghost use Rattle.sysmem_merge.specs.Demands.{counts_asked};
+ghost use Rattle.offer_fits.specs.Demands.{counts_asked};
 ghost use Rattle.verdict_claims.specs.Fault.{AreNamed};
 ghost use Rattle.verdict_claims.specs.Roll.{asked_by, listed};
 

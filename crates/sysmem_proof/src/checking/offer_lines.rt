@@ -3,22 +3,22 @@
 ghost use Rattle.std.specs.Prelude.{◌≡◌, ◌≢◌, ◌↔◌, Bool, List, [], All, IsTrue, option_copied, option_map};
 ghost use Rattle.std.specs.List.{AllZip, cons_option};
 ghost use Rattle.sysmem_formats.specs.declared.offer.Offer.TheVariants.{NoImage, Image};
-ghost use Rattle.sysmem_merge.specs.Demands.{offer_demands};
-ghost use Rattle.sysmem_merge.specs.Offers.{names_format, names_modifier, names_colour};
+ghost use Rattle.offer_fits.specs.Demands.{offer_demands};
+ghost use Rattle.offer_fits.specs.Offers.{names_format, names_modifier, names_colour};
 ghost use Rattle.sysmem_merge.specs.Reasons.{IsUnnamedLine};
 ghost use Rattle.verdict_claims.specs.Conflict.{RefusesOffer};
 ghost use Rattle.verdict_claims.specs.Fault.{AreNamed};
 ghost use Rattle.verdict_claims.specs.Members.{participants};
 ghost use Rattle.verdict_claims.specs.Roll.{listed};
-ghost use Rattle.sysmem_sanitise.specs.Platform.{offers_of};
+ghost use Rattle.negotiation_inputs.specs.Platform.{offers_of};
 ghost use Rattle.sysmem_tree.specs.Shape.{Member};
 
 use super::line_tests::is_offer_line;
 use crate::roll::Roll;
+use negotiation_inputs::{Constraints, Platform};
 use sysmem_counts::Field;
 use sysmem_formats::{Offer, offer_at};
 use sysmem_image::{Entry, entry_for};
-use sysmem_sanitise::{Constraints, Platform};
 use verdict_claims::{Line, is_shared};
 
 /// Whether one, if there is one, doesn't name the part of the offer's name that the field speaks

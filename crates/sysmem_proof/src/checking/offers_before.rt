@@ -5,13 +5,13 @@ ghost use Rattle.verdict_claims.specs.Certificate.{HoldBefore};
 ghost use Rattle.verdict_claims.specs.Conflict.{RefusesOffer};
 ghost use Rattle.verdict_claims.specs.Fault.{LinesFault};
 ghost use Rattle.verdict_claims.specs.Roll.{listed};
-ghost use Rattle.sysmem_sanitise.specs.Platform.{offers_of};
+ghost use Rattle.negotiation_inputs.specs.Platform.{offers_of};
 
 use super::offer_faults::offer_fault;
 use crate::roll::Roll;
+use negotiation_inputs::Platform;
 use sysmem_formats::{Offer, offer_at};
 use sysmem_merge::Settings;
-use sysmem_sanitise::Platform;
 use verdict_claims::{Line, No};
 
 /// Whether this is the platform's offer at the index.

@@ -13,9 +13,9 @@ ghost use Rattle.verdict_claims.specs.Roll.{listed};
 
 use super::line_faults::place_fault;
 use crate::roll::Roll;
+use negotiation_inputs::Platform;
 use sysmem_memory::{CoherencyDomain, CoherencyDomains, HeapInfo, Place};
 use sysmem_merge::Settings;
-use sysmem_sanitise::Platform;
 use verdict_claims::{Line, No};
 
 /// The domains of a set that come before this one.

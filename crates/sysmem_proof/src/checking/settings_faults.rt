@@ -3,9 +3,9 @@
 ghost use Rattle.std.specs.Prelude.{◌≡◌, ◌≤◌, ◌↔◌, ◌++◌, List, Some, None, All, IsPermutation, IsTrue, MatchResult, length, true};
 ghost use Rattle.sysmem_counts.specs.Counts.{IsCounted};
 ghost use Rattle.sysmem_formats.specs.declared.offer.Offer.{Offer as Offered};
-ghost use Rattle.sysmem_merge.specs.Demands.{OfferDemand, counts_asked};
+ghost use Rattle.offer_fits.specs.Demands.{OfferDemand, counts_asked};
 ghost use Rattle.sysmem_merge.specs.OfferRead.{IsOfferRead};
-ghost use Rattle.sysmem_merge.specs.Offers.{is_named};
+ghost use Rattle.offer_fits.specs.Offers.{is_named};
 ghost use Rattle.sysmem_merge.specs.Settings.{CoversOn, Meets};
 ghost use Rattle.sysmem_tree.specs.declared.tree.TheConstants.{MOST_NODES};
 ghost use Rattle.verdict_claims.specs.Asked.{asked_in};
@@ -18,10 +18,10 @@ ghost use Rattle.sysmem_tree.specs.Nodes.{HasNode};
 ghost use Rattle.sysmem_tree.specs.Shape.{Member};
 
 use super::asked_of_nodes::{accept_nodes, count_nodes, read_nodes};
+use negotiation_inputs::Platform;
 use sysmem_counts::Field;
 use sysmem_merge::laws::{count_line_leaves_none, offer_line_leaves_none};
 use sysmem_merge::{OfferRead, Settings, is_sound};
-use sysmem_sanitise::Platform;
 use sysmem_tree::{NodeId, Tree};
 use verdict_claims::No;
 use verdict_claims::laws::least_is_computed;

@@ -9,11 +9,11 @@ ghost use Rattle.sysmem_tree.specs.Shape.{by_number, forest_of};
 
 use super::deciding::found_in;
 use crate::failure::Failure;
+use negotiation_inputs::Platform;
 use std::alloc::Global;
 use sysmem_merge::Aggregate;
-use sysmem_proof::Verdict;
-use sysmem_sanitise::Platform;
 use sysmem_tree::{DomainId, MOST_NODES, NodeId, Prefix, Tree};
+use verdict_claims::Verdict;
 
 /// Adds the participants of the initial domain's selection to a fresh aggregate, so many times.
 pub(crate) fn add_again(

@@ -2,17 +2,18 @@
 //! of both.
 
 ghost use Rattle.std.specs.Prelude.{None, IfOk, OnOk};
-ghost use Rattle.sysmem_proof.specs.Base.{IsGivenBase};
-ghost use Rattle.sysmem_proof.specs.Verdict.{IsOptimalIn};
+ghost use Rattle.verdict_claims.specs.Base.{IsGivenBase};
+ghost use Rattle.verdict_claims.specs.Verdict.{IsOptimalIn};
 ghost use Rattle.sysmem_tree.specs.Domain.{HasDomain};
 
 use crate::failure::Failure;
+use negotiation_inputs::Platform;
 use std::alloc::Global;
 use std::thread::Threads;
-use sysmem_proof::{Claim, check};
-use sysmem_sanitise::Platform;
+use sysmem_proof::check;
 use sysmem_search::{Found, NoGate, prove, search, search_wide};
 use sysmem_tree::{DomainId, Tree};
+use verdict_claims::Claim;
 
 /// The verdict of the initial domain with what proves it.
 pub(crate) fn claim_of(alloc: Global, platform: &Platform, tree: &Tree) -> Result<Claim, Failure> {

@@ -4,11 +4,11 @@
 use super::deciding::claim_of;
 use crate::failure::Failure;
 use certificate_text::CertificateWriter;
+use negotiation_inputs::Platform;
 use serde_json::Value;
 use std::alloc::Global;
-use sysmem_proof::Claim;
-use sysmem_sanitise::Platform;
 use sysmem_tree::{Path, Tree};
+use verdict_claims::Claim;
 
 /// Writes the certificate of the initial domain's verdict so many times.
 pub(crate) fn write_again(

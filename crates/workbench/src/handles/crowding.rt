@@ -5,6 +5,7 @@ ghost use Rattle.sysmem_room.specs.Counting.{all_parts};
 
 use super::tokens::{close_all, share_out, take_part};
 use crate::failure::Failure;
+use negotiation_inputs::{Constraints, Platform};
 use std::alloc::Global;
 use std::marker::Brand;
 use std::sync::atomic::{AtomicUsize, Ordering};
@@ -14,7 +15,6 @@ use std::thread;
 use std::thread::Threads;
 use std::time::{Clock, Duration, Instant};
 use sysmem_participants::{Allocator, Token};
-use sysmem_sanitise::{Constraints, Platform};
 use sysmem_search::NoGate;
 
 /// Each of them duplicates its token, so that there are 126 participants.

@@ -1,11 +1,11 @@
 //! What the names of a script stand for.
 
+use negotiation_inputs::Constraints;
 use std::mem;
 use std::sync::ledger::Ledger;
 use std::sync::{Arc, Wait};
 use std::thread::Threads;
 use sysmem_participants::{Collection, Group, Stub, Token};
-use sysmem_sanitise::Constraints;
 use sysmem_search::NoGate;
 use sysmem_tree::Refusal;
 

@@ -1,9 +1,9 @@
 //! Calls by their names in a script.
 
+use record_reading::Fault;
 use script_reading::{Act, Call};
 use std::alloc::AllocError;
 use std::fmt::Write;
-use sysmem_sanitise::Fault;
 use sysmem_tree::Refusal;
 
 /// What a call answers.

@@ -8,6 +8,7 @@ use super::hand::Hand;
 use super::playing::{keep, make};
 use super::script::Asked;
 use crate::failure::Failure;
+use negotiation_inputs::Platform;
 use script_reading::{Act, Call};
 use std::alloc::{AllocError, Global};
 use std::marker::Brand;
@@ -16,7 +17,6 @@ use std::sync::{Arc, Wait};
 use std::thread::Threads;
 use sysmem_alloc::Book;
 use sysmem_participants::{Allocator, Stub, Token, audit};
-use sysmem_sanitise::Platform;
 use sysmem_search::NoGate;
 use sysmem_tree::{Action, Event, NodeId};
 

@@ -7,6 +7,8 @@ use super::ending::{end, put_audit};
 use super::hand::Hand;
 use super::playing::play_calls;
 use super::showing::put_open;
+use negotiation_inputs::Constraints;
+use record_reading::{Code, Fault};
 use script_reading::{Act, Call, Script};
 use std::alloc::{AllocError, Global};
 use std::marker::Brand;
@@ -14,7 +16,7 @@ use std::sync::ledger::{Blank, Ledger};
 use std::sync::{Arc, Wait};
 use std::thread::Threads;
 use sysmem_participants::{Allocator, Stub};
-use sysmem_sanitise::{Code, Constraints, Fault, read_constraints};
+use sysmem_sanitise::read_constraints;
 use sysmem_search::NoGate;
 
 /// What a call asks for, if it states anything, or why that can't be read.

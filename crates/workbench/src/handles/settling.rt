@@ -9,15 +9,15 @@ ghost use Rattle.sysmem_alloc.specs.State.{base_of, next_ready};
 use super::repeating::apply;
 use super::script::Asked;
 use crate::failure::Failure;
+use negotiation_inputs::Platform;
 use script_reading::{Act, Call};
 use std::alloc::{AllocError, Global};
 use std::sync::Arc;
 use sysmem_alloc::Book;
 use sysmem_merge::Settings;
-use sysmem_proof::{Claim, Verdict};
-use sysmem_sanitise::Platform;
 use sysmem_search::{NoGate, prove, search};
 use sysmem_tree::{DomainId, MOST_NODES};
+use verdict_claims::{Claim, Verdict};
 
 /// Plays the calls on so many books, one after the other, and decides each domain that waits. A
 /// `check` or a `wait` asks what the root is told.

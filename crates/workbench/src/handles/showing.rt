@@ -1,6 +1,7 @@
 //! What the collections that are still open are shown.
 
 use super::hand::Hand;
+use negotiation_inputs::Platform;
 use script_reading::Call;
 use std::alloc::AllocError;
 use std::fmt::Write;
@@ -10,7 +11,6 @@ use sysmem_image::corner;
 use sysmem_merge::Settings;
 use sysmem_participants::{Collection, View};
 use sysmem_proof::check;
-use sysmem_sanitise::Platform;
 use sysmem_search::NoGate;
 
 /// Puts a line for each open collection after the text.

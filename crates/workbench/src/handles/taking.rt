@@ -8,6 +8,7 @@ ghost use Rattle.sysmem_room.specs.Counting.{all_parts};
 use super::script::Asked;
 use super::tokens::{close_all, share_out, take_part};
 use crate::failure::Failure;
+use negotiation_inputs::{Constraints, Platform};
 use std::alloc::{AllocError, Global};
 use std::marker::Brand;
 use std::sync::ledger::{Blank, Ledger};
@@ -15,7 +16,6 @@ use std::sync::{Arc, Wait};
 use std::thread::Threads;
 use sysmem_alloc::Book;
 use sysmem_participants::Allocator;
-use sysmem_sanitise::{Constraints, Platform};
 use sysmem_search::NoGate;
 use sysmem_tree::{Action, Event, NodeId};
 

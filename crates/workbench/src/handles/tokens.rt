@@ -1,11 +1,11 @@
 //! Tokens of a collection, in a list of their own, and what a participant does with one.
 
+use negotiation_inputs::Constraints;
 use std::alloc::Global;
 use std::sync::ledger::Ledger;
 use std::sync::{Arc, Wait};
 use std::thread::Threads;
 use sysmem_participants::Token;
-use sysmem_sanitise::Constraints;
 use sysmem_search::NoGate;
 
 /// So many duplicates of a token; fewer where one is refused.

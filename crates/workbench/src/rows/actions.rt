@@ -1,10 +1,11 @@
 //! Actions as words, and how the domains stand.
 
 use crate::failure::Failure;
+use negotiation_inputs::Constraints;
 use serde_json::Value;
 use std::alloc::{AllocError, Global};
 use std::sync::Arc;
-use sysmem_sanitise::{Constraints, read_constraints};
+use sysmem_sanitise::read_constraints;
 use sysmem_tree::{Action, Fate, Tree};
 
 /// The action of this word. Constraints are those of a participant with the usage cpu; `set_none`

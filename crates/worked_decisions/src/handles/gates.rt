@@ -11,6 +11,7 @@ use super::slots::{emptied, take_part};
 use crate::equal::is_equal;
 use crate::gate::{Held, Meeting, comes, fresh};
 use crate::steps::{asked, large_platform, platform};
+use negotiation_inputs::Constraints;
 use std::alloc::Global;
 use std::marker::Brand;
 use std::process::Abort;
@@ -22,7 +23,6 @@ use std::thread;
 use std::thread::Threads;
 use std::time::Clock;
 use sysmem_participants::{Allocator, Audit, AuditFault, Collection, Stub, Token};
-use sysmem_sanitise::Constraints;
 use sysmem_search::Gate;
 use sysmem_tree::Refusal;
 

@@ -4,6 +4,7 @@ ghost use Rattle.std.specs.Prelude.{◌≡◌};
 ghost use Rattle.sysmem_room.specs.Counting.{all_parts};
 
 use crate::equal::is_equal;
+use negotiation_inputs::Constraints;
 use std::alloc::Global;
 use std::process::Abort;
 use std::sync::ledger::{Blank, Ledger};
@@ -13,7 +14,6 @@ use sysmem_participants::{
     Allocator, Audit, AuditFault, Collection, Group, Stub, Token, View, audit,
 };
 use sysmem_proof::check;
-use sysmem_sanitise::Constraints;
 use sysmem_search::Gate;
 use sysmem_tree::Refusal;
 

@@ -8,6 +8,8 @@ use super::handling::{
 };
 use crate::equal::is_equal;
 use crate::steps::{asked, platform};
+use negotiation_inputs::Constraints;
+use node_limits::Limits;
 use std::alloc::Global;
 use std::marker::Brand;
 use std::process::Abort;
@@ -15,8 +17,7 @@ use std::sync::ledger::{Blank, Ledger};
 use std::sync::{Arc, Wait};
 use std::test::Fail;
 use std::thread::Threads;
-use sysmem_participants::{Allocator, Audit, AuditFault, Limits, Stub, Token};
-use sysmem_sanitise::Constraints;
+use sysmem_participants::{Allocator, Audit, AuditFault, Stub, Token};
 use sysmem_search::{Gate, NoGate};
 use sysmem_tree::Refusal;
 

@@ -1,12 +1,12 @@
 //! Tokens that cross to the thread that takes them.
 
 use super::handling::{bound, closed, waits_for};
+use negotiation_inputs::Constraints;
 use std::process::Abort;
 use std::sync::ledger::Ledger;
 use std::sync::{Arc, Mutex, Wait};
 use std::thread::Threads;
 use sysmem_participants::{Stub, Token};
-use sysmem_sanitise::Constraints;
 use sysmem_search::Gate;
 
 pub(super) type Slot<L, G> = Mutex<Option<Token<L, G>>>;

@@ -3,11 +3,11 @@
 use Rattle.std.proofs.Common.{None, sym, refl, subst}
 use Rattle.std.specs.Prelude.{is_none}
 use Rattle.sysmem_merge.specs.declared.reason.Reason.TheVariants as reasons
-use Rattle.sysmem_merge.specs.Demands.{counts_asked}
+use Rattle.offer_fits.specs.Demands.{counts_asked}
 use Rattle.sysmem_merge.specs.Reasons.{IsFirstReason}
 use Rattle.sysmem_memory.specs.Listed.{HeapPlace, places_of}
 use Rattle.sysmem_formats.specs.declared.offer.Offer.{Offer}
-use Rattle.sysmem_sanitise.specs.Platform.{offers_of}
+use Rattle.negotiation_inputs.specs.Platform.{offers_of}
 use Rattle.sysmem_tree.specs.Forest.{choices, settled}
 use Rattle.verdict_claims.specs.FirstConflict.{IsOfferLineGiven, IsPlaceLineGiven}
 use Rattle.verdict_claims.specs.Line.{LineFacts}

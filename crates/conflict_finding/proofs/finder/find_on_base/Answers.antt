@@ -5,7 +5,7 @@ use Rattle.std.proofs.lemmas.List.Elements.{All-contains}
 use Rattle.sysmem_counts.specs.Counts.{IsCounted, IsFixedCountLine}
 use Rattle.sysmem_counts.specs.declared.field.Field.TheVariants.{MinBufferCount, MaxBufferCount}
 use Rattle.sysmem_merge.specs.declared.settings.Settings.{Settings}
-use Rattle.sysmem_merge.specs.Demands.{counts_asked}
+use Rattle.offer_fits.specs.Demands.{counts_asked}
 use Rattle.sysmem_merge.specs.Failing.{FailsOn, IsFirstUncovered}
 use Rattle.sysmem_merge.specs.First.{IsFirstOf}
 use Rattle.sysmem_merge.specs.Settings.{CoversOn}

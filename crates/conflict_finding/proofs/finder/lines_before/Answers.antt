@@ -1,7 +1,7 @@
 -- The lines end at the offer and the place of the settings.
 use Rattle.std.proofs.Common.{◌≡◌, true, None, [], sym, ◌∙◌, subst}
 use Rattle.sysmem_memory.specs.Listed.{places_of}
-use Rattle.sysmem_sanitise.specs.Platform.{offers_of}
+use Rattle.negotiation_inputs.specs.Platform.{offers_of}
 use Rattle.std.proofs.lemmas.Option.{same_Some}
 use Rattle.sysmem_tree.specs.Forest.{settled}
 use Rattle.verdict_claims.specs.Base.{IsElsewhere}

@@ -2,7 +2,7 @@
 use Rattle.std.proofs.Common.{take}
 use Rattle.std.specs.Prelude.{All}
 use Rattle.sysmem_counts.specs.declared.field.Field.TheVariants.{ColorSpaces}
-use Rattle.sysmem_merge.specs.Demands.{offer_demand}
+use Rattle.offer_fits.specs.Demands.{offer_demand}
 use Rattle.verdict_claims.specs.Members.{members_at, participants}
 use Rattle.conflict_finding.specs.Reading.{TakesIn}
 use Rattle.conflict_finding.proofs.first_refusing.first_without_colour.Given as goal

@@ -1,7 +1,7 @@
 -- One more who takes it.
 use Rattle.std.proofs.Common.{arith}
 use Rattle.sysmem_counts.specs.declared.field.Field.TheVariants.{PixelFormat}
-use Rattle.sysmem_merge.specs.Demands.{offer_demand}
+use Rattle.offer_fits.specs.Demands.{offer_demand}
 use Rattle.conflict_finding.specs.Reading.{TakesIn}
 use Rattle.conflict_finding.proofs.FirstOnes.{all_more, all_have}
 use Rattle.conflict_finding.proofs.first_refusing.first_without_format.Goals as goal

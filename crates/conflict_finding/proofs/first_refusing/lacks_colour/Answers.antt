@@ -2,8 +2,8 @@
 use Rattle.std.proofs.Common.{◌≡◌, [], true, false, sym}
 use Rattle.std.proofs.lemmas.List.Elements.{All-nil, All-cons}
 use Rattle.list_lemmas.proofs.CallerLemmas.{Any-here}
-use Rattle.sysmem_merge.specs.Demands.{OfferDemand, offer_demand}
-use Rattle.sysmem_merge.specs.Offers.{has_colour}
+use Rattle.offer_fits.specs.Demands.{OfferDemand, offer_demand}
+use Rattle.offer_fits.specs.Offers.{has_colour}
 use Rattle.conflict_finding.proofs.FirstOnes.{is_false, is_true}
 use Rattle.conflict_finding.proofs.first_refusing.lacks_colour.Goals as goal
 

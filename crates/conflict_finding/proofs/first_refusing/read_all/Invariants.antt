@@ -1,6 +1,6 @@
 -- What those so far ask was read.
 use Rattle.std.proofs.Common.{take}
-use Rattle.sysmem_merge.specs.Demands.{offer_demands}
+use Rattle.offer_fits.specs.Demands.{offer_demands}
 use Rattle.sysmem_merge.specs.OfferRead.{IsOfferRead}
 use Rattle.verdict_claims.specs.Members.{members_at, participants}
 use Rattle.conflict_finding.proofs.first_refusing.read_all.Given as goal

@@ -1,9 +1,8 @@
 -- One more is read.
-use Rattle.std.proofs.Common.{sym, ◌∙◌, ap, subst, arith, length-append, take, take_all}
-use Rattle.sysmem_merge.specs.Demands.{offer_demands}
+use Rattle.std.proofs.Common.{sym, ◌∙◌, ap, subst, arith, length-append, take, take_all, length}
+use Rattle.offer_fits.specs.Demands.{offer_demands}
 use Rattle.sysmem_merge.specs.OfferRead.{IsOfferRead}
 use Rattle.verdict_claims.specs.Members.{members_at, participants}
-use Rattle.std.proofs.Common.{length}
 use Rattle.conflict_finding.specs.OfferAsked.{AreFrontReads}
 use Rattle.conflict_finding.proofs.FirstOnes.{read_more}
 use Rattle.conflict_finding.proofs.FrontReads.{push_read}

@@ -1,6 +1,6 @@
 -- What the first ask was read, and is kept of each front of them.
 use Rattle.std.proofs.Common.{◌≡◌, ◌≤◌, length, take}
-use Rattle.sysmem_merge.specs.Demands.{offer_demands}
+use Rattle.offer_fits.specs.Demands.{offer_demands}
 use Rattle.sysmem_merge.specs.OfferRead.{IsOfferRead}
 use Rattle.verdict_claims.specs.Members.{members_at, participants}
 use Rattle.conflict_finding.specs.OfferAsked.{AreFrontReads}

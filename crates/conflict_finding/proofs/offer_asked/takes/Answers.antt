@@ -1,6 +1,6 @@
 -- By the entry for the offer, or by having none.
 use Rattle.std.proofs.Common.{option_copied, sym, ◌∙◌, ap}
-use Rattle.sysmem_merge.specs.Demands.{offer_demand}
+use Rattle.offer_fits.specs.Demands.{offer_demand}
 use Rattle.conflict_finding.proofs.TakenOffers.{listed_by_entry, listed_by_none}
 use Rattle.conflict_finding.proofs.offer_asked.takes.Goals as goal
 

@@ -3,7 +3,7 @@ use Rattle.std.proofs.Common.{◌≡◌, ◌⊎◌, inr}
 use Rattle.std.specs.Prelude.{All, IsTrue}
 use Rattle.std.proofs.lemmas.List.Elements.{All-weaker}
 use Rattle.sysmem_counts.specs.declared.field.Field.TheVariants.{ColorSpaces, PixelFormat}
-use Rattle.sysmem_merge.specs.Demands.{offer_demand}
+use Rattle.offer_fits.specs.Demands.{offer_demand}
 use Rattle.verdict_claims.specs.Members.{members_at, participants}
 use Rattle.conflict_finding.specs.OfferAsked.{TakesOffer}
 use Rattle.conflict_finding.specs.Reading.{TakesIn}

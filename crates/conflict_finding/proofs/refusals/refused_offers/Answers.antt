@@ -3,7 +3,7 @@ use Rattle.std.proofs.Common.{◌≡◌, ◌≢◌, ◌<◌, length, Some, inl, 
 use Rattle.std.specs.List.{AllZip}
 use Rattle.std.proofs.lemmas.Option.{slice_get_within}
 use Rattle.sysmem_formats.specs.declared.offer.Offer.{Offer}
-use Rattle.sysmem_sanitise.specs.Platform.{offers_of}
+use Rattle.negotiation_inputs.specs.Platform.{offers_of}
 use Rattle.verdict_claims.specs.FirstConflict.{IsOfferLineGiven}
 use Rattle.conflict_finding.specs.Askers.{AreAskers}
 use Rattle.conflict_finding.specs.Refusals.{Ends, EndsAt, ShareOffer}

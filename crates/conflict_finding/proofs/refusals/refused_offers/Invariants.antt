@@ -1,6 +1,6 @@
 -- A line for each offer so far; as many as there are lines. The last refuses the offer before.
 use Rattle.std.proofs.Common.{List, ◌-◌, drop, length}
-use Rattle.sysmem_sanitise.specs.Platform.{offers_of}
+use Rattle.negotiation_inputs.specs.Platform.{offers_of}
 use Rattle.sysmem_tree.specs.Shape.{Member}
 use Rattle.conflict_finding.specs.AloneLines.{AreAlone}
 use Rattle.verdict_claims.specs.FirstConflict.{IsOfferLineGiven}

@@ -1,11 +1,11 @@
 //! Who is in the way of the domains that are empty.
 
 use explanation_text::Gathered;
+use negotiation_inputs::Platform;
 use script_story::{Domain, Story, asked_in};
 use settings_reasons::{failing, in_the_way};
 use std::alloc::{AllocError, Global};
 use sysmem_merge::Settings;
-use sysmem_sanitise::Platform;
 use sysmem_tree::NodeKind;
 use value_sources::Asked;
 

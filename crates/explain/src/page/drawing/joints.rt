@@ -3,9 +3,9 @@
 use crate::page::drawing::hindering::in_the_way_of;
 use crate::page::drawing::states::{standing_of, state_of};
 use explanation_text::{Drawing, Joint, Shape};
+use negotiation_inputs::Platform;
 use script_story::Story;
 use std::alloc::{AllocError, Global};
-use sysmem_sanitise::Platform;
 use sysmem_tree::NodeKind;
 
 /// A node of which the joint isn't there yet, with the index of the joint above it.

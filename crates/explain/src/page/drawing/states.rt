@@ -4,11 +4,11 @@
 use bitflags::Flags;
 use explanation_text::wording::{put_count, put_few};
 use explanation_text::{Standing, Words};
+use negotiation_inputs::Constraints;
 use script_story::{Deed, Story};
 use std::alloc::{AllocError, Global};
 use sysmem_counts::Usage;
 use sysmem_image::Entry;
-use sysmem_sanitise::Constraints;
 use sysmem_tree::NodeKind;
 
 /// How many formats are named.

@@ -2,9 +2,9 @@
 
 use crate::page::drawing::joints::add_joints;
 use explanation_text::{Drawing, Line, Standing, Words};
+use negotiation_inputs::Platform;
 use script_story::{Domain, Made, Story};
 use std::alloc::{AllocError, Global};
-use sysmem_sanitise::Platform;
 
 /// What a page shows of a story, but for what proves its decisions.
 pub(crate) fn drawing_of<'b>(

@@ -1,7 +1,7 @@
 -- One more demand, and at the end those of all.
 use Rattle.std.proofs.Common.{◌∷◌, [], take, subst, sym}
 use Rattle.std.proofs.lemmas.List.{take_all, map-append}
-use Rattle.sysmem_merge.specs.Demands.{offer_demand, offer_demands}
+use Rattle.offer_fits.specs.Demands.{offer_demand, offer_demands}
 use Rattle.sysmem_merge.specs.OfferRead.{IsOfferRead}
 use Rattle.flat_negotiation.proofs.Lists.{so-more}
 use Rattle.flat_negotiation.proofs.blaming.read_of.Goals as goal

@@ -1,6 +1,6 @@
 -- Those so far.
 use Rattle.std.proofs.Common.{take}
-use Rattle.sysmem_merge.specs.Demands.{offer_demands}
+use Rattle.offer_fits.specs.Demands.{offer_demands}
 use Rattle.sysmem_merge.specs.OfferRead.{IsOfferRead}
 use Rattle.flat_negotiation.proofs.blaming.read_of.Given as goal
 

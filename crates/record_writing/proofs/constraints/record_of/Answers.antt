@@ -2,8 +2,8 @@
 use Rattle.std.proofs.Common.{◌≡◌, ◌≤◌, false, length, subst}
 use Rattle.std.specs.Prelude.{All, AllPairs}
 use Rattle.sysmem_memory.specs.Heap.{same_heap}
-use Rattle.sysmem_sanitise.specs.Participant.{IsUsage, IsEntry, AreApart}
-use Rattle.record_reading.specs.Reading.Heaps.{IsHeapName}
+use Rattle.negotiation_inputs.specs.Participant.{IsUsage, IsEntry, AreApart}
+use Rattle.negotiation_inputs.specs.Heaps.{IsHeapName}
 use Rattle.record_writing.proofs.constraints.record_of.Goals as goal
 
 pub returns-clause-is : goal.returns-clause-is

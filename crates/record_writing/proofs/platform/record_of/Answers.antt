@@ -3,7 +3,7 @@ use Rattle.std.proofs.Common.{◌≡◌, ◌≢◌, ◌≤◌, false, length, su
 use Rattle.std.specs.Prelude.{All, AllPairs}
 use Rattle.sysmem_formats.specs.Layout.{IsTiledMisfit}
 use Rattle.sysmem_memory.specs.Heap.{same_heap}
-use Rattle.sysmem_sanitise.specs.Platform.{IsHeap}
+use Rattle.negotiation_inputs.specs.Platform.{IsHeap}
 use Rattle.record_writing.proofs.platform.record_of.Goals as goal
 
 pub returns-clause-is : goal.returns-clause-is

@@ -1,7 +1,7 @@
 use Rattle.std.proofs.Common.{rules, ◌≡◌, refl, ◌∙◌}
 use Rattle.serde_json.specs.View.{view}
 use Rattle.sysmem_alloc.specs.State.{base_of}
-use Rattle.sysmem_proof.specs.Claim.{IsTrueClaim}
+use Rattle.verdict_claims.specs.Claim.{IsTrueClaim}
 use Rattle.sysmem_tree.specs.Path.{path_of}
 use Rattle.script_check.proofs.Checks.{claim_fails, said_as}
 use Rattle.script_replay.proofs.CallerLemmas.{claim_as}

@@ -2,7 +2,7 @@
 use Rattle.std.proofs.Common.{subst, length, ◌≤◌, ◌+◌, ◌*◌, ◌^◌, ◌++◌, arith}
 use Rattle.sysmem_counts.specs.Bounds.{IsTallyOf}
 use Rattle.sysmem_counts.specs.Tally.{sum_of}
-use Rattle.sysmem_merge.specs.Demands.{counts_asked}
+use Rattle.offer_fits.specs.Demands.{counts_asked}
 use Rattle.search_questions.proofs.Taking.{asked_more, asked_whole, counted_more, long_more}
 use Rattle.search_questions.proofs.on_base.add_counts.Goals as goal
 

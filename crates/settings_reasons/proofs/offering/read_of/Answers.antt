@@ -1,7 +1,7 @@
 -- One more demand, and at the end those of all.
 use Rattle.std.proofs.Common.{subst}
 use Rattle.std.proofs.lemmas.List.{take_all}
-use Rattle.sysmem_merge.specs.Demands.{offer_demand, offer_demands}
+use Rattle.offer_fits.specs.Demands.{offer_demand, offer_demands}
 use Rattle.sysmem_merge.specs.OfferRead.{IsOfferRead}
 use Rattle.value_sources.specs.Sources.{all_asked}
 use Rattle.settings_reasons.proofs.People.{asked_more}

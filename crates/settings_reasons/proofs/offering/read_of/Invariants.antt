@@ -1,6 +1,6 @@
 -- What those so far ask.
 use Rattle.std.proofs.Common.{take}
-use Rattle.sysmem_merge.specs.Demands.{offer_demands}
+use Rattle.offer_fits.specs.Demands.{offer_demands}
 use Rattle.sysmem_merge.specs.OfferRead.{IsOfferRead}
 use Rattle.value_sources.specs.Sources.{all_asked}
 use Rattle.settings_reasons.proofs.offering.read_of.Given as goal

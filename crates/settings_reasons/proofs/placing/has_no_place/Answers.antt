@@ -2,7 +2,7 @@
 use Rattle.std.proofs.Common.{subst, arith}
 use Rattle.std.proofs.lemmas.List.{take_all}
 use Rattle.sysmem_memory.specs.Place.{AreDomainsLeft, HasNoPlace}
-use Rattle.sysmem_merge.specs.Demands.{place_demands}
+use Rattle.offer_fits.specs.Demands.{place_demands}
 use Rattle.value_sources.specs.Sources.{all_asked}
 use Rattle.settings_reasons.proofs.People.{demands_more, none_means}
 use Rattle.settings_reasons.proofs.placing.has_no_place.Goals as goal

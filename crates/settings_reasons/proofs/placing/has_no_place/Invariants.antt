@@ -1,7 +1,7 @@
 -- What those so far leave.
 use Rattle.std.proofs.Common.{take}
 use Rattle.sysmem_memory.specs.Place.{AreDomainsLeft}
-use Rattle.sysmem_merge.specs.Demands.{place_demands}
+use Rattle.offer_fits.specs.Demands.{place_demands}
 use Rattle.value_sources.specs.Sources.{all_asked}
 use Rattle.settings_reasons.proofs.placing.has_no_place.Given as goal
 

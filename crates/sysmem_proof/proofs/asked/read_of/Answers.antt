@@ -1,6 +1,6 @@
 -- One more is read.
 use Rattle.std.proofs.Common.{length, take, sym, ap, ◌∙◌, subst, arith}
-use Rattle.sysmem_merge.specs.Demands.{offer_demands}
+use Rattle.offer_fits.specs.Demands.{offer_demands}
 use Rattle.sysmem_merge.specs.OfferRead.{IsOfferRead}
 use Rattle.verdict_claims.specs.Roll.{asked_by, listed}
 use Rattle.verdict_claims.proofs.OnRoll.{offers_more, asked_whole}

@@ -1,6 +1,6 @@
 -- What was read so far.
 use Rattle.std.proofs.Common.{length, take}
-use Rattle.sysmem_merge.specs.Demands.{offer_demands}
+use Rattle.offer_fits.specs.Demands.{offer_demands}
 use Rattle.sysmem_merge.specs.OfferRead.{IsOfferRead}
 use Rattle.verdict_claims.specs.Roll.{asked_by, listed}
 use Rattle.sysmem_proof.proofs.asked.read_of.Given as goal

@@ -2,7 +2,7 @@ use Rattle.std.proofs.Common.{refl, sym, ◌∙◌, ◌≡◌, [], ◌∷◌, ru
 use Rattle.std.specs.Prelude.{Some, slice_get}
 use Rattle.std.proofs.lemmas.Option.{slice_get_read}
 use Rattle.sysmem_alloc.specs.Entry.{entry_in, deed_with}
-use Rattle.sysmem_proof.specs.Asked.{asks_at}
+use Rattle.verdict_claims.specs.Asked.{asks_at}
 use Rattle.sysmem_tree.specs.ActionKind.{deed_of}
 use Rattle.sysmem_room.specs.Agreeing.{own_deeds}
 use Rattle.sysmem_room.proofs.Reading.{own_acted, reads, unread_other}

@@ -3,7 +3,7 @@ use Rattle.std.proofs.Common.{refl, ◌≡◌, subst, rules, tests}
 use Rattle.std.specs.Prelude.{Some, slice_get, ◌-◌}
 use Rattle.std.proofs.lemmas.Option.{slice_get_read}
 use Rattle.sysmem_alloc.specs.Entry.{deed_with}
-use Rattle.sysmem_proof.specs.Asked.{asks_at}
+use Rattle.verdict_claims.specs.Asked.{asks_at}
 use Rattle.sysmem_tree.specs.ActionKind.{deed_of}
 use Rattle.sysmem_tree.specs.Domain.{TreeFacts}
 use Rattle.sysmem_room.proofs.Placing.{stepped}

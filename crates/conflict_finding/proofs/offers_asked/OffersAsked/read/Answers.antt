@@ -3,7 +3,7 @@ use Rattle.std.proofs.Common.{refl, sym, ◌∙◌, subst}
 use Rattle.std.specs.Prelude.{All}
 use Rattle.std.proofs.lemmas.List.Elements.{All-set}
 use Rattle.std.proofs.lemmas.Option.{slice_get_read}
-use Rattle.sysmem_merge.specs.Demands.{offer_demands}
+use Rattle.offer_fits.specs.Demands.{offer_demands}
 use Rattle.sysmem_merge.specs.OfferRead.{IsOfferRead}
 use Rattle.sysmem_tree.specs.Nodes.{HasNode}
 use Rattle.verdict_claims.specs.Members.{members_at, participants}

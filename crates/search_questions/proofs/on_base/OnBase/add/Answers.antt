@@ -1,7 +1,7 @@
 -- One participant more takes the base, or doesn't.
 use Rattle.std.proofs.Common.{[], ◌∷◌, ◌++◌, subst, arith}
 use Rattle.sysmem_counts.specs.Bounds.{IsTallyOf}
-use Rattle.sysmem_merge.specs.Demands.{counts_asked}
+use Rattle.offer_fits.specs.Demands.{counts_asked}
 use Rattle.sysmem_merge.specs.Settings.{CoversOn}
 use Rattle.search_questions.proofs.Accepting.{one_accepts, takes_more}
 use Rattle.search_questions.proofs.on_base.OnBase.add.Goals as goal

@@ -3,7 +3,7 @@ use Rattle.std.proofs.Common.{[], refl, sym, subst, arith}
 use Rattle.std.proofs.lemmas.List.{append-nil}
 use Rattle.std.proofs.lemmas.List.Elements.{All-nil}
 use Rattle.sysmem_counts.specs.Bounds.{IsTallyOf}
-use Rattle.sysmem_merge.specs.Demands.{counts_asked}
+use Rattle.offer_fits.specs.Demands.{counts_asked}
 use Rattle.sysmem_merge.specs.Settings.{CoversOn}
 use Rattle.verdict_claims.specs.Asked.{asked_in}
 use Rattle.search_questions.proofs.on_base.OnBase.behind.Goals as goal

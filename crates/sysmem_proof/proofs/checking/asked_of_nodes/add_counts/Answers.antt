@@ -1,7 +1,7 @@
 -- One participant more is counted.
 use Rattle.std.proofs.Common.{subst, ◌++◌, arith}
 use Rattle.sysmem_counts.specs.Bounds.{IsTallyOf}
-use Rattle.sysmem_merge.specs.Demands.{counts_asked}
+use Rattle.offer_fits.specs.Demands.{counts_asked}
 use Rattle.sysmem_proof.proofs.Asking.{asked_more, asked_whole, counted_more}
 use Rattle.sysmem_proof.proofs.checking.asked_of_nodes.add_counts.Goals as goal
 

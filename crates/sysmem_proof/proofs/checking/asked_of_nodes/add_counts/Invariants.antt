@@ -3,7 +3,7 @@ use Rattle.std.proofs.Common.{◌≤◌, ◌+◌, ◌*◌, ◌^◌, ◌++◌, Li
 use Rattle.sysmem_counts.specs.Bounds.{IsTallyOf}
 use Rattle.sysmem_counts.specs.Tally.{sum_of}
 use Rattle.sysmem_counts.specs.declared.constraints.CountConstraints.{CountConstraints}
-use Rattle.sysmem_merge.specs.Demands.{counts_asked}
+use Rattle.offer_fits.specs.Demands.{counts_asked}
 use Rattle.verdict_claims.specs.Asked.{asked_in}
 use Rattle.sysmem_proof.proofs.checking.asked_of_nodes.add_counts.Given as goal
 

@@ -1,7 +1,7 @@
 -- One participant more is read.
 use Rattle.std.proofs.Common.{sym, ◌∙◌, ap, subst, arith}
 use Rattle.std.proofs.lemmas.List.{map-append}
-use Rattle.sysmem_merge.specs.Demands.{offer_demand, offer_demands}
+use Rattle.offer_fits.specs.Demands.{offer_demand, offer_demands}
 use Rattle.sysmem_merge.specs.OfferRead.{IsOfferRead}
 use Rattle.sysmem_proof.proofs.Asking.{asked_more, asked_whole}
 use Rattle.sysmem_proof.proofs.checking.asked_of_nodes.read_nodes.Goals as goal

@@ -1,6 +1,6 @@
 -- What was read so far.
 use Rattle.std.proofs.Common.{take}
-use Rattle.sysmem_merge.specs.Demands.{offer_demands}
+use Rattle.offer_fits.specs.Demands.{offer_demands}
 use Rattle.sysmem_merge.specs.OfferRead.{IsOfferRead}
 use Rattle.verdict_claims.specs.Asked.{asked_in}
 use Rattle.sysmem_proof.proofs.checking.asked_of_nodes.read_nodes.Given as goal

@@ -1,6 +1,6 @@
 -- The lines for offers, and then those for places.
 use Rattle.std.proofs.Common.{true, inl, ◌∙◌, subst}
-use Rattle.sysmem_sanitise.specs.Platform.{offers_of}
+use Rattle.negotiation_inputs.specs.Platform.{offers_of}
 use Rattle.verdict_claims.specs.Conflict.{RefusesOffer}
 use Rattle.verdict_claims.specs.Fault.{LinesFault}
 use Rattle.verdict_claims.specs.Roll.{listed}

@@ -1,7 +1,7 @@
 -- The terms are those of the base.
 use Rattle.std.proofs.Common.{Option, sym, ap, subst}
 use Rattle.std.specs.Prelude.{MatchResult, option_map}
-use Rattle.sysmem_sanitise.specs.Platform.{PlatformFacts}
+use Rattle.negotiation_inputs.specs.Platform.{PlatformFacts}
 use Rattle.verdict_claims.specs.Base.{Terms, terms_of}
 use Rattle.verdict_claims.specs.Conflict.{IsConflictFor}
 use Rattle.verdict_claims.specs.Fault.{ConflictFaults}

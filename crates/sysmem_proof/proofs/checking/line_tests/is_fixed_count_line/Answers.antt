@@ -1,7 +1,7 @@
 -- What is tested of those named.
 use Rattle.std.proofs.Common.{refl}
 use Rattle.sysmem_counts.specs.Counts.{IsFixedCountLine}
-use Rattle.sysmem_merge.specs.Demands.{counts_asked}
+use Rattle.offer_fits.specs.Demands.{counts_asked}
 use Rattle.verdict_claims.specs.Roll.{listed}
 use Rattle.verdict_claims.proofs.OnRoll.{true_of}
 use Rattle.sysmem_proof.proofs.checking.line_tests.is_fixed_count_line.Goals as goal

@@ -1,6 +1,6 @@
 -- What is tested of those named.
-use Rattle.sysmem_merge.specs.Demands.{offer_demands}
-use Rattle.sysmem_merge.specs.Reasons.{IsOfferLine}
+use Rattle.offer_fits.specs.Demands.{offer_demands}
+use Rattle.offer_fits.specs.OfferLines.{IsOfferLine}
 use Rattle.verdict_claims.specs.Roll.{listed}
 use Rattle.verdict_claims.proofs.OnRoll.{true_of}
 use Rattle.sysmem_proof.proofs.checking.line_tests.is_offer_line.Goals as goal

@@ -1,9 +1,8 @@
 -- What is tested of those named.
 use Rattle.sysmem_memory.specs.PlaceTable.{IsPlaceLine}
-use Rattle.sysmem_merge.specs.Demands.{place_demands}
-use Rattle.verdict_claims.proofs.OnRoll.{place_told}
+use Rattle.offer_fits.specs.Demands.{place_demands}
+use Rattle.verdict_claims.proofs.OnRoll.{place_told, true_of}
 use Rattle.verdict_claims.specs.Roll.{listed}
-use Rattle.verdict_claims.proofs.OnRoll.{true_of}
 use Rattle.sysmem_proof.proofs.checking.line_tests.is_place_line.Goals as goal
 
 pub returns : goal.returns

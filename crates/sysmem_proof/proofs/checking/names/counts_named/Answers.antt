@@ -3,8 +3,8 @@ use Rattle.std.proofs.Common.{◌≡◌, ℕ, Bor, Some, ◌∙◌, true, false,
 use Rattle.std.specs.Prelude.{◌↔◌, Any, IsTrue, is_some, option_map}
 use Rattle.std.proofs.lemmas.List.{length-set, length-take-le, take_all}
 use Rattle.sysmem_counts.specs.Bounds.{IsTallyOf}
-use Rattle.sysmem_merge.specs.Demands.{counts_asked}
-use Rattle.sysmem_sanitise.specs.Participant.{Participant}
+use Rattle.offer_fits.specs.Demands.{counts_asked}
+use Rattle.negotiation_inputs.specs.Participant.{Participant}
 use Rattle.sysmem_tree.specs.Path.{node_at}
 use Rattle.verdict_claims.proofs.OnRoll.{asked_whole, counts_more, named_none, named_more, nobody_named, named_twice}
 use Rattle.verdict_claims.proofs.Rolls.{some_mapped}

@@ -3,7 +3,7 @@ use Rattle.std.proofs.Common.{◌≡◌, ◌≤◌, ◌*◌, ◌^◌, ℕ, Some,
 use Rattle.std.specs.Prelude.{◌↔◌, Any, IsTrue}
 use Rattle.sysmem_counts.specs.Bounds.{IsTallyOf}
 use Rattle.sysmem_counts.specs.Tally.{sum_of}
-use Rattle.sysmem_merge.specs.Demands.{counts_asked}
+use Rattle.offer_fits.specs.Demands.{counts_asked}
 use Rattle.sysmem_tree.specs.Path.{node_at}
 use Rattle.verdict_claims.specs.Fault.{AreNamed}
 use Rattle.verdict_claims.specs.Roll.{asked_by, listed}

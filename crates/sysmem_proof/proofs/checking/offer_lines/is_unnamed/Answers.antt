@@ -1,7 +1,7 @@
 -- One more is silent, and at the end all are.
 use Rattle.std.proofs.Common.{◌≡◌, ◌<◌, Bool, true, length, refl, sym, ◌∙◌, ap, subst, arith}
 use Rattle.std.specs.List.{filter_map, list_any}
-use Rattle.sysmem_sanitise.specs.Participant.{Participant}
+use Rattle.negotiation_inputs.specs.Participant.{Participant}
 use Rattle.verdict_claims.specs.Members.{participants}
 use Rattle.verdict_claims.specs.Roll.{asked_on, listed}
 use Rattle.verdict_claims.proofs.Marked.{below, any_number, unnamed_too}

@@ -1,6 +1,6 @@
 -- Nobody so far names it.
 use Rattle.std.specs.List.{filter_map}
-use Rattle.sysmem_merge.specs.Demands.{offer_demands}
+use Rattle.offer_fits.specs.Demands.{offer_demands}
 use Rattle.sysmem_merge.specs.Reasons.{IsUnnamedLine}
 use Rattle.verdict_claims.specs.Roll.{asked_on}
 use Rattle.verdict_claims.proofs.Marked.{below}

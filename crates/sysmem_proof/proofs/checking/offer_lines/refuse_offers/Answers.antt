@@ -1,6 +1,6 @@
 -- One offer and its line more.
 use Rattle.std.proofs.Common.{◌≡◌, ◌+◌, ◌-◌, true, ◌∙◌, ap, subst, arith, get_or, slice_get}
-use Rattle.sysmem_sanitise.specs.Platform.{offers_of}
+use Rattle.negotiation_inputs.specs.Platform.{offers_of}
 use Rattle.verdict_claims.specs.Conflict.{RefusesOffer}
 use Rattle.verdict_claims.specs.Fault.{AreNamed}
 use Rattle.verdict_claims.specs.Roll.{listed}

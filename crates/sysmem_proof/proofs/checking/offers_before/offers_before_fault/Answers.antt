@@ -3,7 +3,7 @@ use Rattle.std.proofs.Common.{◌≡◌, true, ◌+◌, Some, None, length, slic
 use Rattle.std.specs.List.{AllZip}
 use Rattle.verdict_claims.specs.Conflict.{RefusesOffer}
 use Rattle.verdict_claims.specs.Roll.{listed}
-use Rattle.sysmem_sanitise.specs.Platform.{offers_of}
+use Rattle.negotiation_inputs.specs.Platform.{offers_of}
 use Rattle.sysmem_proof.proofs.Left.{of_err}
 use Rattle.verdict_claims.proofs.Equal.{offer_cases}
 use Rattle.sysmem_proof.proofs.OffersFirst.{held, over, missing, fails_at, inside, none_more, offer_read}

@@ -3,7 +3,7 @@ use Rattle.std.proofs.Common.{◌≢◌, All, true, take}
 use Rattle.std.specs.List.{AllZip}
 use Rattle.verdict_claims.specs.Conflict.{RefusesOffer}
 use Rattle.verdict_claims.specs.Roll.{listed}
-use Rattle.sysmem_sanitise.specs.Platform.{offers_of}
+use Rattle.negotiation_inputs.specs.Platform.{offers_of}
 use Rattle.sysmem_proof.proofs.checking.offers_before.offers_before_fault.Given as goal
 
 abbrev pub invariant-loop-index : goal.invariant-loop-index

@@ -1,7 +1,7 @@
 -- What is computed is the least.
 use Rattle.std.proofs.Common.{refl}
 use Rattle.std.proofs.lemmas.Bool.Decides.{Decides-at}
-use Rattle.sysmem_merge.specs.Demands.{counts_asked, offer_demands}
+use Rattle.offer_fits.specs.Demands.{counts_asked, offer_demands}
 use Rattle.verdict_claims.specs.Asked.{asked_in}
 use Rattle.verdict_claims.proofs.Equal.{same_settings}
 use Rattle.sysmem_proof.proofs.Meeting.{has_fit, has_count}

@@ -1,7 +1,7 @@
 -- A node that is marked and asks something, and what it asks.
 use Rattle.std.proofs.Common.{Bor, sym, ◌∙◌, ap}
 use Rattle.std.specs.Prelude.{option_map}
-use Rattle.sysmem_sanitise.specs.Participant.{Participant}
+use Rattle.negotiation_inputs.specs.Participant.{Participant}
 use Rattle.verdict_claims.specs.Naming.{asked_at}
 use Rattle.verdict_claims.specs.Roll.{RollFacts, listed}
 use Rattle.verdict_claims.proofs.Rolls.{told_nowhere, told_marked}

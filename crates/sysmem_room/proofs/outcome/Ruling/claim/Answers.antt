@@ -1,5 +1,5 @@
 use Rattle.std.proofs.Common.{◌∙◌, ap, subst, sym}
-use Rattle.sysmem_proof.specs.Claim.{IsTrueClaim}
+use Rattle.verdict_claims.specs.Claim.{IsTrueClaim}
 use Rattle.sysmem_room.specs.Ruling.{RulingFacts, IsRuling}
 use Rattle.sysmem_room.proofs.outcome.Ruling.claim.Goals as goal
 

@@ -2,9 +2,9 @@
 use Rattle.std.proofs.Common.{◌≡◌, ℕ, Option, subst, sym, ◌∙◌}
 use Rattle.sysmem_alloc.specs.Frozen.{FrozenFacts}
 use Rattle.verdict_claims.specs.declared.certificate.Claim.{Claim as AClaim}
-use Rattle.sysmem_proof.specs.Base.{BaseFacts}
-use Rattle.sysmem_proof.specs.Claim.{IsTrueClaim}
-use Rattle.sysmem_sanitise.specs.Platform.{PlatformFacts}
+use Rattle.verdict_claims.specs.Base.{BaseFacts}
+use Rattle.verdict_claims.specs.Claim.{IsTrueClaim}
+use Rattle.negotiation_inputs.specs.Platform.{PlatformFacts}
 use Rattle.sysmem_tree.specs.Domain.{TreeFacts}
 use Rattle.sysmem_room.proofs.outcome.Ruling.is_checked.Goals as goal
 

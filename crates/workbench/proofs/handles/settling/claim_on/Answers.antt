@@ -1,7 +1,7 @@
 -- What is found and proved on a book is right for it.
 use Rattle.std.proofs.Common.{◌≡◌, ◌∙◌, ℕ, Option, ap, inr, subst, sym}
 use Rattle.sysmem_alloc.specs.Claims.{IsRightClaim}
-use Rattle.sysmem_sanitise.specs.Platform.{PlatformFacts}
+use Rattle.negotiation_inputs.specs.Platform.{PlatformFacts}
 use Rattle.sysmem_tree.specs.Domain.{HasDomain, TreeFacts, is_ready}
 use Rattle.verdict_claims.specs.Base.{BaseFacts}
 use Rattle.verdict_claims.specs.Claim.{IsProofIn}
