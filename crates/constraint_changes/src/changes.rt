@@ -13,7 +13,7 @@ use crate::trials::{
 use constraint_edits::{Edit, changes, edited, is_absurd};
 use domain_reasons::{choices_in, room_needed};
 use explanation_text::{Items, Text, Words};
-use script_story::{Milestone, Effort, Story, asked_in};
+use script_story::{Effort, Milestone, Story, asked_in};
 use std::alloc::{AllocError, Global};
 use std::slice::from_ref;
 use value_sources::Asked;

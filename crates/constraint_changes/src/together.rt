@@ -455,7 +455,10 @@ impl Joint<'_, '_> {
         let Some(one) = self.group.people.get(person) else {
             return Ok(());
         };
-        let number = self.group.story.milestone(one.node, Milestone::SetConstraints);
+        let number = self
+            .group
+            .story
+            .milestone(one.node, Milestone::SetConstraints);
         let (Some(number), Some(value)) = (number, one.stated) else {
             return Ok(());
         };

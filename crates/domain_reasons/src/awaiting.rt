@@ -3,7 +3,7 @@
 use explanation_text::wording::put_count;
 use explanation_text::{Gathered, Items, Text, Words};
 use script_reading::Act;
-use script_story::{Milestone, Domain, Story, put_domain};
+use script_story::{Domain, Milestone, Story, put_domain};
 use std::alloc::{AllocError, Global};
 use sysmem_tree::NodeKind;
 

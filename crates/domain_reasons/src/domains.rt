@@ -7,7 +7,7 @@ use crate::failing::{tell_failed, tell_none, tell_too_many};
 use explanation_text::wording::put_few;
 use explanation_text::{Gathered, Items, Kind, Text, Words};
 use negotiation_inputs::Platform;
-use script_story::{Milestone, Domain, Story, asked_in, put_domain};
+use script_story::{Domain, Milestone, Story, asked_in, put_domain};
 use std::alloc::{AllocError, Global};
 use value_sources::Asked;
 
@@ -114,7 +114,9 @@ fn note_usage(items: &mut Items, story: &Story<'_>, one: Asked<'_>) -> Result<()
 
 /// The call by which a participant set its constraints, by number.
 fn number_of_setting(story: &Story<'_>, one: Asked<'_>) -> usize {
-    story.milestone(one.node, Milestone::SetConstraints).unwrap_or(0)
+    story
+        .milestone(one.node, Milestone::SetConstraints)
+        .unwrap_or(0)
 }
 
 /// The first, of all domains, with whom the constraints of a participant may be exchanged.
@@ -149,7 +151,10 @@ fn note_of(
         words
             .put(" They may be exchanged with those of ")
             .name(other.called());
-        words.put(" (call ").call(number_of_setting(story, other)).put(")");
+        words
+            .put(" (call ")
+            .call(number_of_setting(story, other))
+            .put(")");
     }
     words
 }

@@ -59,7 +59,9 @@ fn tell_of<'a, 'b>(
         story,
         index,
         one,
-        number: story.milestone(one.node, Milestone::SetConstraints).unwrap_or(0),
+        number: story
+            .milestone(one.node, Milestone::SetConstraints)
+            .unwrap_or(0),
     };
     teller.tell(items)
 }

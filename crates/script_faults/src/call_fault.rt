@@ -1,7 +1,9 @@
 //! The faults of a script's calls, in words.
 
 use crate::keys::{CALLS, KNOWN};
-use crate::record::{CONSTRAINTS, Document, RecordPart, first_unknown, is_one_of, key_of, wrong_kind};
+use crate::record::{
+    CONSTRAINTS, Document, RecordPart, first_unknown, is_one_of, key_of, wrong_kind,
+};
 use explanation_text::wording::{put_few, put_joined};
 use explanation_text::{Gathered, Items, Step, Words, nearest};
 use script_reading::ScriptFault;

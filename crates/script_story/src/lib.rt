@@ -22,5 +22,5 @@ pub use effort::Effort;
 pub use moves::{Move, moves_in};
 pub use refused::{left_out, put_domain, refused_calls, refused_words, tell_refused};
 pub use scenario::Scenario;
-pub use story::{Milestone, Milestones, Domain, Made, Node, Story, first_word};
+pub use story::{Domain, Made, Milestone, Milestones, Node, Story, first_word};
 pub use telling::story_of;

@@ -1,6 +1,6 @@
 //! Why calls were refused.
 
-use crate::story::{Milestone, Made, Story};
+use crate::story::{Made, Milestone, Story};
 use explanation_text::wording::{MOST_NAMES, mark_after, put_few, put_joined};
 use explanation_text::{Gathered, Items, Name, Step, Text, Words};
 use record_reading::{Code, Fault};
@@ -535,7 +535,9 @@ fn put_unset(text: &mut Words, story: &Story<'_>, call: &Made<'_>, number: usize
 fn unset<'a>(alloc: Global, story: &Story<'a>, number: usize) -> Result<Vec<Name<'a>>, AllocError> {
     let mut names = Vec::new(alloc);
     for node in 0..story.nodes.len() {
-        let is_bound = story.milestone_before(node, Milestone::Bind, number).is_some();
+        let is_bound = story
+            .milestone_before(node, Milestone::Bind, number)
+            .is_some();
         if is_bound && story.is_awaited(node, usize::MAX) {
             names.push(story.called(node))?;
         }
@@ -561,7 +563,9 @@ fn put_wrong_group(
     makes: bool,
 ) {
     if makes {
-        let last = story.milestone_before(node, Milestone::Complete, number).unwrap_or(0);
+        let last = story
+            .milestone_before(node, Milestone::Complete, number)
+            .unwrap_or(0);
         call.put_on(text);
         text.put(" got its last child before call ");
         text.call(last).put(", all_children_present");
@@ -597,7 +601,9 @@ fn put_wrong_collection(
 
 /// A call that needs a token, on a collection.
 fn put_bound(text: &mut Words, story: &Story<'_>, call: &Made<'_>, node: usize, number: usize) {
-    let bound = story.milestone_before(node, Milestone::Bind, number).unwrap_or(0);
+    let bound = story
+        .milestone_before(node, Milestone::Bind, number)
+        .unwrap_or(0);
     call.put_on(text);
     text.put(" is no token any more: call ");
     text.call(bound).put(" bound it");

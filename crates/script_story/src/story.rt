@@ -282,7 +282,12 @@ impl<'a> Story<'a> {
     }
 
     /// The same, before the call of a number.
-    pub fn milestone_before(&self, node: usize, milestone: Milestone, number: usize) -> Option<usize> {
+    pub fn milestone_before(
+        &self,
+        node: usize,
+        milestone: Milestone,
+        number: usize,
+    ) -> Option<usize> {
         match self.milestone(node, milestone) {
             Some(made) if made < number => Some(made),
             _ => None,
@@ -297,7 +302,10 @@ impl<'a> Story<'a> {
         if known.state.kind == NodeKind::Group {
             return NodeKind::Group;
         }
-        if self.milestone_before(node, Milestone::Bind, number).is_some() {
+        if self
+            .milestone_before(node, Milestone::Bind, number)
+            .is_some()
+        {
             NodeKind::Collection
         } else {
             NodeKind::Token
@@ -326,7 +334,9 @@ impl<'a> Story<'a> {
         if matches!(known.made_by, Some(made) if made >= number) {
             return false;
         }
-        let is_open = self.milestone_before(node, Milestone::End, number).is_none();
+        let is_open = self
+            .milestone_before(node, Milestone::End, number)
+            .is_none();
         match self.kind_before(node, number) {
             NodeKind::Token => is_open,
             NodeKind::Collection => {
@@ -335,7 +345,9 @@ impl<'a> Story<'a> {
                     .is_some();
                 is_open && !is_set
             }
-            NodeKind::Group => self.milestone_before(node, Milestone::Complete, number).is_none(),
+            NodeKind::Group => self
+                .milestone_before(node, Milestone::Complete, number)
+                .is_none(),
         }
     }
 

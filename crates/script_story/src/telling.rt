@@ -7,7 +7,7 @@ ghost use Rattle.script_story.specs.Told.{AreTold, IsOn};
 ghost use Rattle.sysmem_tree.specs.Domain.{HasDomain};
 ghost use Rattle.sysmem_tree.specs.Nodes.{HasNode};
 
-use crate::story::{Milestones, Domain, Made, Node, Story, first_word};
+use crate::story::{Domain, Made, Milestones, Node, Story, first_word};
 use crate::words::{is_domain_line, reply_in, said_on};
 use certificate_text::push_path;
 use explanation_text::Gathered;

@@ -55,7 +55,10 @@ impl Group<'_, '_> {
     /// A participant, with the call that states its constraints and its line: `camera (call 5, line
     /// 14)`.
     pub fn who(&self, alloc: Global, one: &Asked<'_>) -> Result<Text, AllocError> {
-        let number = self.story.milestone(one.node, Milestone::SetConstraints).unwrap_or(0);
+        let number = self
+            .story
+            .milestone(one.node, Milestone::SetConstraints)
+            .unwrap_or(0);
         let path = [
             Step::Key("calls"),
             Step::Item(number.saturating_sub(1)),
@@ -80,7 +83,10 @@ impl Group<'_, '_> {
         edit: Edit,
         changed: &Value,
     ) -> Result<Text, AllocError> {
-        let number = self.story.milestone(one.node, Milestone::SetConstraints).unwrap_or(0);
+        let number = self
+            .story
+            .milestone(one.node, Milestone::SetConstraints)
+            .unwrap_or(0);
         let place = number.saturating_sub(1);
         let lines = match (edit, one.stated) {
             (Edit::EntryFirst(index), _) => entry_lines(alloc, self.document, place, index)?,

@@ -185,9 +185,14 @@ fn tell_side(items: &mut Items, faulty: Faulty<'_, '_>, value: &Value) -> Result
         None => {
             let note = missing_note(items.alloc(), side);
             let help = help_allowed(items.alloc(), "allowed", at, faulty.is_platform);
-            faulty
-                .document
-                .tell(items, faulty.depth, faulty.path, RecordPart::Begin, note, help)
+            faulty.document.tell(
+                items,
+                faulty.depth,
+                faulty.path,
+                RecordPart::Begin,
+                note,
+                help,
+            )
         }
     }
     Ok(())
@@ -230,9 +235,14 @@ fn tell_kind(items: &mut Items, faulty: Faulty<'_, '_>, value: &Value) -> Result
     let written = faulty.document.written(items.alloc(), faulty.path)?;
     let note = wrong_value(items.alloc(), at, value, written, is_item);
     let help = help_allowed(items.alloc(), "allowed", at, faulty.is_platform);
-    faulty
-        .document
-        .tell(items, faulty.depth, faulty.path, RecordPart::Value, note, help);
+    faulty.document.tell(
+        items,
+        faulty.depth,
+        faulty.path,
+        RecordPart::Value,
+        note,
+        help,
+    );
     Ok(())
 }
 
@@ -261,7 +271,14 @@ fn tell_list(items: &mut Items, faulty: Faulty<'_, '_>, value: &Value) -> Result
     let is_empty = matches!(value.as_array(), Some(list) if list.is_empty());
     let helps = helps_of_list(items.alloc(), faulty, is_empty)?;
     let note = note_of_list(items.alloc(), faulty.fault.code, value, is_empty).done()?;
-    faulty.document.point(items, faulty.depth, faulty.path, RecordPart::Value, &note, &helps);
+    faulty.document.point(
+        items,
+        faulty.depth,
+        faulty.path,
+        RecordPart::Value,
+        &note,
+        &helps,
+    );
     Ok(())
 }
 
