@@ -38,14 +38,14 @@ accepted_within false (Err refusal) after is = absurd (cc)
 
 -- what makes no node spends none
 pub unspent_by : (limits : Limits) (nodes : List NodeFacts) (path : List ℕ) (kind : ActionKind) → is_some (makes kind) ≡ false → is_spent limits nodes path kind ≡ false
-unspent_by limits nodes [] kind none = refl
-unspent_by limits nodes (top ∷ rest) kind none = ap (λ b. b && is_full limits nodes top) none
+unspent_by limits nodes [] act none = refl
+unspent_by limits nodes (top ∷ rest) act none = ap (λ b. b && is_full limits nodes top) none
 
 -- no limits are never spent
 pub unlimited : (limits : Limits) (nodes : List NodeFacts) (path : List ℕ) (kind : ActionKind) → limits.offspring ≡ None → is_spent limits nodes path kind ≡ false
-unlimited limits nodes [] kind none = refl
-unlimited limits nodes (top ∷ rest) kind none =
-    ap (λ o. is_some (makes kind) && unwrap_or (option_map (λ most. nat_le most (offspring nodes top)) o) false) none ∙ never (is_some (makes kind)) where
+unlimited limits nodes [] act none = refl
+unlimited limits nodes (top ∷ rest) act none =
+    ap (λ o. is_some (makes act) && unwrap_or (option_map (λ most. nat_le most (offspring nodes top)) o) false) none ∙ never (is_some (makes act)) where
       never : (b : Bool) → (b && false) ≡ false
       never true = refl
       never false = refl

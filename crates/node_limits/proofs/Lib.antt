@@ -1,7 +1,8 @@
-pub mod Answering
-pub mod Below
-pub mod Bounding
-pub mod Fewer
-pub mod Growing
+mod Answering
+mod Below
+mod Bounding
+mod Fewer
+mod Growing
 mod TreeRefusing
-pub mod Within
+mod Within
+pub mod CallerLemmas

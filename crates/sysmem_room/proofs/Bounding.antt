@@ -11,7 +11,7 @@ use Rattle.sysmem_tree.specs.Path.{path_of}
 use Rattle.sysmem_tree.proofs.CallerLemmas.{node_within}
 use Rattle.node_limits.specs.Laws.{KeepTo, KeepsTo}
 use Rattle.node_limits.specs.Limits.{is_spent}
-use Rattle.node_limits.proofs.Bounding.{keep_on}
+use Rattle.node_limits.proofs.CallerLemmas.{keep_on}
 use Rattle.sysmem_room.specs.declared.outcome.Outcome.{Outcome}
 use Rattle.sysmem_room.specs.Entering.{HasEntered}
 use Rattle.sysmem_room.specs.Laws.{LimitGoesOn}

@@ -18,7 +18,7 @@ use Rattle.sysmem_alloc.specs.Entry.{BookEntry, Decided}
 use Rattle.sysmem_alloc.specs.Sound.{roots_of}
 use Rattle.sysmem_alloc.proofs.CallerLemmas.{acted_roots, added, decided_roots}
 use Rattle.sysmem_tree.specs.Shape.{members_of}
-use Rattle.node_limits.proofs.Growing.{decided_many}
+use Rattle.node_limits.proofs.CallerLemmas.{decided_many}
 use Rattle.sysmem_room.specs.Counting.{actions_in, weight}
 
 -- one more entry

@@ -31,7 +31,7 @@ use Rattle.sysmem_room.specs.Agreeing.{IsKnown, verdict_by}
 use Rattle.node_limits.specs.TreeRefusals.{first_of, state_refusal}
 use Rattle.sysmem_room.specs.Refusals.{IsDisputed, IsUnforeseen, due, is_member, known_refusal, outcome_refusal, refusal_by}
 use Rattle.sysmem_room.proofs.Foreseeing.{log_allows, makes_one, refused_unforeseen}
-use Rattle.node_limits.proofs.Within.{not_past}
+use Rattle.node_limits.proofs.CallerLemmas.{not_past}
 
 -- what was entered for a domain whose verdict chose settings
 chose : (v : Option Verdict) (chosen : ChosenFacts) → Some (unwrap_or v verdicts.NoMemory) ≡ Some (verdicts.Chosen chosen)

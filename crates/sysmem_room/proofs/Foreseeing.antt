@@ -13,7 +13,7 @@ use Rattle.sysmem_tree.specs.Table.{allows, makes, wants_child}
 use Rattle.sysmem_tree.specs.Tree.{applied, applied_at, is_barred, has_room}
 use Rattle.node_limits.specs.TreeRefusals.{state_refusal}
 use Rattle.sysmem_room.specs.Refusals.{IsUnforeseen}
-use Rattle.node_limits.proofs.Within.{not_past}
+use Rattle.node_limits.proofs.CallerLemmas.{not_past}
 
 -- which of its refusals a tree answers, where the node's state brings none
 held_back : {A : Type 0} (kind : ActionKind) (barred out allowed wants full : Bool) (x : A) (r : Refusal) → (barred ≡ true → ends_node kind ≡ false) → (out ≡ true → ends_node kind ≡ false)

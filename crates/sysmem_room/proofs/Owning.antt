@@ -4,7 +4,7 @@ use Rattle.std.specs.Prelude.{IfSome}
 use Rattle.sysmem_tree.specs.declared.state.NodeState.{NodeState}
 use Rattle.sysmem_tree.specs.Node.{NodeFacts}
 use Rattle.sysmem_tree.specs.Nodes.{HasNode}
-use Rattle.node_limits.proofs.Within.{not_past}
+use Rattle.node_limits.proofs.CallerLemmas.{not_past}
 use Rattle.sysmem_room.specs.Agreeing.{StandsAs}
 use Rattle.sysmem_room.specs.Log.{LogFacts}
 

@@ -21,7 +21,7 @@ use Rattle.sysmem_tree.proofs.CallerLemmas.{accepted}
 use Rattle.sysmem_room.specs.declared.places.Places.{Places}
 use Rattle.sysmem_room.specs.Agreeing.{book_log, own_deeds}
 use Rattle.sysmem_room.specs.Places.{ArePlaces, EndsWith, HasAllOf}
-use Rattle.node_limits.proofs.Growing.{grows}
+use Rattle.node_limits.proofs.CallerLemmas.{grows}
 use Rattle.sysmem_room.proofs.Logs.{again_or_other}
 use Rattle.sysmem_room.proofs.Reading.{log_cons}
 

@@ -10,9 +10,8 @@ use Rattle.sysmem_tree.specs.Nodes.{IsTree}
 use Rattle.sysmem_tree.specs.Path.{node_at}
 use Rattle.node_limits.specs.Limits.{AreCounted, counts_after}
 use Rattle.sysmem_room.specs.Places.{ArePlaces}
-use Rattle.node_limits.proofs.Growing.{grows}
+use Rattle.node_limits.proofs.CallerLemmas.{grows, acted_counted, few_tops, room_for}
 use Rattle.sysmem_room.proofs.Counting.{actions_push, roots_grow}
-use Rattle.node_limits.proofs.Below.{acted_counted, few_tops, room_for}
 use Rattle.sysmem_room.proofs.Placing.{acted_there, action_stays, as_many}
 use Rattle.sysmem_room.proofs.room.Room.enter.Goals as goal
 

@@ -5,7 +5,7 @@ use Rattle.sysmem_alloc.specs.Book.{BookFacts}
 use Rattle.sysmem_tree.specs.Nodes.{IsTree}
 use Rattle.sysmem_tree.specs.Table.{makes}
 use Rattle.node_limits.specs.Limits.{is_spent}
-use Rattle.node_limits.proofs.Below.{few_tops, spent_by_count}
+use Rattle.node_limits.proofs.CallerLemmas.{few_tops, spent_by_count}
 use Rattle.sysmem_room.proofs.room.Room.is_spent.Goals as goal
 
 pub below-requires : goal.below-requires

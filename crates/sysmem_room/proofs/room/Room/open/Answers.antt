@@ -2,7 +2,7 @@
 use Rattle.std.proofs.Common.{◌≡◌, replicate, rules, subst, sym}
 use Rattle.sysmem_alloc.specs.Book.{BookFacts, new_book}
 use Rattle.node_limits.specs.Limits.{AreCounted}
-use Rattle.node_limits.proofs.Below.{first_counted}
+use Rattle.node_limits.proofs.CallerLemmas.{first_counted}
 use Rattle.sysmem_room.proofs.room.Room.open.Goals as goal
 
 pub invariant_of-room : goal.invariant_of-room
