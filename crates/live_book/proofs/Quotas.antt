@@ -31,7 +31,7 @@ first_quota q counts room = record {
   counted = subst (AreCounted first_tree.nodes) (sym counts) first_counted;
   room = room;
   tops = tops;
-  bounded = λ top. omega arith;
+  bounded = λ top. let none : offspring first_tree.nodes top ≡ 0 = refl in omega (arith, none);
 } where
   tops : AreTops first_tree.nodes q.tops
   tops zero less = tt
@@ -110,11 +110,14 @@ made_begins q path i child root other = by (i == 0) refl where
       let (rest, at) = other (λ same. let t : (i == 0) ≡ true = search (rules, tests, same) in absurd (cc (t, is))) in
       ap (λ (p : List ℕ). slice_get (p ++ child ∷ []) 0) at
 
+abbrev offspring_by : Bool → Quota → ActionKind → ℕ → Offspring
+offspring_by b q act i = if b then q.offspring else record { counts = counts_after q.offspring.counts (get_or q.tops i 0 ∷ []) act }
+
 -- and the counts are those after the action
 counts_for : (q : Quota) (path : List ℕ) (i : ℕ) (act : ActionKind) → (i ≡ 0 → path ≡ []) → (i ≢ 0 → (rest : List ℕ) × (path ≡ get_or q.tops i 0 ∷ rest))
     → counts_after q.offspring.counts path act ≡ (offspring_for q act i).counts
 counts_for q path i act root other = by (i == 0) refl where
-  by : (b : Bool) → (i == 0) ≡ b → counts_after q.offspring.counts path act ≡ ((if b then q.offspring else record { counts = counts_after q.offspring.counts (get_or q.tops i 0 ∷ []) act }) : Offspring).counts
+  by : (b : Bool) → (i == 0) ≡ b → counts_after q.offspring.counts path act ≡ (offspring_by b q act i).counts
   by true is = let none : i ≡ 0 = search (rules, tests, is) in ap (λ p. counts_after q.offspring.counts p act) (root none)
   by false is =
       let (rest, at) = other (λ same. let t : (i == 0) ≡ true = search (rules, tests, same) in absurd (cc (t, is))) in
@@ -137,6 +140,9 @@ one_more_top old new tops made top still many last few begins are = λ i less. b
       subst (λ p. IfSome (slice_get p 0) (λ x. get_or (slice_set tops made top) i 0 ≡ x)) (sym (still.path i there))
       (subst (λ y. IfSome (slice_get (path_of old i) 0) (λ x. y ≡ x)) (sym kept) (are i there))
 
+abbrev noted_by : Bool → ActionKind → ℕ → ℕ → ℕ → Quota → Quota
+noted_by b act i child made q = if b then record { most = q.most; offspring = offspring_for q act i; tops = slice_set q.tops made (top_for q i child) } else q
+
 -- after an accepted action for which the limits weren't spent, what is counted is true of the nodes
 pub noted_is : OnePath → (t : TreeFacts) (i child made : ℕ) (deed : Deed) (after : Applied) (q : Quota) → IsTree t.nodes → IsTree after.tree.nodes → AreStill t.nodes after.tree.nodes → i < length t.nodes
     → IfSome (slice_get t.nodes i) (λ n. child ≡ n.state.children) → made ≡ after.node → applied t i deed ≡ Ok after → is_spent (limits_of (Some q)) t.nodes (path_of t.nodes i) (kind_of deed) ≡ false
@@ -154,7 +160,7 @@ noted_is one t i child made deed after q tree grown still less which node is fre
   by : (m : Option NodeState) → makes (kind_of deed) ≡ m → IsQuotaOf after.tree.nodes (noted (kind_of deed) i child made q)
   by None none =
       let no : made_by (kind_of deed) ≡ 0 = ap (λ (m : Option NodeState). if is_some m then 1 else 0) none in
-      subst (λ (b : Bool). IsQuotaOf after.tree.nodes (if b then record { most = q.most; offspring = offspring_for q (kind_of deed) i; tops = slice_set q.tops made (top_for q i child) } else q)) (sym (ap is_some none))
+      subst (λ (b : Bool). IsQuotaOf after.tree.nodes (noted_by b (kind_of deed) i child made q)) (sym (ap is_some none))
       (still_quota t.nodes after.tree.nodes q still (omega (arith, more, no)) quota)
   by (Some s) some =
       let one_made : made_by (kind_of deed) ≡ 1 = ap (λ (m : Option NodeState). if is_some m then 1 else 0) some in
@@ -165,7 +171,7 @@ noted_is one t i child made deed after q tree grown still less which node is fre
       ap (λ (p : List ℕ). slice_get p 0) (at ∙ ap (λ c. path_of t.nodes i ++ c ∷ []) (sym children)) ∙ made_begins q (path_of t.nodes i) i child root other in
       let (_, a) = accepted t i deed after is in
       let last : made ≡ length t.nodes = node ∙ (sym a.node ∙ ap (λ (m : Option NodeState). if is_some m then length t.nodes else i) some) in
-      subst (λ (b : Bool). IsQuotaOf after.tree.nodes (if b then record { most = q.most; offspring = offspring_for q (kind_of deed) i; tops = slice_set q.tops made (top_for q i child) } else q)) (sym (ap is_some some))
+      subst (λ (b : Bool). IsQuotaOf after.tree.nodes (noted_by b (kind_of deed) i child made q)) (sym (ap is_some some))
       (record {
         counted = subst (AreCounted after.tree.nodes) (counts_for q (path_of t.nodes i) i (kind_of deed) root other)
             (acted_counted one t i deed after (path_of t.nodes i) q.offspring.counts tree grown still (one t.nodes i tree less).leads is quota.counted);
@@ -185,7 +191,7 @@ noted_if one t i child made deed after (Some q) n tree grown still less which no
 -- what is counted changes no limits
 same_most : (kind : ActionKind) (i child made : ℕ) (q : Quota) → (noted kind i child made q).most ≡ q.most
 same_most kind i child made q = by (is_some (makes kind)) where
-  by : (b : Bool) → ((if b then record { most = q.most; offspring = offspring_for q kind i; tops = slice_set q.tops made (top_for q i child) } else q) : Quota).most ≡ q.most
+  by : (b : Bool) → (noted_by b kind i child made q).most ≡ q.most
   by true = refl
   by false = refl
 
