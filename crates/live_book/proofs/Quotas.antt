@@ -1,17 +1,19 @@
 -- What is counted for limits, as actions and decisions are entered.
-use Rattle.std.proofs.Common.{◌≡◌, ◌≢◌, ◌<◌, ◌≤◌, ◌+◌, ◌==◌, ℕ, zero, suc, Bool, true, false, List, [], ◌∷◌, ◌++◌, Option, None, Some, Ok, get_or, length, replicate, slice_get, slice_set, refl, sym, ◌∙◌, ap, subst, arith, rules, tests}
+use Rattle.std.proofs.Common.{◌≡◌, ◌≢◌, ◌<◌, ◌≤◌, ◌+◌, ◌==◌, ℕ, zero, suc, Bool, true, false, List, [], ◌∷◌, ◌++◌, Option, None, Some, Ok, Err, get_or, length, replicate, slice_get, slice_set, refl, sym, ◌∙◌, ap, subst, arith, rules, tests}
+use Rattle.std.specs.Result.{result_err}
 use Rattle.std.specs.Prelude.{IfSome, IsTrue, is_some, nat_le, option_map, if◌then◌else◌}
 use Rattle.std.proofs.lemmas.List.{get_or-set_other, get_or-set_same, length-set}
 use Rattle.std.proofs.lemmas.Option.{same_Some, slice_get_within}
 use Rattle.node_limits.specs.declared.limits.Limits.{Limits}
 use Rattle.node_limits.specs.declared.limits.Offspring.{Offspring}
 use Rattle.node_limits.specs.Laws.{IsBounded}
-use Rattle.node_limits.specs.Limits.{AreCounted, counts_after, is_spent, offspring}
-use Rattle.node_limits.proofs.CallerLemmas.{acted_counted, few_tops, first_counted, made_child, room_for, spent_by_count, still_counted, still_offspring, acted_bounded, decided_many, grows, made_by}
+use Rattle.node_limits.specs.Limits.{AreCounted, applied_within, counts_after, is_spent, offspring}
+use Rattle.node_limits.proofs.CallerLemmas.{accepted_within, free_answer, refused_answer, refused_beyond, unlimited, acted_counted, few_tops, first_counted, made_child, room_for, spent_by_count, still_counted, still_offspring, acted_bounded, decided_many, grows, made_by}
 use Rattle.sysmem_alloc.specs.Book.{BookFacts, entered}
 use Rattle.sysmem_alloc.specs.Decision.{Claimed, answer_of, choices_of}
 use Rattle.sysmem_alloc.specs.Entry.{Decided}
 use Rattle.sysmem_tree.specs.declared.action.ActionKind.{ActionKind}
+use Rattle.sysmem_tree.specs.declared.refusal.Refusal.TheVariants.{TooManyNodes}
 use Rattle.sysmem_tree.specs.declared.state.NodeState.{NodeState}
 use Rattle.sysmem_tree.specs.ActionKind.{Deed, kind_of}
 use Rattle.sysmem_tree.specs.Domain.{TreeFacts}
@@ -228,3 +230,34 @@ given_up_quota did (Some d) b n o waits still stays done quota = decided_if b n 
 pub bounded_if : (nodes : List NodeFacts) (o : Option Quota) → IfSome o (IsQuotaOf nodes) → IsBounded (limits_of o) nodes
 bounded_if nodes None is = λ top. tt
 bounded_if nodes (Some q) is = is.bounded
+
+-- an action whose limits aren't spent is answered as the tree answers it
+pub within_free : (limits : Limits) (t : TreeFacts) (i : ℕ) (deed : Deed) → is_spent limits t.nodes (path_of t.nodes i) (kind_of deed) ≡ false → applied_within limits t i deed ≡ applied t i deed
+within_free limits t i deed free = free_answer (is_spent limits t.nodes (path_of t.nodes i) (kind_of deed)) (applied t i deed) free
+
+-- also where there are none
+pub within_none : (o : Option Quota) (t : TreeFacts) (i : ℕ) (deed : Deed) → o ≡ None → applied_within (limits_of o) t i deed ≡ applied t i deed
+within_none o t i deed none = within_free (limits_of o) t i deed (unlimited (limits_of o) t.nodes (path_of t.nodes i) (kind_of deed) (ap (λ (x : Option Quota). (limits_of x).offspring) none))
+
+-- and one that the tree refuses
+pub within_refused : (limits : Limits) (t : TreeFacts) (i : ℕ) (deed : Deed) → is_some (result_err (applied t i deed)) ≡ true → applied_within limits t i deed ≡ applied t i deed
+within_refused limits t i deed refused = refused_answer (is_spent limits t.nodes (path_of t.nodes i) (kind_of deed)) (applied t i deed) refused
+
+-- for another there are too many nodes
+pub beyond_limits : (limits : Limits) (t : TreeFacts) (i : ℕ) (deed : Deed) → is_spent limits t.nodes (path_of t.nodes i) (kind_of deed) ≡ true → result_err (applied t i deed) ≡ None
+    → applied_within limits t i deed ≡ Err TooManyNodes
+beyond_limits limits t i deed spent none = refused_beyond (is_spent limits t.nodes (path_of t.nodes i) (kind_of deed)) (applied t i deed) spent none
+
+-- where an action is accepted and answered as the tree answers it, the limits aren't spent
+pub unspent_where : (limits : Limits) (t : TreeFacts) (i : ℕ) (deed : Deed) (after : Applied) → applied_within limits t i deed ≡ applied t i deed → applied t i deed ≡ Ok after
+    → is_spent limits t.nodes (path_of t.nodes i) (kind_of deed) ≡ false
+unspent_where limits t i deed after within is = (accepted_within (is_spent limits t.nodes (path_of t.nodes i) (kind_of deed)) (applied t i deed) after (within ∙ is)).1
+
+-- of a quota, if there is one, one more can be counted
+pub place_if : OnePath → (nodes : List NodeFacts) (o : Option Quota) (i : ℕ) → IsTree nodes → IfSome o (IsQuotaOf nodes) → i < length nodes → IfSome o (HasPlace i)
+place_if one nodes None i tree is less = tt
+place_if one nodes (Some q) i tree is less = has_place one nodes q i tree is less
+
+pub child_of_state : (o : Option NodeFacts) (s : NodeState) → IfSome o (λ n. s ≡ n.state) → IfSome o (λ n. s.children ≡ n.state.children)
+child_of_state None s is = tt
+child_of_state (Some n) s is = ap (λ (x : NodeState). x.children) is

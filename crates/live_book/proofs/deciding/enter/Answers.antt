@@ -1,6 +1,7 @@
 -- The collection's book is the one in which it is entered.
 use Rattle.std.proofs.Common.{◌≡◌, ◌⊎◌, None, false, subst}
 use Rattle.std.specs.Prelude.{IsTrue}
+use Rattle.sysmem_alloc.specs.Decision.{Claimed}
 use Rattle.sysmem_alloc.specs.Frozen.{IsStill}
 use Rattle.live_book.specs.Collection.{CollectionFacts}
 use Rattle.live_book.proofs.Eager.{entered_eagerly}
@@ -10,7 +11,7 @@ use Rattle.live_book.proofs.deciding.enter.Goals as goal
 pub invariant_of-collection : goal.invariant_of-collection
 invariant_of-collection c =
     let (eager, quota) = c.collection.invariant in
-    let made = record { domain = c.args.decision.frozen.domain; claim = c.args.decision.claim } in (
+    let made : Claimed = record { domain = c.args.decision.frozen.domain; claim = c.args.decision.claim } in (
       entered_eagerly c.enter_in.result c.collection.inside.book c.enter_in.new.book made eager c.enter_in.ensures.entered c.enter_in.ensures.unchanged,
       entered_quota c.enter_in.result c.collection.inside.book c.enter_in.new.book made c.collection.inside.quota c.enter_in.ensures.still c.enter_in.ensures.entered c.enter_in.ensures.unchanged quota,
     )
