@@ -1,5 +1,5 @@
 //! What a search finds of what a book froze, as text. What proves it is shown by the certificates
-//! of `tests/rows`.
+//! of `tests/data/rows`.
 
 use std::alloc::{AllocError, Global};
 use std::cell::Cell;

@@ -2,7 +2,7 @@
 //! handles, beside what was worked out by hand; readers and writers that fail, and what stands for
 //! no image and for want of memory. It is a crate of tests alone, so that none of the crates below
 //! is proved again with its tests, and searches and books meet in it. What the built program shows
-//! as well is tested on that (`tests/` at the top).
+//! as well is tested on that (`tests/program`).
 #![tactic(auto)]
 
 #[cfg(test)]

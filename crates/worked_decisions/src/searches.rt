@@ -1,5 +1,5 @@
 //! Searches of small trees and of attached domains: verdicts, and how many prefixes are visited.
-//! The scripts of the same names in `tests/rows` have what proves the verdicts.
+//! The scripts of the same names in `tests/data/rows` have what proves the verdicts.
 
 use crate::equal::is_equal;
 use crate::finding::tell_search;

@@ -1,5 +1,5 @@
 //! How many prefixes of small trees are visited. What is chosen of them is compared with going
-//! through every selection by `tests/every_selection`.
+//! through every selection by `tests/program/every_selection`.
 
 use crate::equal::is_equal;
 use crate::finding::search_frozen;
