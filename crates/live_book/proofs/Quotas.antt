@@ -1,9 +1,9 @@
 -- What is counted for limits, as actions and decisions are entered.
-use Rattle.std.proofs.Common.{◌≡◌, ◌≢◌, ◌<◌, ◌≤◌, ◌+◌, ◌==◌, ℕ, zero, suc, Bool, true, false, List, [], ◌∷◌, ◌++◌, Option, None, Some, Ok, Err, get_or, length, replicate, slice_get, slice_set, refl, sym, ◌∙◌, ap, subst, arith, rules, tests}
+use Rattle.std.proofs.Common.{◌≡◌, ◌≢◌, ◌<◌, ◌+◌, ◌==◌, ℕ, zero, suc, Bool, true, false, List, [], ◌∷◌, ◌++◌, Option, None, Some, Ok, Err, get_or, length, replicate, slice_get, slice_set, refl, sym, ◌∙◌, ap, subst, arith, rules, tests}
 use Rattle.std.specs.Result.{result_err}
 use Rattle.std.specs.Prelude.{IfSome, IsTrue, is_some, nat_le, option_map, if◌then◌else◌}
 use Rattle.std.proofs.lemmas.List.{get_or-set_other, get_or-set_same, length-set}
-use Rattle.std.proofs.lemmas.Option.{same_Some, slice_get_within}
+use Rattle.std.proofs.lemmas.Option.{same_Some}
 use Rattle.node_limits.specs.declared.limits.Limits.{Limits}
 use Rattle.node_limits.specs.declared.limits.Offspring.{Offspring}
 use Rattle.node_limits.specs.Laws.{IsBounded}
@@ -19,10 +19,10 @@ use Rattle.sysmem_tree.specs.ActionKind.{Deed, kind_of}
 use Rattle.sysmem_tree.specs.Domain.{TreeFacts}
 use Rattle.sysmem_tree.specs.Laws.{AreStill, OnePath}
 use Rattle.sysmem_tree.specs.Node.{NodeFacts}
-use Rattle.sysmem_tree.specs.Nodes.{HasNode, IsTree}
+use Rattle.sysmem_tree.specs.Nodes.{IsTree}
 use Rattle.sysmem_tree.specs.Path.{node_at, path_of}
 use Rattle.sysmem_tree.specs.Table.{makes}
-use Rattle.sysmem_tree.specs.Tree.{Applied, applied, first_tree, number_after}
+use Rattle.sysmem_tree.specs.Tree.{Applied, applied, first_tree}
 use Rattle.sysmem_tree.proofs.CallerLemmas.{accepted}
 use Rattle.live_book.specs.declared.quota.Quota.{Quota}
 use Rattle.live_book.specs.Quota.{AreTops, HasPlace, IsQuotaOf, limits_of, noted, offspring_for, top_for}

@@ -1,9 +1,8 @@
 -- What is counted is true of the nodes with the one that was made.
-use Rattle.std.proofs.Common.{◌≡◌, ◌∙◌, ap, length, subst, sym}
+use Rattle.std.proofs.Common.{◌≡◌, ◌∙◌, ap, subst, sym}
 use Rattle.std.specs.Prelude.{IfSome, option_map}
 use Rattle.sysmem_tree.specs.ActionKind.{deed_of, kind_of}
 use Rattle.sysmem_tree.specs.Domain.{TreeFacts}
-use Rattle.sysmem_tree.specs.Node.{NodeFacts}
 use Rattle.sysmem_tree.specs.Nodes.{IsTree}
 use Rattle.std.specs.Prelude.{slice_get}
 use Rattle.live_book.specs.Quota.{HasPlace, limits_of, noted}

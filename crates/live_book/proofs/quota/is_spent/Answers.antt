@@ -1,5 +1,5 @@
 -- The count of a child of the root is how many nodes are below it.
-use Rattle.std.proofs.Common.{◌≡◌, ◌≢◌, ◌∙◌, ◌<◌, Some, ap, arith, false, get_or, length, nat_le, rules, subst, sym, true}
+use Rattle.std.proofs.Common.{◌≡◌, ◌≢◌, ◌∙◌, ◌<◌, Some, ap, arith, false, get_or, nat_le, rules, subst, sym, true}
 use Rattle.std.specs.Prelude.{is_some}
 use Rattle.sysmem_tree.specs.Domain.{TreeFacts}
 use Rattle.sysmem_tree.specs.Nodes.{IsTree}
@@ -7,7 +7,7 @@ use Rattle.sysmem_tree.specs.Path.{path_of}
 use Rattle.sysmem_tree.specs.Table.{makes}
 use Rattle.node_limits.proofs.CallerLemmas.{unspent_by}
 use Rattle.live_book.specs.Quota.{limits_of}
-use Rattle.live_book.proofs.Quotas.{few_top, root_unspent, spent_is}
+use Rattle.live_book.proofs.Quotas.{few_top, spent_is}
 use Rattle.live_book.proofs.quota.is_spent.Goals as goal
 
 pub returns-then-is_none : goal.returns-then-is_none
