@@ -4,7 +4,6 @@ use Rattle.std.specs.Prelude.{IfSome, IsOk, is_some, option_map, unwrap_or, ifâ—
 use Rattle.std.proofs.lemmas.List.{append_assoc}
 use Rattle.std.proofs.lemmas.Option.{slice_get_within}
 use Rattle.negotiation_inputs.specs.Platform.{PlatformFacts}
-use Rattle.sysmem_alloc.specs.Book.{BookFacts}
 use Rattle.sysmem_alloc.specs.Decision.{answer_of, choices_of}
 use Rattle.sysmem_alloc.specs.Entry.{BookEntry, Acted, Decided}
 use Rattle.sysmem_alloc.specs.History.{Allows, AreAllowed, IsLegal, after_answer, after_entry, replay, replay_from}
@@ -21,7 +20,7 @@ use Rattle.sysmem_tree.specs.Nodes.{IsTree}
 use Rattle.sysmem_tree.specs.Path.{path_of}
 use Rattle.sysmem_tree.specs.Table.{makes}
 use Rattle.sysmem_tree.specs.Tree.{Applied, applied}
-use Rattle.sysmem_tree.proofs.CallerLemmas.{accepted, node_within}
+use Rattle.sysmem_tree.proofs.CallerLemmas.{accepted}
 use Rattle.node_limits.specs.declared.limits.Limits.{Limits}
 use Rattle.node_limits.specs.Laws.{IsBounded, KeepTo, KeepsTo, LimitIsKept}
 use Rattle.node_limits.specs.Limits.{is_full, is_spent, offspring}

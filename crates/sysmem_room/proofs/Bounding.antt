@@ -1,5 +1,5 @@
 -- A history goes on keeping to limits with what a handle's action and a decision enter.
-use Rattle.std.proofs.Common.{◌≡◌, ◌<◌, ℕ, false, List, Option, length, sym, subst}
+use Rattle.std.proofs.Common.{◌≡◌, ◌<◌, false, Option, length, sym, subst}
 use Rattle.sysmem_alloc.specs.Book.{BookFacts}
 use Rattle.sysmem_alloc.specs.Entry.{Acted, Decided}
 use Rattle.sysmem_alloc.specs.Laws.{LegalIsSound}

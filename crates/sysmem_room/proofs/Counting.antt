@@ -1,23 +1,20 @@
 -- What an action adds to the history and to the nodes.
-use Rattle.std.proofs.Common.{◌≡◌, ℕ, suc, ◌+◌, List, [], ◌∷◌, ◌++◌, length, Option, Some, None, Ok, slice_set, refl, sym, ◌∙◌, ap, arith, length-append}
-use Rattle.std.specs.Prelude.{is_some, if◌then◌else◌}
-use Rattle.std.proofs.lemmas.List.{length-set, length-map}
+use Rattle.std.proofs.Common.{◌≡◌, ℕ, ◌+◌, List, [], ◌∷◌, ◌++◌, length, Option, Ok, refl, sym, ◌∙◌, ap, arith, length-append}
+use Rattle.std.specs.Prelude.{if◌then◌else◌}
+use Rattle.std.proofs.lemmas.List.{length-map}
 use Rattle.sysmem_tree.specs.declared.action.ActionKind.{ActionKind}
 use Rattle.sysmem_tree.specs.declared.action.ActionKind.TheVariants as kinds
 use Rattle.sysmem_tree.specs.declared.domain.Domain.{Domain}
-use Rattle.sysmem_tree.specs.declared.state.NodeState.{NodeState}
 use Rattle.sysmem_tree.specs.ActionKind.{Deed, kind_of}
 use Rattle.sysmem_tree.specs.Domain.{TreeFacts}
-use Rattle.sysmem_tree.specs.Node.{NodeFacts}
-use Rattle.sysmem_tree.specs.Table.{makes, makes_root}
-use Rattle.sysmem_tree.specs.Tree.{Applied, applied, node_after, nodes_made, nodes_after, domains_after, left_out_but, decided}
+use Rattle.sysmem_tree.specs.Table.{makes_root}
+use Rattle.sysmem_tree.specs.Tree.{Applied, applied, domains_after, decided}
 use Rattle.sysmem_tree.proofs.CallerLemmas.{accepted}
 use Rattle.sysmem_alloc.specs.Book.{BookFacts, entered}
 use Rattle.sysmem_alloc.specs.Decision.{Claimed, answer_of, choices_of}
 use Rattle.sysmem_alloc.specs.Entry.{BookEntry, Decided}
 use Rattle.sysmem_alloc.specs.Sound.{roots_of}
 use Rattle.sysmem_alloc.proofs.CallerLemmas.{acted_roots, added, decided_roots}
-use Rattle.sysmem_tree.specs.Shape.{members_of}
 use Rattle.node_limits.proofs.CallerLemmas.{decided_many}
 use Rattle.sysmem_room.specs.Counting.{actions_in, weight}
 
