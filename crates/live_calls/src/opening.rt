@@ -8,8 +8,8 @@ ghost use Rattle.live_calls.specs.Opening.{Opens};
 use crate::statuses::{DONE, MISUSED, NO_MEMORY};
 use live_book::{Collection, Object};
 use live_held::Held;
-use node_limits::Limits;
 use negotiation_inputs::Platform;
+use node_limits::Limits;
 use std::alloc::{AllocError, Global};
 
 /// Puts an object into a handle.
@@ -36,11 +36,7 @@ fn open_for(alloc: Global, platform: &Platform, limits: Limits, held: &mut Held)
     }
 }
 
-fn new_for(
-    alloc: Global,
-    platform: &Platform,
-    limits: Limits,
-) -> Result<Collection, AllocError>
+fn new_for(alloc: Global, platform: &Platform, limits: Limits) -> Result<Collection, AllocError>
     ensures { IfOk result (λ collection. collection ≡ new_within limits platform.now) }
 {
     let platform = platform.copy()?;
