@@ -453,10 +453,10 @@ void mezulobu_allocator_free(struct mezulobu_allocator *allocator);
 /* A new collection, by the token of its root. DONE, MISUSED, NO_MEMORY. */
 int mezulobu_allocate_shared(struct mezulobu_allocator *allocator, struct mezulobu_token **token);
 
-/* The same for a host that lets strangers in: each child of the root has at most so many nodes below
- * it, whoever makes them, those that are gone included. A call that would make one more is refused
- * by TOO_MANY_NODES, if by nothing else. The root has no limit: a host keeps it, and gives each
- * client a child of it. 128 limits nothing. */
+/* The same for a host that lets strangers in: each child of the root has at most so many nodes
+ * below it, whoever makes them, those that are gone included. A call that would make one more is
+ * refused by TOO_MANY_NODES, if by nothing else. The root has no limit: a host keeps it, and gives
+ * each client a child of it. 128 limits nothing. */
 int mezulobu_allocate_shared_limited(struct mezulobu_allocator *allocator, uint32_t most,
                                      struct mezulobu_token **token);
 

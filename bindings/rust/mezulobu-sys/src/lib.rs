@@ -509,10 +509,10 @@ extern "C" {
         allocator: *mut mezulobu_allocator,
         token: *mut *mut mezulobu_token,
     ) -> c_int;
-    /// The same for a host that lets strangers in: each child of the root has at most so many nodes below
-    /// it, whoever makes them, those that are gone included. A call that would make one more is refused
-    /// by TOO_MANY_NODES, if by nothing else. The root has no limit: a host keeps it, and gives each
-    /// client a child of it. 128 limits nothing.
+    /// The same for a host that lets strangers in: each child of the root has at most so many nodes
+    /// below it, whoever makes them, those that are gone included. A call that would make one more is
+    /// refused by TOO_MANY_NODES, if by nothing else. The root has no limit: a host keeps it, and gives
+    /// each client a child of it. 128 limits nothing.
     pub fn mezulobu_allocate_shared_limited(
         allocator: *mut mezulobu_allocator,
         most: u32,
