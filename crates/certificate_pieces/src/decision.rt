@@ -15,9 +15,9 @@ use crate::proof::put_proof;
 use crate::verdict::bare;
 use byte_transfer::Sink;
 use certificate_text::{CertificateWriter, push_path};
+use negotiation_inputs::Platform;
 use std::alloc::{AllocError, Global};
 use std::sync::Arc;
-use negotiation_inputs::Platform;
 use sysmem_tree::Path;
 use verdict_claims::Claim;
 

@@ -13,10 +13,10 @@ use crate::kept::Kept;
 use crate::list::put_list;
 use crate::piece::Piece;
 use byte_transfer::{Sink, WriteFault};
+use negotiation_inputs::Platform;
 use std::alloc::{AllocError, Global};
 use std::marker::Model;
 use std::sync::Arc;
-use negotiation_inputs::Platform;
 use sysmem_tree::Path;
 use verdict_claims::Claim;
 
