@@ -1,0 +1,1 @@
+-- What callers need of scripts that are written.
