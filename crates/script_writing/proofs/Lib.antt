@@ -1,1 +1,7 @@
 pub mod CallerLemmas
+pub mod Names
+pub mod Plain
+pub mod Reading
+pub mod Spaced
+pub mod Spelled
+pub mod Texts

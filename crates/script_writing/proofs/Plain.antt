@@ -1,6 +1,6 @@
 -- Records of constraints and of platforms have no float, and aren't deep.
 use Rattle.std.proofs.Common.{◌≡◌, ◌≤◌, ℕ, suc, max, Bool, true, false, List, [], ◌∷◌, ◌++◌, map, Option, Some, None, Ordering, Less, Equal, Greater, refl, sym, ap, ◌∙◌, subst, arith}
-use Rattle.std.specs.Prelude.{◌||◌, IfSome}
+use Rattle.std.specs.Prelude.{◌||◌, IfSome, if◌then◌else◌}
 use Rattle.std.specs.List.{AllByRecursion}
 use Rattle.std.specs.Ordering.{nat_cmp, match_ordering}
 use Rattle.std.specs.Cmp.Lexicographic.{slice_cmp}
@@ -21,8 +21,8 @@ use Rattle.sysmem_image.specs.declared.size.Size.{Size}
 use Rattle.sysmem_image.specs.Fields.{Bound, all_bounds, field_of, is_size, value, sides_of, Width, absent}
 use Rattle.sysmem_memory.specs.Heap.{HeapName, HeapFacts}
 use Rattle.sysmem_memory.specs.Wishes.{MemoryWishes}
-use Rattle.sysmem_sanitise.specs.Participant.{Participant}
-use Rattle.sysmem_sanitise.specs.Platform.{PlatformFacts}
+use Rattle.negotiation_inputs.specs.Participant.{Participant}
+use Rattle.negotiation_inputs.specs.Platform.{PlatformFacts}
 use Rattle.record_laws.specs.Records.{choice, colour_record, list, natural, size_record}
 use Rattle.record_laws.specs.Sparse.{unless, with_field, with_fields, fields_said, number_said, true_said, false_said, size_said, list_said, object_said, with_name, with_names, names_said, families_in, domains_in, colours_in, name_said, permitted_written, heap_said, heap_written, is_usual, formats_said, pair_written, platform_said, platform_written, memory_said, bound_said, bounds_said, entry_said, entry_written, counts_said, participant_said, participant_written}
 use Rattle.script_writing.specs.Script.{IsPlain}
@@ -173,6 +173,80 @@ size_shallow n s = is_object n _ (put_shallow n _ (natural s.width) _ (is_natura
 
 bound_shallow : (n : ℕ) (b : ImageBounds) (f : Bound) → IfSome (bound_said b f) (Shallow (suc n))
 bound_shallow n b f = by (is_size f) where
-  by : (t : Bool) → IfSome (cond_said t) (Shallow (suc n))
+  by : (t : Bool) → IfSome (if t then size_said (absent f) (sides_of b f) else number_said (absent f) (value f Width b)) (Shallow (suc n))
   by true = unless_shallow (suc n) _ (size_record (sides_of b f)) (size_shallow n (sides_of b f))
   by false = number_shallow (suc n) (absent f) (value f Width b)
+
+bounds_shallow : (n : ℕ) (b : ImageBounds) (fs : List Bound) → AreSaid (suc n) (map (λ f. (field_of f, bound_said b f)) fs)
+bounds_shallow n b [] = tt
+bounds_shallow n b (f ∷ fs) = (bound_shallow n b f, bounds_shallow n b fs)
+
+choice_shallow : {X : Type 0} (n : ℕ) (name_of : X → List ℕ) (o : Option X) → Shallow n (choice name_of o)
+choice_shallow n name_of None = is_string n _
+choice_shallow n name_of (Some x) = is_string n (name_of x)
+
+formats_shallow : (n : ℕ) (format : Option PixelFormat) (modifier : Option Modifier) → AreSaid n (formats_said format modifier)
+formats_shallow n format modifier = (choice_shallow n format_name format, (unless_shallow n (is_usual format modifier) (choice modifier_name modifier) (choice_shallow n modifier_name modifier), tt))
+
+entry_shallow : (e : Entry) → Shallow 3 (entry_written e)
+entry_shallow e = is_fields 2 (entry_said e) (both_said 2 (formats_said e.format e.modifier) _ (formats_shallow 2 e.format e.modifier)
+    (is_names 1 (colours_in e.colours), both_said 2 (map (λ f. (field_of f, bound_said e.bounds.asked f)) all_bounds) _ (bounds_shallow 1 e.bounds.asked all_bounds) (true_shallow 2 e.bounds.at_pixel_boundary, tt)))
+
+heap_name_shallow : (n : ℕ) (h : HeapName) → AreSaid n (name_said h)
+heap_name_shallow n h = (is_string n h.heap_type, (number_shallow n 0 h.id, tt))
+
+memory_shallow : (w : MemoryWishes) → AreSaid 2 (memory_said w)
+memory_shallow w = (
+  number_shallow 2 _ w.min_size_bytes,
+  (
+    number_shallow 2 _ w.max_size_bytes,
+    (
+      true_shallow 2 w.physically_contiguous_required,
+      (
+        true_shallow 2 w.secure_required,
+        (
+          false_shallow 2 w.cpu_domain_supported,
+          (
+            true_shallow 2 w.ram_domain_supported,
+            (
+              true_shallow 2 w.inaccessible_domain_supported,
+              (
+                listed_shallow 1 (items_of (map permitted_written w.permitted_heaps)) (items_shallow 1 permitted_written (λ h. is_fields 0 (name_said h) (heap_name_shallow 0 h)) w.permitted_heaps),
+                tt,
+              ),
+            ),
+          ),
+        ),
+      ),
+    ),
+  ),
+)
+
+counts_shallow : (n : ℕ) (p : Participant) → AreSaid n (counts_said p.counts)
+counts_shallow n p = (number_shallow n _ _, (number_shallow n _ _, (number_shallow n _ _, (number_shallow n _ _, (number_shallow n _ _, tt)))))
+
+participant_shallow : (p : Participant) → Shallow 5 (participant_written p)
+participant_shallow p = is_fields 4 (participant_said p) (is_names 3 (families_in p.usage), both_said 4 (counts_said p.counts) _ (counts_shallow 4 p) (
+  object_shallow 3 (with_fields no_members (memory_said p.memory)) (deeper (fields_shallow 2 no_members (memory_said p.memory) (no_member 2) (memory_shallow p.memory))),
+  (listed_shallow 3 (items_of (map entry_written p.entries)) (items_shallow 3 entry_written entry_shallow p.entries), tt),
+)) where
+  deeper : {ms : Members} → MembersShallow 2 ms → MembersShallow 3 ms
+  deeper h = record { whole = h.whole; deep = omega (arith, h.deep) }
+
+heap_shallow : (h : HeapFacts) → Shallow 3 (heap_written h)
+heap_shallow h = is_fields 2 (heap_said h) (both_said 2 (name_said h.heap) _ (heap_name_shallow 2 h.heap) (true_shallow 2 h.contiguous, (true_shallow 2 h.secure, (is_names 1 (domains_in h.domains), tt))))
+
+pair_shallow : (p : Pair) → Shallow 3 (pair_written p)
+pair_shallow p = is_fields 2 _ (formats_shallow 2 (Some p.format) (Some p.modifier))
+
+colour_shallow : (c : ColourSpace) → Shallow 3 (colour_record c)
+colour_shallow c = is_string 3 _
+
+platform_shallow : (p : PlatformFacts) → Shallow 5 (platform_written p)
+platform_shallow p = is_fields 4 (platform_said p) (is_list 3 heap_written heap_shallow p.heaps, (is_list 3 pair_written pair_shallow p.pairs, (is_list 3 colour_record colour_shallow p.colours, tt)))
+
+pub plain_participant : (p : Participant) → IsPlain (participant_written p)
+plain_participant p = let h = participant_shallow p in record { whole = h.whole; shallow = omega (arith, h.deep) }
+
+pub plain_platform : (p : PlatformFacts) → IsPlain (platform_written p)
+plain_platform p = let h = platform_shallow p in record { whole = h.whole; shallow = omega (arith, h.deep) }

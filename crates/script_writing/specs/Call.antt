@@ -2,7 +2,7 @@
 use Rattle.std.specs.Prelude.{◌≡◌, ℕ, ◌++◌, List, [], true, Option, Some, None, IfSome, codes, option_map, unwrap_or}
 use Rattle.serde_json.specs.Data.{Data, string, object, Members, no_members, member}
 use Rattle.serde_json.specs.Written.{compact_text}
-use Rattle.sysmem_sanitise.specs.Participant.{Participant}
+use Rattle.negotiation_inputs.specs.Participant.{Participant}
 use Rattle.record_laws.specs.Sparse.{participant_written}
 use Rattle.script_reading.specs.Call.{ActFacts, duplicates, binds, states, creates_group}
 use Rattle.script_reading.specs.Call.{creates_child, has_all_children, attaches_token, releases}

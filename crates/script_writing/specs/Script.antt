@@ -6,7 +6,7 @@ use Rattle.serde_json.specs.Data.{Data, array, object, no_members, member, depth
 use Rattle.serde_json.specs.Read.{read, of_json}
 use Rattle.serde_json.specs.View.{items_of}
 use Rattle.serde_json.specs.Written.{comma_if, compact_text, has_float, outline}
-use Rattle.sysmem_sanitise.specs.Platform.{PlatformFacts}
+use Rattle.negotiation_inputs.specs.Platform.{PlatformFacts}
 use Rattle.record_reading.specs.Reading.{platform_of}
 use Rattle.record_laws.specs.Sparse.{platform_written}
 use Rattle.script_writing.specs.Call.{WrittenCall, HasNames, StatesRecord, call_data, call_text, stated_by}

@@ -1,7 +1,7 @@
 //! Writes a script, call by call.
 
 ghost use Rattle.std.specs.Prelude.{◌≡◌, ◌++◌, [], ◌∷◌, IfOk, List, OnOk, option_map};
-ghost use Rattle.sysmem_sanitise.specs.Platform.{PlatformFacts};
+ghost use Rattle.negotiation_inputs.specs.Platform.{PlatformFacts};
 ghost use Rattle.script_reading.specs.Seen.{act_seen};
 ghost use Rattle.script_writing.specs.Call.{StatesRecord, WrittenCall};
 ghost use Rattle.script_writing.specs.Script.{HasTaken, IsScriptText};
@@ -11,7 +11,7 @@ use record_writing::write_platform;
 use script_reading::Act;
 use std::alloc::{AllocError, Global};
 use std::marker::Model;
-use sysmem_sanitise::Platform;
+use negotiation_inputs::Platform;
 
 /// A script that is being written: its platform, and its calls so far.
 #[derive(Drop)]
