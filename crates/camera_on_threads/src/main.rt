@@ -11,7 +11,7 @@ mod start;
 
 use asking::{CAMERA, ENCODER, PLATFORM, RECORDER, asked, platform};
 use failure::Failure;
-use sharing::{Asks, Told, share};
+use sharing::{Asks, Outcomes, share};
 use std::marker::Brand;
 use std::sync::ledger::Blank;
 use std::{env, fs, io};
@@ -49,7 +49,7 @@ fn write_script(rt: &HostRuntime, script: Option<Vec<u8>>) -> Result<(), Failure
 }
 
 /// Prints what each was told, and what the audit found.
-fn tell_all(rt: &impl Print, told: &Told) -> io::Result<()> {
+fn tell_all(rt: &impl Print, told: &Outcomes) -> io::Result<()> {
     tell(rt, "camera", told.camera)?;
     tell(rt, "encoder", told.encoder)?;
     match told.recorder {

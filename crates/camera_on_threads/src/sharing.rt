@@ -27,7 +27,7 @@ pub(crate) struct Asks {
 
 /// What each was told, what an audit found of all, and what happened, as a script.
 #[derive(Drop)]
-pub(crate) struct Told {
+pub(crate) struct Outcomes {
     pub(crate) camera: Result<Settings, Refusal>,
     pub(crate) encoder: Result<Settings, Refusal>,
     /// `None` where it wasn't let in.
@@ -72,7 +72,7 @@ pub(crate) fn share<L: Ledger + Send + Sync, R: Threads + Wait + Sync>(
     allocator: &Allocator<NoGate>,
     blank: Blank,
     asks: &Asks,
-) -> Result<Told, Failure>
+) -> Result<Outcomes, Failure>
     requires name { blank.name ≡ L.name }
     requires ledger { blank.parts ≡ L.parts }
     requires parts { blank.parts ≡ all_parts }
@@ -262,14 +262,14 @@ fn audited<L: Ledger, R: Threads + Wait + Sync>(
     alloc: Global,
     parts: Parts<L>,
     reader: Result<Reader<L>, AllocError>,
-) -> Result<Told, Failure> {
+) -> Result<Outcomes, Failure> {
     let (Some(app), Some(camera), Some(encoder)) = (parts.app, parts.camera, parts.encoder) else {
         return Err(Failure::NoMemory);
     };
     let mut stubs = Vec::from_array(alloc, [app, camera.stub, encoder.stub])?;
     let recorder = told_to(&mut stubs, parts.recorder)?;
     match audit(rt, stubs) {
-        Ok((audit, _seen)) => Ok(Told {
+        Ok((audit, _seen)) => Ok(Outcomes {
             camera: camera.told,
             encoder: encoder.told,
             recorder,

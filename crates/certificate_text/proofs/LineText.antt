@@ -89,7 +89,3 @@ offers_plain = refl
 -- what is put of data is put of the same data
 pub told_as : {T E : Type 0} (r : Result T E) (old new : List ℕ) (d e : Data) → d ≡ e → OnOk r (new ≡ old ++ compact_text d) → OnOk r (new ≡ old ++ compact_text e)
 told_as r old new d e same h = subst (λ x. OnOk r (new ≡ old ++ compact_text x)) same h
-
--- lines with one field and the same paths are one
-pub same_line : (a b : LineFacts) → a.field ≡ b.field → a.nodes ≡ b.nodes → a ≡ b
-same_line a b field nodes = λ i. record { field = field i; nodes = nodes i }

@@ -35,5 +35,7 @@ IsTold told = IsLineText told.paths.items told.text.items told.line
 
 -- a line is the one that is kept of those with few paths, or of those with many
 pub record IsKept (few many : Option Told) (line : LineFacts) : Type 0 where
-  pub of_few : nat_le (length (numbers_of line.nodes)) 4 ≡ true → IfSome few (λ told. told.line ≡ line)
-  pub of_many : nat_le (length (numbers_of line.nodes)) 4 ≡ false → IfSome many (λ told. told.line ≡ line)
+  pub of_few : nat_le (length (numbers_of line.nodes)) 4 ≡ true
+      → IfSome few (λ told. told.line ≡ line)
+  pub of_many : nat_le (length (numbers_of line.nodes)) 4 ≡ false
+      → IfSome many (λ told. told.line ≡ line)

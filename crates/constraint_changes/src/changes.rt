@@ -13,7 +13,7 @@ use crate::trials::{
 use constraint_edits::{Edit, changes, edited, is_absurd};
 use domain_reasons::{choices_in, room_needed};
 use explanation_text::{Items, Text, Words};
-use script_story::{Deed, Effort, Story, asked_in};
+use script_story::{Effort, Milestone, Story, asked_in};
 use std::alloc::{AllocError, Global};
 use std::slice::from_ref;
 use value_sources::Asked;
@@ -72,7 +72,7 @@ pub fn tell_changes(
         is_sized: are_sized(group.people),
     };
     try_all(&mut search, group, index, edits)?;
-    put_head(items, &search, group.setting.effort);
+    put_head(items, &search, group.scenario.effort);
     let count = search.count;
     items.append(search.found);
     Ok(count > 0)
@@ -156,8 +156,8 @@ fn try_entries(
 ) -> Result<(), AllocError> {
     let alloc = search.found.alloc();
     let before = search.count;
-    for index in &entries_behind(alloc, group.setting.platform, one)? {
-        if search.count == before && !search.is_done(group.setting.effort) {
+    for index in &entries_behind(alloc, group.scenario.platform, one)? {
+        if search.count == before && !search.is_done(group.scenario.effort) {
             try_one(search, group, one, Edit::EntryFirst(*index))?;
         }
     }
@@ -176,7 +176,7 @@ fn try_edit(
         1
     };
     for one in group.people {
-        if search.is_done(group.setting.effort) {
+        if search.is_done(group.scenario.effort) {
             break;
         }
         if is_worth(edit, one, group.people, few) {
@@ -193,11 +193,11 @@ fn try_one(
     one: &Asked<'_>,
     edit: Edit,
 ) -> Result<(), AllocError> {
-    let Some(number) = group.story.deed(one.node, Deed::SetConstraints) else {
+    let Some(number) = group.story.milestone(one.node, Milestone::SetConstraints) else {
         return Ok(());
     };
     let trial = Trial {
-        setting: group.setting,
+        scenario: group.scenario,
         path: group.path,
         place: number.saturating_sub(1),
     };
@@ -216,7 +216,7 @@ fn try_change(
     let Some(value) = one.stated else {
         return Ok(());
     };
-    let heaps = trial.setting.platform.heaps();
+    let heaps = trial.scenario.platform.heaps();
     if !changes(alloc, value, edit, heaps)? {
         return Ok(());
     }
@@ -257,8 +257,8 @@ fn tell_found(
     edit: Edit,
     found: Found,
 ) -> Result<(), AllocError>
-    requires { IsPromised trial.setting.now.platform.now
-        (map call_seen trial.setting.now.calls.now) trial.place trial.path.now
+    requires { IsPromised trial.scenario.now.platform.now
+        (map call_seen trial.scenario.now.calls.now) trial.place trial.path.now
         (string_bytes found.line) }
 {
     if is_absurd(&found.line, search.is_sized) {
@@ -331,8 +331,8 @@ fn put_change(
     who: &Text,
     found: Found,
 )
-    requires { IsPromised trial.setting.now.platform.now
-        (map call_seen trial.setting.now.calls.now) trial.place trial.path.now
+    requires { IsPromised trial.scenario.now.platform.now
+        (map call_seen trial.scenario.now.calls.now) trial.place trial.path.now
         (string_bytes found.line) }
 {
     let mut words = Words::of_text(items.alloc(), who);

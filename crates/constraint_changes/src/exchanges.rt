@@ -9,7 +9,7 @@ use crate::changes::Search;
 use crate::trials::{Group, Stated, chosen_with, leaves_none, put_choice, put_line, restated};
 use domain_reasons::{are_exchanged, choices_in};
 use explanation_text::{Gathered, Words};
-use script_story::{Deed, Setting, Story, asked_in};
+use script_story::{Milestone, Scenario, Story, asked_in};
 use serde_json::Value;
 use std::alloc::{AllocError, Global};
 use value_sources::Asked;
@@ -38,7 +38,7 @@ pub(crate) fn try_exchanges(
     let mut pairs = 0usize;
     for one in group.people {
         for partner in &partners {
-            if pairs >= MOST || search.is_done(group.setting.effort) {
+            if pairs >= MOST || search.is_done(group.scenario.effort) {
                 return Ok(());
             }
             if can_matter(story, *one, *partner, index)
@@ -116,17 +116,17 @@ fn outcome_of(
     stated: &[Stated],
 ) -> Result<Option<String>, AllocError>
     ensures { IfOk result (λ said. IfSome said (λ what. IsPromisedSo
-        group.entry.setting.now.platform.now (map call_seen group.entry.setting.now.calls.now)
+        group.entry.scenario.now.platform.now (map call_seen group.entry.scenario.now.calls.now)
         group.entry.path.now (string_bytes what))) }
 {
     if leaves_none(alloc, group, search.parties, stated)? {
         return Ok(None);
     }
-    let Some(line) = outcome(alloc, group.setting, stated, group.path)? else {
+    let Some(line) = outcome(alloc, group.scenario, stated, group.path)? else {
         return Ok(None);
     };
     let path = group.story.path(group.story.root_of(partner.domain));
-    match outcome(alloc, group.setting, stated, path)? {
+    match outcome(alloc, group.scenario, stated, path)? {
         Some(_) => Ok(Some(line)),
         None => Ok(None),
     }
@@ -140,8 +140,8 @@ fn tell_exchange(
     other: Asked<'_>,
     line: String,
 ) -> Result<(), AllocError>
-    requires { IsPromisedSo group.setting.now.platform.now
-        (map call_seen group.setting.now.calls.now) group.path.now (string_bytes line) }
+    requires { IsPromisedSo group.scenario.now.platform.now
+        (map call_seen group.scenario.now.calls.now) group.path.now (string_bytes line) }
 {
     let alloc = search.found.alloc();
     let choice = choices_in(alloc, group.story, group.root, &line)?;
@@ -181,8 +181,8 @@ fn exchanged(
     let (Some(mine), Some(its)) = (one.stated, other.stated) else {
         return Ok(None);
     };
-    let first = story.deed(one.node, Deed::SetConstraints);
-    let second = story.deed(other.node, Deed::SetConstraints);
+    let first = story.milestone(one.node, Milestone::SetConstraints);
+    let second = story.milestone(other.node, Milestone::SetConstraints);
     let (Some(first), Some(second)) = (first, second) else {
         return Ok(None);
     };
@@ -206,14 +206,14 @@ fn add_stated(stated: &mut Vec<Stated>, number: usize, value: &Value) -> Result<
 /// What the domain at a path becomes where calls state these constraints, if it is chosen then.
 fn outcome(
     alloc: Global,
-    setting: &Setting<'_>,
+    scenario: &Scenario<'_>,
     stated: &[Stated],
     path: &str,
 ) -> Result<Option<String>, AllocError>
     ensures { IfOk result (λ said. IfSome said (λ what. IsPromisedSo
-        setting.now.platform.now (map call_seen setting.now.calls.now) path.now
+        scenario.now.platform.now (map call_seen scenario.now.calls.now) path.now
         (string_bytes what))) }
 {
-    let calls = restated(alloc, setting.calls, stated)?;
-    chosen_with(alloc, setting, &calls, path)
+    let calls = restated(alloc, scenario.calls, stated)?;
+    chosen_with(alloc, scenario, &calls, path)
 }

@@ -17,7 +17,7 @@ use crate::walk::Walk;
 use constraint_edits::{Amount, Edit, Halving, changes, is_absurd};
 use domain_reasons::choices_in;
 use explanation_text::{Gathered, Items, Text, Words};
-use script_story::Deed;
+use script_story::Milestone;
 use serde_json::Value;
 use std::alloc::{AllocError, Global};
 use value_sources::Asked;
@@ -126,7 +126,7 @@ impl Joint<'_, '_> {
 
     fn add_parts(&self, parts: &mut Vec<Part>, edit: Edit) -> Result<(), AllocError> {
         let alloc = *parts.allocator();
-        let heaps = self.group.setting.platform.heaps();
+        let heaps = self.group.scenario.platform.heaps();
         for (person, one) in self.group.people.iter().enumerate() {
             let Some(value) = one.stated else {
                 continue;
@@ -301,7 +301,7 @@ impl Joint<'_, '_> {
         if let Some(place) = shelf.place_of(person, &own) {
             return Ok(Some(place));
         }
-        let heaps = self.group.setting.platform.heaps();
+        let heaps = self.group.scenario.platform.heaps();
         match asked_with(alloc, one, &own, heaps)? {
             Some(asked) => Ok(Some(shelf.keep(person, own, asked)?)),
             None => Ok(None),
@@ -397,8 +397,8 @@ impl Joint<'_, '_> {
     /// What the domain becomes by some changes, if it is chosen then with a row that may be meant.
     fn outcome(&self, alloc: Global, parts: &[Part]) -> Result<Option<String>, AllocError>
         ensures { IfOk result (λ said. IfSome said (λ what. IsPromisedSo
-            self.now.group.setting.now.platform.now
-            (map call_seen self.now.group.setting.now.calls.now)
+            self.now.group.scenario.now.platform.now
+            (map call_seen self.now.group.scenario.now.calls.now)
             self.now.group.path.now (string_bytes what))) }
     {
         if self.leave_none_after(alloc, parts)? {
@@ -411,12 +411,12 @@ impl Joint<'_, '_> {
     /// The same where participants state this.
     fn outcome_of(&self, alloc: Global, stated: &[Stated]) -> Result<Option<String>, AllocError>
         ensures { IfOk result (λ said. IfSome said (λ what. IsPromisedSo
-            self.now.group.setting.now.platform.now
-            (map call_seen self.now.group.setting.now.calls.now)
+            self.now.group.scenario.now.platform.now
+            (map call_seen self.now.group.scenario.now.calls.now)
             self.now.group.path.now (string_bytes what))) }
     {
-        let calls = restated(alloc, self.group.setting.calls, stated)?;
-        match chosen_with(alloc, self.group.setting, &calls, self.group.path)? {
+        let calls = restated(alloc, self.group.scenario.calls, stated)?;
+        match chosen_with(alloc, self.group.scenario, &calls, self.group.path)? {
             Some(line) if !is_absurd(&line, false) => Ok(Some(line)),
             _ => Ok(None),
         }
@@ -455,12 +455,15 @@ impl Joint<'_, '_> {
         let Some(one) = self.group.people.get(person) else {
             return Ok(());
         };
-        let number = self.group.story.deed(one.node, Deed::SetConstraints);
+        let number = self
+            .group
+            .story
+            .milestone(one.node, Milestone::SetConstraints);
         let (Some(number), Some(value)) = (number, one.stated) else {
             return Ok(());
         };
         let place = number.saturating_sub(1);
-        let heaps = self.group.setting.platform.heaps();
+        let heaps = self.group.scenario.platform.heaps();
         let value = after(stated.alloc(), value, person, parts, heaps)?;
         stated.add(Stated { place, value });
         Ok(())
@@ -509,7 +512,7 @@ impl Joint<'_, '_> {
         let Some(value) = one.stated else {
             return Ok(());
         };
-        let heaps = self.group.setting.platform.heaps();
+        let heaps = self.group.scenario.platform.heaps();
         let now = after(alloc, value, part.person, earlier, heaps)?;
         let Some(change) = part.changed(alloc, &now, heaps)? else {
             return Ok(());

@@ -3,7 +3,7 @@
 use explanation_text::wording::put_count;
 use explanation_text::{Gathered, Items, Text, Words};
 use script_reading::Act;
-use script_story::{Deed, Domain, Story, put_domain};
+use script_story::{Domain, Milestone, Story, put_domain};
 use std::alloc::{AllocError, Global};
 use sysmem_tree::NodeKind;
 
@@ -188,7 +188,7 @@ fn what_of(
 fn put_what(text: &mut Words, story: &Story<'_>, node: usize, kind: NodeKind) {
     let (what, origin) = match kind {
         NodeKind::Token => ("token", story.maker(node)),
-        NodeKind::Collection => ("collection", story.deed(node, Deed::Bind)),
+        NodeKind::Collection => ("collection", story.milestone(node, Milestone::Bind)),
         NodeKind::Group => ("group", story.maker(node)),
     };
     text.put(what).put(" of ");
@@ -258,7 +258,7 @@ fn help_after(
     if is_set && kind == NodeKind::Token {
         words.put("bind it before call ").call(number);
     } else if is_set && story.kind_before(node, number) == NodeKind::Token {
-        let bound = story.deed(node, Deed::Bind).unwrap_or(0);
+        let bound = story.milestone(node, Milestone::Bind).unwrap_or(0);
         words.put("move call ").call(number);
         words
             .put(" after call ")

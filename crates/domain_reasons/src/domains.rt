@@ -7,7 +7,7 @@ use crate::failing::{tell_failed, tell_none, tell_too_many};
 use explanation_text::wording::put_few;
 use explanation_text::{Gathered, Items, Kind, Text, Words};
 use negotiation_inputs::Platform;
-use script_story::{Deed, Domain, Story, asked_in, put_domain};
+use script_story::{Domain, Milestone, Story, asked_in, put_domain};
 use std::alloc::{AllocError, Global};
 use value_sources::Asked;
 
@@ -100,7 +100,7 @@ fn note_usage(items: &mut Items, story: &Story<'_>, one: Asked<'_>) -> Result<()
     let Some(usage) = usage_meant(story, one) else {
         return Ok(());
     };
-    let number = setting(story, one);
+    let number = number_of_setting(story, one);
     if usages_of(story, number).is_none() || states_usage(story, one, usage) {
         return Ok(());
     }
@@ -113,8 +113,10 @@ fn note_usage(items: &mut Items, story: &Story<'_>, one: Asked<'_>) -> Result<()
 }
 
 /// The call by which a participant set its constraints, by number.
-fn setting(story: &Story<'_>, one: Asked<'_>) -> usize {
-    story.deed(one.node, Deed::SetConstraints).unwrap_or(0)
+fn number_of_setting(story: &Story<'_>, one: Asked<'_>) -> usize {
+    story
+        .milestone(one.node, Milestone::SetConstraints)
+        .unwrap_or(0)
 }
 
 /// The first, of all domains, with whom the constraints of a participant may be exchanged.
@@ -142,14 +144,17 @@ fn note_of(
     other: Option<Asked<'_>>,
 ) -> Words {
     let mut words = Words::of_name(alloc, one.called());
-    words.put(" (call ").call(setting(story, one));
+    words.put(" (call ").call(number_of_setting(story, one));
     words.put(") doesn't state usage ").put(usage);
     words.put(": are these the constraints that are meant for it?");
     if let Some(other) = other {
         words
             .put(" They may be exchanged with those of ")
             .name(other.called());
-        words.put(" (call ").call(setting(story, other)).put(")");
+        words
+            .put(" (call ")
+            .call(number_of_setting(story, other))
+            .put(")");
     }
     words
 }
@@ -176,7 +181,7 @@ fn who_text(alloc: Global, story: &Story<'_>, people: &[Asked<'_>]) -> Words {
 fn who(alloc: Global, story: &Story<'_>, node: usize) -> Words {
     let mut words = Words::of_name(alloc, story.called(node));
     words.put(" ").put(story.path(node));
-    if let Some(number) = story.deed(node, Deed::SetConstraints) {
+    if let Some(number) = story.milestone(node, Milestone::SetConstraints) {
         put_setter(&mut words, story, node, number);
         put_usage(&mut words, story, number);
         words.put(")");
@@ -187,7 +192,7 @@ fn who(alloc: Global, story: &Story<'_>, node: usize) -> Words {
 /// Puts who set a node's constraints after a text, and who bound it where that is somebody else.
 fn put_setter(text: &mut Words, story: &Story<'_>, node: usize, number: usize) {
     let setter = story.actor(number);
-    match story.deed(node, Deed::Bind) {
+    match story.milestone(node, Milestone::Bind) {
         Some(bound) if story.actor(bound) != setter => {
             let binder = story.actor(bound);
             text.put(" (bound by ")

@@ -1,7 +1,7 @@
 //! Participants whose constraints seem to be each other's.
 
 use script_reading::Act;
-use script_story::{Deed, Story};
+use script_story::{Milestone, Story};
 use serde_json::Value;
 use value_sources::Asked;
 
@@ -17,7 +17,9 @@ fn usage_of(name: &str) -> Option<&'static str> {
 
 /// The usage that is expected of a participant.
 pub(crate) fn usage_meant(story: &Story<'_>, one: Asked<'_>) -> Option<&'static str> {
-    let number = story.deed(one.node, Deed::SetConstraints).unwrap_or(0);
+    let number = story
+        .milestone(one.node, Milestone::SetConstraints)
+        .unwrap_or(0);
     usage_of(one.name).or(usage_of(story.actor(number)))
 }
 
@@ -36,7 +38,9 @@ pub(crate) fn usages_of<'a>(story: &Story<'a>, number: usize) -> Option<&'a [Val
 
 /// Whether a participant states a usage.
 pub(crate) fn states_usage(story: &Story<'_>, one: Asked<'_>, usage: &str) -> bool {
-    let number = story.deed(one.node, Deed::SetConstraints).unwrap_or(0);
+    let number = story
+        .milestone(one.node, Milestone::SetConstraints)
+        .unwrap_or(0);
     for known in usages_of(story, number).unwrap_or(&[]) {
         if known.as_str() == Some(usage) {
             return true;

@@ -7,7 +7,7 @@ use explanation_text::wording::{MOST_NAMES, put_few};
 use explanation_text::{Gathered, Items, Name, Text, Words};
 use negotiation_inputs::Platform;
 use script_reading::Act;
-use script_story::{Deed, Domain, Made, Story, asked_in, left_out};
+use script_story::{Domain, Made, Milestone, Story, asked_in, left_out};
 use settings_reasons::{failing, tell_misfits};
 use std::alloc::{AllocError, Global};
 use sysmem_counts::Field;
@@ -268,7 +268,10 @@ fn add_open<'a>(
     number: usize,
 ) -> Result<(), AllocError> {
     for one in &asked_in(accepted.alloc(), story, index, true)? {
-        if story.deed_before(one.node, Deed::End, number).is_none() {
+        if story
+            .milestone_before(one.node, Milestone::End, number)
+            .is_none()
+        {
             accepted.add(*one);
         }
     }

@@ -5,7 +5,7 @@ use explanation_text::wording::{mark_after, put_visible};
 use explanation_text::{Item, Items, Kind, Words, begins_character, line_of};
 use script_faults::{Document, tell_fault};
 use script_reading::{ParseFault, Script, ScriptFault, parse_script, read_script};
-use script_story::{Effort, Setting, story_of};
+use script_story::{Effort, Scenario, story_of};
 use std::alloc::{AllocError, Global};
 use sysmem_counts::Field;
 use sysmem_formats::{Modifier, PixelFormat};
@@ -270,12 +270,12 @@ fn tell_script<'a>(
 ) -> Result<(), AllocError> {
     let alloc = items.alloc();
     let effort = Effort::new();
-    let setting = Setting {
+    let scenario = Scenario {
         platform: &script.platform,
         calls: &script.calls,
         effort: &effort,
     };
-    let told = setting.tell(alloc, &script.calls)?;
+    let told = scenario.tell(alloc, &script.calls)?;
     if told.report.starved {
         return Err(AllocError);
     }

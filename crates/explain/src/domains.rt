@@ -10,21 +10,21 @@ use other_outcomes::{
     tell_without,
 };
 use script_faults::Document;
-use script_story::{Setting, Story, asked_in};
+use script_story::{Scenario, Story, asked_in};
 use std::alloc::AllocError;
 
 /// Tells each domain, in the order of the report.
 pub(crate) fn tell_domains(
     items: &mut Items,
     document: &Document<'_>,
-    setting: &Setting<'_>,
+    scenario: &Scenario<'_>,
     story: &Story<'_>,
 ) -> Result<(), AllocError> {
     for (k, index) in story.order.iter().enumerate() {
         if !story.order.get(..k).unwrap_or(&[]).contains(index) {
-            tell_domain(items, setting.platform, story, *index)?;
-            tell_unused(items, document, setting, story, *index)?;
-            tell_help(items, document, setting, story, *index)?;
+            tell_domain(items, scenario.platform, story, *index)?;
+            tell_unused(items, document, scenario, story, *index)?;
+            tell_help(items, document, scenario, story, *index)?;
         }
     }
     Ok(())
@@ -35,7 +35,7 @@ pub(crate) fn tell_domains(
 fn tell_help(
     items: &mut Items,
     document: &Document<'_>,
-    setting: &Setting<'_>,
+    scenario: &Scenario<'_>,
     story: &Story<'_>,
     index: usize,
 ) -> Result<(), AllocError> {
@@ -45,16 +45,16 @@ fn tell_help(
     let path = story.path(domain.root);
     match domain.verdict() {
         "pending" => {
-            tell_then(items, setting, story, path)?;
-            tell_without(items, setting, story, index, path)
+            tell_then(items, scenario, story, path)?;
+            tell_without(items, scenario, story, index, path)
         }
         "empty" => {
-            tell_ended_later(items, setting, story, index, path)?;
-            tell_edits(items, document, setting, story, index)
+            tell_ended_later(items, scenario, story, index, path)?;
+            tell_edits(items, document, scenario, story, index)
         }
         "chosen" => {
-            tell_later_children(items, setting, story, index, path)?;
-            tell_later_pairs(items, setting, story, index, path)
+            tell_later_children(items, scenario, story, index, path)?;
+            tell_later_pairs(items, scenario, story, index, path)
         }
         _ => Ok(()),
     }
@@ -65,12 +65,12 @@ fn tell_help(
 fn tell_edits(
     items: &mut Items,
     document: &Document<'_>,
-    setting: &Setting<'_>,
+    scenario: &Scenario<'_>,
     story: &Story<'_>,
     index: usize,
 ) -> Result<(), AllocError> {
     let alloc = items.alloc();
-    let platform = setting.platform;
+    let platform = scenario.platform;
     let people = asked_in(alloc, story, index, false)?;
     let edits = edits_on(
         alloc,
@@ -81,7 +81,7 @@ fn tell_edits(
     let root = story.root_of(index);
     let group = Group {
         document,
-        setting,
+        scenario,
         story,
         path: story.path(root),
         root,
@@ -90,6 +90,6 @@ fn tell_edits(
     if !tell_changes(items, group, index, &edits)? {
         tell_together(items, group, &edits)?;
     }
-    tell_platform(items, setting, group.path, &people)?;
-    tell_heaps(items, setting, group.path, &people)
+    tell_platform(items, scenario, group.path, &people)?;
+    tell_heaps(items, scenario, group.path, &people)
 }

@@ -10,8 +10,8 @@ use constraint_changes::{Trial, entry_place, line_at, put_choice, takes};
 use constraint_edits::{Edit, edited};
 use domain_reasons::choices_in;
 use explanation_text::{Items, Step, Words};
-use script_faults::{Document, Part};
-use script_story::{Deed, Setting, Story, asked_in};
+use script_faults::{Document, RecordPart};
+use script_story::{Milestone, Scenario, Story, asked_in};
 use serde_json::Value;
 use settings_reasons::{holder_of, unused_entries};
 use std::alloc::{AllocError, Global};
@@ -29,7 +29,7 @@ const ENTRIES: &str = "image_format_constraints";
 pub(crate) fn tell_unused(
     items: &mut Items,
     document: &Document<'_>,
-    setting: &Setting<'_>,
+    scenario: &Scenario<'_>,
     story: &Story<'_>,
     index: usize,
 ) -> Result<(), AllocError> {
@@ -39,7 +39,7 @@ pub(crate) fn tell_unused(
     }
     let people = asked_in(items.alloc(), story, index, verdict == "chosen")?;
     for one in &people {
-        tell_of(items, &*document, &*setting, &*story, index, one)?;
+        tell_of(items, &*document, &*scenario, &*story, index, one)?;
     }
     Ok(())
 }
@@ -48,18 +48,20 @@ pub(crate) fn tell_unused(
 fn tell_of<'a, 'b>(
     items: &mut Items,
     document: &'b Document<'a>,
-    setting: &'b Setting<'a>,
+    scenario: &'b Scenario<'a>,
     story: &'b Story<'a>,
     index: usize,
     one: &'b Asked<'a>,
 ) -> Result<(), AllocError> {
     let teller = Teller {
         document,
-        setting,
+        scenario,
         story,
         index,
         one,
-        number: story.deed(one.node, Deed::SetConstraints).unwrap_or(0),
+        number: story
+            .milestone(one.node, Milestone::SetConstraints)
+            .unwrap_or(0),
     };
     teller.tell(items)
 }
@@ -85,7 +87,7 @@ fn told_of<'a>(story: &Story<'a>, index: usize) -> &'a str {
 #[derive(Clone, Copy)]
 struct Teller<'a, 'b> {
     document: &'b Document<'a>,
-    setting: &'b Setting<'a>,
+    scenario: &'b Scenario<'a>,
     story: &'b Story<'a>,
     index: usize,
     one: &'b Asked<'a>,
@@ -105,7 +107,7 @@ impl Teller<'_, '_> {
         let entries = self.one.asked.entries();
         let mut tried: Vec<usize> = Vec::new(alloc);
         let mut told = 0usize;
-        for index in &unused_entries(alloc, self.setting.platform, entries)? {
+        for index in &unused_entries(alloc, self.scenario.platform, entries)? {
             let Some(holder) = self.holder_of(*index) else {
                 continue;
             };
@@ -130,7 +132,7 @@ impl Teller<'_, '_> {
         let item = entry_place(self.one.stated, index).item;
         let is_own = item == entry_place(self.one.stated, holder.index).item;
         let is_chosen = verdict_of(self.story, self.index) == "chosen";
-        let is_spent = self.setting.effort.is_spent();
+        let is_spent = self.scenario.effort.is_spent();
         if is_own || !is_chosen || is_spent || tried.contains(&item) {
             return Ok(());
         }
@@ -143,7 +145,7 @@ impl Teller<'_, '_> {
         let Some(value) = self.one.stated else {
             return Ok(());
         };
-        let heaps = self.setting.platform.heaps();
+        let heaps = self.scenario.platform.heaps();
         match edited(items.alloc(), value, Edit::EntryFirst(item), heaps)? {
             Some(change) => self.tell_then(items, item, &change.value),
             None => Ok(()),
@@ -155,7 +157,7 @@ impl Teller<'_, '_> {
     fn tell_then(&self, items: &mut Items, item: usize, value: &Value) -> Result<(), AllocError> {
         let root = self.story.root_of(self.index);
         let trial = Trial {
-            setting: self.setting,
+            scenario: self.scenario,
             path: self.story.path(root),
             place: self.number.saturating_sub(1),
         };
@@ -192,7 +194,7 @@ impl Teller<'_, '_> {
     /// it.
     fn holder_of(&self, index: usize) -> Option<Holder> {
         let entry = self.one.asked.entries().get(index)?;
-        for pair in self.setting.platform.pairs() {
+        for pair in self.scenario.platform.pairs() {
             if takes(entry, *pair) {
                 let index = holder_of(self.one.asked.entries(), *pair)?;
                 return Some(Holder { index, pair: *pair });
@@ -233,7 +235,7 @@ impl Teller<'_, '_> {
             Step::Key(ENTRIES),
             Step::Item(place.item),
         ];
-        match line_at(text.alloc(), self.document, &path, Part::Value) {
+        match line_at(text.alloc(), self.document, &path, RecordPart::Value) {
             Ok(Some(line)) => {
                 text.put(", line ").put_number(line).put(")");
             }
@@ -247,8 +249,8 @@ impl Teller<'_, '_> {
 
 /// Puts the decision that comes with an entry first.
 fn put_promised(items: &mut Items, trial: Trial<'_, '_>, line: String)
-    requires { IsPromised trial.setting.now.platform.now
-        (map call_seen trial.setting.now.calls.now) trial.place trial.path.now
+    requires { IsPromised trial.scenario.now.platform.now
+        (map call_seen trial.scenario.now.calls.now) trial.place trial.path.now
         (string_bytes line) }
 {
     items.promise(2, line)

@@ -16,7 +16,7 @@ use explanation_text::{
 use other_outcomes::tell_moved;
 use script_faults::{Document, Whole, tell_fault, tell_no_json};
 use script_reading::{ParseFault, Script, ScriptFault, parse_script, read_script};
-use script_story::{Effort, Setting, Story, refused_calls, story_of, tell_refused};
+use script_story::{Effort, Scenario, Story, refused_calls, story_of, tell_refused};
 use serde_json::Value;
 use std::alloc::{AllocError, Global};
 
@@ -221,17 +221,17 @@ fn explain_script<'a>(
         (λ text. IsToldBy (item_texts told.items.items) (string_bytes text))) }
 {
     let effort = Effort::new();
-    let setting = Setting {
+    let scenario = Scenario {
         platform: &script.platform,
         calls: &script.calls,
         effort: &effort,
     };
-    let told = setting.tell(alloc, &script.calls)?;
+    let told = scenario.tell(alloc, &script.calls)?;
     if told.report.starved {
         return Err(AllocError);
     }
     let story = story_of(alloc, document.value, &script.calls, &told)?;
-    let items = story_items(alloc, &document, &setting, &story)?;
+    let items = story_items(alloc, &document, &scenario, &story)?;
     let played = Some(Played {
         story: &story,
         platform: &script.platform,
@@ -244,11 +244,11 @@ fn explain_script<'a>(
 fn story_items(
     alloc: Global,
     document: &Document<'_>,
-    setting: &Setting<'_>,
+    scenario: &Scenario<'_>,
     story: &Story<'_>,
 ) -> Result<Vec<Item>, AllocError> {
     let mut items = Items::new(alloc);
-    tell_story(&mut items, document, setting, story)?;
+    tell_story(&mut items, document, scenario, story)?;
     with_lines(alloc, document, story, items.into_list()?)
 }
 
@@ -256,14 +256,14 @@ fn story_items(
 fn tell_story(
     items: &mut Items,
     document: &Document<'_>,
-    setting: &Setting<'_>,
+    scenario: &Scenario<'_>,
     story: &Story<'_>,
 ) -> Result<(), AllocError> {
     items.push(Kind::Answer, 0, "", answer_of(items.alloc(), story));
     tell_repeats(items, document)?;
     tell_calls(items, document, story)?;
-    tell_moved(items, setting, document.value, story)?;
-    tell_domains(items, document, setting, story)
+    tell_moved(items, scenario, document.value, story)?;
+    tell_domains(items, document, scenario, story)
 }
 
 /// Tells which calls were refused, and what comes once the texts in them are corrected that nearly

@@ -1,8 +1,8 @@
 //! Where the fields stand in the script's text that the section of an empty domain names.
 
 use explanation_text::{Item, Kind, Step, Text, Thing, Words, line_of};
-use script_faults::{Document, Part, Whole};
-use script_story::{Deed, Story};
+use script_faults::{Document, RecordPart, Whole};
+use script_story::{Milestone, Story};
 use std::alloc::{AllocError, Global};
 use sysmem_counts::Field;
 
@@ -133,7 +133,7 @@ fn rows_of(
         if known.domain != domain || rows.len() >= MOST || !is_named(told, Thing::Node(node)) {
             continue;
         }
-        if let Some(number) = story.deed(node, Deed::SetConstraints) {
+        if let Some(number) = story.milestone(node, Milestone::SetConstraints) {
             let lines = lines_of(alloc, document, &fields, number)?;
             if !lines.is_empty() {
                 let mut text = Words::of_name(alloc, story.called(node));
@@ -175,7 +175,7 @@ fn lines_of(
         Step::Item(call),
         Step::Key("constraints"),
     ];
-    let span = document.span(alloc, &path, Part::Value)?;
+    let span = document.span(alloc, &path, RecordPart::Value)?;
     let (Some(value), Some(span)) = (document.at(&path), span) else {
         return Ok(Text::new(alloc));
     };
@@ -224,7 +224,7 @@ fn put_line(
     if record.at(path).is_none() {
         return;
     }
-    let span = match record.span(text.alloc(), path, Part::Key) {
+    let span = match record.span(text.alloc(), path, RecordPart::Key) {
         Ok(Some(span)) => span,
         Ok(None) => return,
         Err(AllocError) => return text.refuse(),

@@ -4,7 +4,7 @@ ghost use Rattle.std.specs.Prelude.{ℕ, List, IfOk};
 ghost use Rattle.serde_json.specs.View.{view};
 ghost use Rattle.mezulobu.specs.Explains.{ExplanationSays, HasFault, IsFaultOf};
 
-use crate::told::Told;
+use crate::told::Answer;
 use crate::{DONE, NO, REFUSED};
 use explain::{Outcome, Outputs, explain};
 use script_reading::{ParseFault, ScriptFault, parse_script, read_script};
@@ -27,7 +27,7 @@ pub(crate) fn explanation_told(
     file: &[u8],
     is_json: bool,
     is_strict: bool,
-) -> Result<Told, AllocError>
+) -> Result<Answer, AllocError>
     ensures { IfOk result (λ told.
         ExplanationSays script.now is_strict told.status told.text.items) }
 {
@@ -84,17 +84,17 @@ fn explained_of(
 
 /// What is told of a script that has this fault, or none.
 #[tactic(auto, using(crate::proofs::Explanations::says_fault, crate::proofs::Explanations::says_no, crate::proofs::Explanations::says_done))]
-fn told_explained(fault: Option<ScriptFault>, explained: Explained, is_strict: bool) -> Told
+fn told_explained(fault: Option<ScriptFault>, explained: Explained, is_strict: bool) -> Answer
     ensures { (script : List ℕ) → HasFault script fault
         → ExplanationSays script is_strict result.status result.text.items }
 {
     let Explained { is_faulty, text } = explained;
     match fault {
-        Some(_) => Told {
+        Some(_) => Answer {
             status: REFUSED,
             text,
         },
-        None if is_strict && is_faulty => Told { status: NO, text },
-        None => Told { status: DONE, text },
+        None if is_strict && is_faulty => Answer { status: NO, text },
+        None => Answer { status: DONE, text },
     }
 }

@@ -4,7 +4,7 @@ ghost use Rattle.std.specs.Prelude.{◌≡◌, None, IfOk, IfSome};
 ghost use Rattle.mezulobu.specs.Ends.{Ends};
 ghost use Rattle.mezulobu.specs.RecordFaults.{FaultSays, kind_at};
 
-use crate::told::Told;
+use crate::told::Answer;
 use crate::{DONE, MISUSED, NO, NO_MEMORY, TOO_SMALL};
 use caller_buffers::hand_out;
 use script_faults::{RecordKind, record_fault};
@@ -70,15 +70,15 @@ fn hand_out_fault(
 
 /// What is said of a record. It fails where memory is refused.
 #[tactic(auto, using(crate::proofs::RecordSayings::says_fault, crate::proofs::RecordSayings::says_none))]
-fn fault_told(alloc: Global, whose: RecordKind, bytes: &[u8]) -> Result<Told, AllocError>
+fn fault_told(alloc: Global, whose: RecordKind, bytes: &[u8]) -> Result<Answer, AllocError>
     ensures { IfOk result (λ told. FaultSays whose bytes.now told.status told.text.items) }
 {
     match record_fault(alloc, whose, bytes, FILE)? {
-        Some(words) => Ok(Told {
+        Some(words) => Ok(Answer {
             status: DONE,
             text: words.into_bytes(),
         }),
-        None => Ok(Told {
+        None => Ok(Answer {
             status: NO,
             text: Vec::new(alloc),
         }),

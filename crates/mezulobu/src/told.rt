@@ -17,14 +17,14 @@ use std::alloc::{AllocError, Global};
 
 /// A status, and the text for the caller.
 #[derive(Drop)]
-pub(crate) struct Told {
+pub(crate) struct Answer {
     pub status: u32,
     pub text: Vec<u8>,
 }
 
 /// The same with a certificate.
 #[derive(Drop)]
-pub(crate) struct ProvedTold {
+pub(crate) struct CertifiedAnswer {
     pub status: u32,
     pub text: Vec<u8>,
     pub certificate: Vec<u8>,
@@ -32,7 +32,7 @@ pub(crate) struct ProvedTold {
 
 /// How a run or a check ended, and what it wrote.
 #[derive(Drop)]
-struct Made {
+struct TextRun {
     ended: Result<Ended, RunFault>,
     text: Vec<u8>,
 }
@@ -46,14 +46,14 @@ struct ProvedMade {
 }
 
 /// What a run says. It fails where memory is refused.
-pub(crate) fn run_told(alloc: Global, script: &[u8]) -> Result<Told, AllocError>
+pub(crate) fn run_told(alloc: Global, script: &[u8]) -> Result<Answer, AllocError>
     ensures { IfOk result (λ told. RunSays script.now told.status told.text.items) }
 {
     told_run(alloc, run_made(alloc, script))
 }
 
 /// What a run says, with its certificate. It fails where memory is refused.
-pub(crate) fn proved_run_told(alloc: Global, script: &[u8]) -> Result<ProvedTold, AllocError>
+pub(crate) fn proved_run_told(alloc: Global, script: &[u8]) -> Result<CertifiedAnswer, AllocError>
     ensures { IfOk result (λ told.
         ProvedRunSays script.now told.status told.text.items told.certificate.items) }
 {
@@ -65,20 +65,20 @@ pub(crate) fn check_told(
     alloc: Global,
     script: &[u8],
     certificate: &[u8],
-) -> Result<Told, AllocError>
+) -> Result<Answer, AllocError>
     ensures { IfOk result (λ told.
         CheckSays script.now certificate.now told.status told.text.items) }
 {
     told_check(alloc, check_made(alloc, script, certificate))
 }
 
-fn run_made(alloc: Global, script: &[u8]) -> Made
+fn run_made(alloc: Global, script: &[u8]) -> TextRun
     ensures { Ran result.ended (Some script.now) (Some []) (Some result.text.items) }
 {
     let mut reader = Counted::new(script);
     let mut writer = Counted::new(Vec::new(alloc));
     let ended = run(alloc, &mut reader, &mut writer);
-    Made {
+    TextRun {
         ended,
         text: writer.inner,
     }
@@ -99,7 +99,7 @@ fn proved_run_made(alloc: Global, script: &[u8]) -> ProvedMade
     }
 }
 
-fn check_made(alloc: Global, script: &[u8], certificate: &[u8]) -> Made
+fn check_made(alloc: Global, script: &[u8], certificate: &[u8]) -> TextRun
     ensures { HasChecked result.ended (Some script.now) (Some certificate.now)
         (Some []) (Some result.text.items) }
 {
@@ -107,7 +107,7 @@ fn check_made(alloc: Global, script: &[u8], certificate: &[u8]) -> Made
     let mut proof = Counted::new(certificate);
     let mut writer = Counted::new(Vec::new(alloc));
     let ended = check_file(alloc, &mut reader, &mut proof, &mut writer);
-    Made {
+    TextRun {
         ended,
         text: writer.inner,
     }
@@ -115,18 +115,18 @@ fn check_made(alloc: Global, script: &[u8], certificate: &[u8]) -> Made
 
 /// A run that is done is told without more memory.
 #[tactic(auto, using(crate::proofs::Sayings::run_done, crate::proofs::Sayings::run_refused))]
-fn told_run(alloc: Global, made: Made) -> Result<Told, AllocError>
+fn told_run(alloc: Global, made: TextRun) -> Result<Answer, AllocError>
     ensures says { (script : List ℕ)
         → Ran made.ended (Some script) (Some []) (Some made.text.items)
         → IfOk result (λ told. RunSays script told.status told.text.items) }
     ensures done { made.ended ≡ Ok Done → IsOkAnd result (λ told. told.status ≡ 0) }
 {
     match made.ended {
-        Ok(Ended::Done) => Ok(Told {
+        Ok(Ended::Done) => Ok(Answer {
             status: DONE,
             text: made.text,
         }),
-        Err(RunFault::Script(fault)) => Ok(Told {
+        Err(RunFault::Script(fault)) => Ok(Answer {
             status: REFUSED,
             text: fault_words(alloc, fault)?,
         }),
@@ -136,7 +136,7 @@ fn told_run(alloc: Global, made: Made) -> Result<Told, AllocError>
 
 /// A run that is done is told without more memory.
 #[tactic(auto, using(crate::proofs::Sayings::proved_done, crate::proofs::Sayings::proved_refused))]
-fn told_proved_run(alloc: Global, made: ProvedMade) -> Result<ProvedTold, AllocError>
+fn told_proved_run(alloc: Global, made: ProvedMade) -> Result<CertifiedAnswer, AllocError>
     ensures says { (script : List ℕ) → RanWithProof made.ended (Some script)
         (Some []) (Some made.text.items) (Some []) (Some made.certificate.items)
         → IfOk result (λ told.
@@ -144,12 +144,12 @@ fn told_proved_run(alloc: Global, made: ProvedMade) -> Result<ProvedTold, AllocE
     ensures done { made.ended ≡ Ok Done → IsOkAnd result (λ told. told.status ≡ 0) }
 {
     match made.ended {
-        Ok(Ended::Done) => Ok(ProvedTold {
+        Ok(Ended::Done) => Ok(CertifiedAnswer {
             status: DONE,
             text: made.text,
             certificate: made.certificate,
         }),
-        Err(RunFault::Script(fault)) => Ok(ProvedTold {
+        Err(RunFault::Script(fault)) => Ok(CertifiedAnswer {
             status: REFUSED,
             text: fault_words(alloc, fault)?,
             certificate: Vec::new(alloc),
@@ -160,7 +160,7 @@ fn told_proved_run(alloc: Global, made: ProvedMade) -> Result<ProvedTold, AllocE
 
 /// A check that is done is told without more memory.
 #[tactic(auto, using(crate::proofs::Sayings::check_yes, crate::proofs::Sayings::check_no, crate::proofs::Sayings::check_refused, crate::proofs::Sayings::check_unread))]
-fn told_check(alloc: Global, made: Made) -> Result<Told, AllocError>
+fn told_check(alloc: Global, made: TextRun) -> Result<Answer, AllocError>
     ensures says { (script certificate : List ℕ)
         → HasChecked made.ended (Some script) (Some certificate) (Some []) (Some made.text.items)
         → IfOk result (λ told. CheckSays script certificate told.status told.text.items) }
@@ -168,19 +168,19 @@ fn told_check(alloc: Global, made: Made) -> Result<Told, AllocError>
     ensures no { made.ended ≡ Ok CheckedNo → IsOkAnd result (λ told. told.status ≡ 6) }
 {
     match made.ended {
-        Ok(Ended::Done) => Ok(Told {
+        Ok(Ended::Done) => Ok(Answer {
             status: DONE,
             text: made.text,
         }),
-        Ok(Ended::CheckedNo) => Ok(Told {
+        Ok(Ended::CheckedNo) => Ok(Answer {
             status: NO,
             text: made.text,
         }),
-        Err(RunFault::Script(fault)) => Ok(Told {
+        Err(RunFault::Script(fault)) => Ok(Answer {
             status: REFUSED,
             text: fault_words(alloc, fault)?,
         }),
-        Err(RunFault::Proof) => Ok(Told {
+        Err(RunFault::Proof) => Ok(Answer {
             status: REFUSED,
             text: Vec::from_slice(alloc, b"proof refused")?,
         }),

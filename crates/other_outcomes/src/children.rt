@@ -7,7 +7,7 @@ ghost use Rattle.other_outcomes.specs.Exchanged.{IsPromisedExchanged, on_other};
 use crate::pending::place_of;
 use explanation_text::{Gathered, Items, Words};
 use script_reading::Call;
-use script_story::{Made, Setting, Story, first_word};
+use script_story::{Made, Scenario, Story, first_word};
 use std::alloc::{AllocError, Global};
 
 /// How many children are tried.
@@ -26,14 +26,14 @@ struct Siblings {
 /// decided if they stood in its place, where they would be chosen then.
 pub fn tell_later_children(
     items: &mut Items,
-    setting: &Setting<'_>,
+    scenario: &Scenario<'_>,
     story: &Story<'_>,
     index: usize,
     path: &str,
 ) -> Result<(), AllocError> {
     let pairs = siblings_in(items.alloc(), story, index)?;
     for pair in pairs.iter().take(MOST) {
-        tell_exchanged(items, setting, story, *pair, path)?;
+        tell_exchanged(items, scenario, story, *pair, path)?;
     }
     Ok(())
 }
@@ -42,16 +42,16 @@ pub fn tell_later_children(
 /// be chosen then.
 fn tell_exchanged(
     items: &mut Items,
-    setting: &Setting<'_>,
+    scenario: &Scenario<'_>,
     story: &Story<'_>,
     pair: Siblings,
     path: &str,
 ) -> Result<(), AllocError> {
-    let Some(line) = outcome_with(items.alloc(), setting, story, pair, path)? else {
+    let Some(line) = outcome_with(items.alloc(), scenario, story, pair, path)? else {
         return Ok(());
     };
     say_exchanged(items, story, pair);
-    put_promised(items, setting, path, line);
+    put_promised(items, scenario, path, line);
     Ok(())
 }
 
@@ -114,13 +114,13 @@ fn add_siblings(
 /// created, if the later one would be chosen then.
 fn outcome_with(
     alloc: Global,
-    setting: &Setting<'_>,
+    scenario: &Scenario<'_>,
     story: &Story<'_>,
     pair: Siblings,
     path: &str,
 ) -> Result<Option<String>, AllocError>
     ensures { IfOk result (λ said. IfSome said (λ what. IsPromisedExchanged
-        setting.now.platform.now setting.now.calls.now path.now (string_bytes what))) }
+        scenario.now.platform.now scenario.now.calls.now path.now (string_bytes what))) }
 {
     let a = place_of(story, Some(pair.first));
     let b = place_of(story, Some(pair.second));
@@ -128,7 +128,7 @@ fn outcome_with(
     if is_called(between, a) {
         return Ok(None);
     }
-    match outcome_exchanged(alloc, setting, a, b, path)? {
+    match outcome_exchanged(alloc, scenario, a, b, path)? {
         Some(line) if is_now(story, pair, choices_of(&line)) => Ok(Some(line)),
         _ => Ok(None),
     }
@@ -138,16 +138,16 @@ fn outcome_with(
 /// made on the other; `None` where it would say nothing, and where nothing more is to be tried.
 fn outcome_exchanged(
     alloc: Global,
-    setting: &Setting<'_>,
+    scenario: &Scenario<'_>,
     a: usize,
     b: usize,
     path: &str,
 ) -> Result<Option<String>, AllocError>
     ensures { IfOk result (λ said. IfSome said (λ what. IsPromisedExchanged
-        setting.now.platform.now setting.now.calls.now path.now (string_bytes what))) }
+        scenario.now.platform.now scenario.now.calls.now path.now (string_bytes what))) }
 {
-    let calls = exchanged(alloc, setting.calls, a, b)?;
-    setting.outcome(alloc, &calls, path)
+    let calls = exchanged(alloc, scenario.calls, a, b)?;
+    scenario.outcome(alloc, &calls, path)
 }
 
 /// Whether these are the choices of the domain of two children, if that is chosen.
@@ -207,8 +207,8 @@ fn on_other<'a>(call: &Call<'a>, a: usize, b: usize) -> Call<'a>
 }
 
 /// Puts the decision that comes once two names are exchanged.
-fn put_promised(items: &mut Items, setting: &Setting<'_>, path: &str, line: String)
-    requires { IsPromisedExchanged setting.now.platform.now setting.now.calls.now path.now
+fn put_promised(items: &mut Items, scenario: &Scenario<'_>, path: &str, line: String)
+    requires { IsPromisedExchanged scenario.now.platform.now scenario.now.calls.now path.now
         (string_bytes line) }
 {
     items.promise(2, line)

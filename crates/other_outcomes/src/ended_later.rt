@@ -10,7 +10,7 @@ use domain_reasons::{accepted_before, room_needed};
 use explanation_text::wording::{MOST_NAMES, mark_after, put_few};
 use explanation_text::{Gathered, Items, Words};
 use script_reading::{Act, Call};
-use script_story::{Deed, Setting, Story};
+use script_story::{Milestone, Scenario, Story};
 use std::alloc::{AllocError, Global};
 use value_sources::Asked;
 
@@ -31,7 +31,7 @@ struct End {
 /// else of all.
 pub fn tell_ended_later(
     items: &mut Items,
-    setting: &Setting<'_>,
+    scenario: &Scenario<'_>,
     story: &Story<'_>,
     index: usize,
     path: &str,
@@ -45,25 +45,25 @@ pub fn tell_ended_later(
         return Ok(());
     };
     let ends = later_ends(alloc, story, index, decided)?;
-    tell_ends(items, setting, story, &ends, decided, path)
+    tell_ends(items, scenario, story, &ends, decided, path)
 }
 
 /// Tells what the domain at a path would be if one of those ended before the call of a number; or
 /// else all; or else that they still count.
 fn tell_ends(
     items: &mut Items,
-    setting: &Setting<'_>,
+    scenario: &Scenario<'_>,
     story: &Story<'_>,
     ends: &[End],
     decided: usize,
     path: &str,
 ) -> Result<(), AllocError> {
     for end in ends {
-        if tell_before(items, setting, story, &[*end], decided, path)? {
+        if tell_before(items, scenario, story, &[*end], decided, path)? {
             return Ok(());
         }
     }
-    if ends.is_empty() || tell_before(items, setting, story, ends, decided, path)? {
+    if ends.is_empty() || tell_before(items, scenario, story, ends, decided, path)? {
         return Ok(());
     }
     items.say(1, "note", still_text(items.alloc(), story, ends));
@@ -74,17 +74,17 @@ fn tell_ends(
 /// be chosen, and says whether it would.
 fn tell_before(
     items: &mut Items,
-    setting: &Setting<'_>,
+    scenario: &Scenario<'_>,
     story: &Story<'_>,
     ends: &[End],
     decided: usize,
     path: &str,
 ) -> Result<bool, AllocError> {
-    let Some(line) = outcome_before(items.alloc(), setting, ends, decided, path)? else {
+    let Some(line) = outcome_before(items.alloc(), scenario, ends, decided, path)? else {
         return Ok(false);
     };
     put_head(items, story, ends, decided);
-    put_promised(items, setting, path, line);
+    put_promised(items, scenario, path, line);
     Ok(true)
 }
 
@@ -111,7 +111,7 @@ fn later_ends(
 /// The one of some participants whom the call of a number ends.
 fn ended_by(story: &Story<'_>, people: &[Asked<'_>], call: usize) -> Option<usize> {
     let node = story.call(call)?.node?;
-    if story.deed(node, Deed::End) != Some(call) {
+    if story.milestone(node, Milestone::End) != Some(call) {
         return None;
     }
     for one in people {
@@ -197,16 +197,16 @@ fn put_calls(text: &mut Words, ends: &[End]) {
 /// number, if it is chosen then.
 fn outcome_before(
     alloc: Global,
-    setting: &Setting<'_>,
+    scenario: &Scenario<'_>,
     ends: &[End],
     decided: usize,
     path: &str,
 ) -> Result<Option<String>, AllocError>
     ensures { IfOk result (λ said. IfSome said (λ what. IsPromisedMoved
-        setting.now.platform.now setting.now.calls.now path.now (string_bytes what))) }
+        scenario.now.platform.now scenario.now.calls.now path.now (string_bytes what))) }
 {
-    let calls = put_before(alloc, setting.calls, ends, decided)?;
-    match setting.outcome(alloc, &calls, path)? {
+    let calls = put_before(alloc, scenario.calls, ends, decided)?;
+    match scenario.outcome(alloc, &calls, path)? {
         Some(line) if line.as_str().starts_with("chosen ") => Ok(Some(line)),
         _ => Ok(None),
     }
@@ -251,8 +251,8 @@ fn carried<'a>(
 }
 
 /// Puts the decision that comes once calls are moved.
-fn put_promised(items: &mut Items, setting: &Setting<'_>, path: &str, line: String)
-    requires { IsPromisedMoved setting.now.platform.now setting.now.calls.now path.now
+fn put_promised(items: &mut Items, scenario: &Scenario<'_>, path: &str, line: String)
+    requires { IsPromisedMoved scenario.now.platform.now scenario.now.calls.now path.now
         (string_bytes line) }
 {
     items.promise(2, line)

@@ -2,7 +2,7 @@
 
 use crate::platforms::{heaps_of, outcome_on};
 use explanation_text::{Items, Words};
-use script_story::Setting;
+use script_story::Scenario;
 use std::alloc::{AllocError, Global};
 use sysmem_memory::Heap;
 use value_sources::Asked;
@@ -47,13 +47,13 @@ impl Trait {
 /// decided then.
 pub fn tell_heaps(
     items: &mut Items,
-    setting: &Setting<'_>,
+    scenario: &Scenario<'_>,
     path: &str,
     people: &[Asked<'_>],
 ) -> Result<(), AllocError> {
     for wanted in [Trait::Contiguous, Trait::Secure] {
         if wanted.is_needed_by_one(people) {
-            tell_first(items, setting, path, wanted)?;
+            tell_first(items, scenario, path, wanted)?;
         }
     }
     Ok(())
@@ -62,13 +62,13 @@ pub fn tell_heaps(
 /// Tells the first heap with which the domain at a path would have settings if it were so.
 fn tell_first(
     items: &mut Items,
-    setting: &Setting<'_>,
+    scenario: &Scenario<'_>,
     path: &str,
     wanted: Trait,
 ) -> Result<(), AllocError> {
     let alloc = items.alloc();
-    for (index, info) in setting.platform.heaps().iter().enumerate() {
-        if let Some(line) = outcome_so(alloc, setting, path, index, wanted)? {
+    for (index, info) in scenario.platform.heaps().iter().enumerate() {
+        if let Some(line) = outcome_so(alloc, scenario, path, index, wanted)? {
             say_heap(items, &info.heap, wanted);
             items.promise(2, line);
             return Ok(());
@@ -89,12 +89,12 @@ fn say_heap(items: &mut Items, heap: &Heap, wanted: Trait) {
 /// chosen.
 fn outcome_so(
     alloc: Global,
-    setting: &Setting<'_>,
+    scenario: &Scenario<'_>,
     path: &str,
     index: usize,
     wanted: Trait,
 ) -> Result<Option<String>, AllocError> {
-    let mut heaps = heaps_of(alloc, setting.platform)?;
+    let mut heaps = heaps_of(alloc, scenario.platform)?;
     let Some(info) = heaps.get_mut(index) else {
         return Ok(None);
     };
@@ -106,6 +106,6 @@ fn outcome_so(
         return Ok(None);
     }
     *has = true;
-    let pairs = Vec::from_slice(alloc, setting.platform.pairs())?;
-    outcome_on(alloc, setting, heaps, pairs, path)
+    let pairs = Vec::from_slice(alloc, scenario.platform.pairs())?;
+    outcome_on(alloc, scenario, heaps, pairs, path)
 }

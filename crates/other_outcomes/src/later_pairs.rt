@@ -3,7 +3,7 @@
 use crate::platforms::{heaps_of, outcome_on};
 use explanation_text::{Gathered, Items, Words};
 use negotiation_inputs::Platform;
-use script_story::{Setting, Story, asked_in};
+use script_story::{Scenario, Story, asked_in};
 use settings_reasons::listed_before;
 use std::alloc::{AllocError, Global};
 use sysmem_formats::{Offer, Pair};
@@ -15,7 +15,7 @@ const MOST: usize = 3;
 /// after it on the platform, what would be decided if they stood first there.
 pub fn tell_later_pairs(
     items: &mut Items,
-    setting: &Setting<'_>,
+    scenario: &Scenario<'_>,
     story: &Story<'_>,
     index: usize,
     path: &str,
@@ -24,9 +24,9 @@ pub fn tell_later_pairs(
     let Some(chosen) = pair_of(story, index) else {
         return Ok(());
     };
-    let listed = listed_in(alloc, setting, story, index, chosen)?;
+    let listed = listed_in(alloc, scenario, story, index, chosen)?;
     for pair in listed.iter().take(MOST) {
-        tell_pair(items, setting, path, *pair, chosen)?;
+        tell_pair(items, scenario, path, *pair, chosen)?;
     }
     Ok(())
 }
@@ -34,25 +34,25 @@ pub fn tell_later_pairs(
 /// The pairs that participants of a domain list before the chosen one.
 fn listed_in(
     alloc: Global,
-    setting: &Setting<'_>,
+    scenario: &Scenario<'_>,
     story: &Story<'_>,
     index: usize,
     chosen: Pair,
 ) -> Result<Vec<Pair>, AllocError> {
     let people = asked_in(alloc, story, index, true)?;
-    listed_before(alloc, setting.platform, &people, chosen)
+    listed_before(alloc, scenario.platform, &people, chosen)
 }
 
 /// Tells what the domain at a path would be if a pair stood first on the platform, if that would be
 /// chosen.
 fn tell_pair(
     items: &mut Items,
-    setting: &Setting<'_>,
+    scenario: &Scenario<'_>,
     path: &str,
     pair: Pair,
     chosen: Pair,
 ) -> Result<(), AllocError> {
-    let Some(line) = outcome_first(items.alloc(), setting, path, pair)? else {
+    let Some(line) = outcome_first(items.alloc(), scenario, path, pair)? else {
         return Ok(());
     };
     say_pair(items, pair, chosen);
@@ -87,13 +87,13 @@ fn say_pair(items: &mut Items, pair: Pair, chosen: Pair) {
 /// chosen.
 fn outcome_first(
     alloc: Global,
-    setting: &Setting<'_>,
+    scenario: &Scenario<'_>,
     path: &str,
     pair: Pair,
 ) -> Result<Option<String>, AllocError> {
-    let pairs = pairs_from(alloc, setting.platform, pair)?;
-    let heaps = heaps_of(alloc, setting.platform)?;
-    match outcome_on(alloc, setting, heaps, pairs, path)? {
+    let pairs = pairs_from(alloc, scenario.platform, pair)?;
+    let heaps = heaps_of(alloc, scenario.platform)?;
+    match outcome_on(alloc, scenario, heaps, pairs, path)? {
         Some(line) => if_of(alloc, line, pair),
         None => Ok(None),
     }

@@ -3,7 +3,7 @@
 //! platform that has a pair more, a pair first, or a heap that is contiguous or secure.
 //!
 //! ```
-//! tell_moved(&mut items, &setting, &value, &story)?;
+//! tell_moved(&mut items, &scenario, &value, &story)?;
 //! print!(rt; "{}", text_of(rt.alloc(), &items.into_list()?)?)?;
 //! ```
 #![tactic(auto)]

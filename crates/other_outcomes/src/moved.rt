@@ -9,7 +9,7 @@ use domain_reasons::tell_in_short;
 use explanation_text::{Gathered, Items, Words};
 use script_reading::{Call, ParseFault, read_script};
 use script_replay::Replayed;
-use script_story::{Move, Setting, Story, moves_in, story_of};
+use script_story::{Move, Scenario, Story, moves_in, story_of};
 use serde_json::Value;
 use std::alloc::{AllocError, Global};
 
@@ -17,7 +17,7 @@ use std::alloc::{AllocError, Global};
 /// stand too early are moved.
 pub fn tell_moved(
     items: &mut Items,
-    setting: &Setting<'_>,
+    scenario: &Scenario<'_>,
     value: &Value,
     story: &Story<'_>,
 ) -> Result<(), AllocError> {
@@ -26,13 +26,13 @@ pub fn tell_moved(
         return Ok(());
     }
     let other = reordered(items.alloc(), value, &moves)?;
-    tell_reordered(items, setting, &moves, &other)
+    tell_reordered(items, scenario, &moves, &other)
 }
 
 /// Tells what a script does that is another one with some calls moved, if it isn't refused.
 fn tell_reordered(
     items: &mut Items,
-    setting: &Setting<'_>,
+    scenario: &Scenario<'_>,
     moves: &[Move],
     value: &Value,
 ) -> Result<(), AllocError> {
@@ -42,41 +42,41 @@ fn tell_reordered(
         Err(ParseFault::NoMemory) => return Err(AllocError),
         Err(ParseFault::Refused(_)) => return Ok(()),
     };
-    let wider = Setting {
-        platform: setting.platform,
+    let wider = Scenario {
+        platform: scenario.platform,
         calls: &script.calls,
-        effort: setting.effort,
+        effort: scenario.effort,
     };
     let told = wider.tell(alloc, &script.calls)?;
     if told.report.starved {
         return Err(AllocError);
     }
-    tell_replayed(items, setting, moves, value, &script.calls, &told)
+    tell_replayed(items, scenario, moves, value, &script.calls, &told)
 }
 
 /// Tells what calls do that are those of a script with some moved.
 fn tell_replayed<'a>(
     items: &mut Items,
-    setting: &Setting<'_>,
+    scenario: &Scenario<'_>,
     moves: &[Move],
     value: &'a Value,
     calls: &[Call<'a>],
     told: &'a Replayed,
 ) -> Result<(), AllocError> {
     let then = story_of(items.alloc(), value, calls, told)?;
-    tell_story(items, setting, moves, &then)
+    tell_story(items, scenario, moves, &then)
 }
 
 /// Tells which calls are moved, what the answer is then, which calls are refused, and what has no
 /// settings.
 fn tell_story(
     items: &mut Items,
-    setting: &Setting<'_>,
+    scenario: &Scenario<'_>,
     moves: &[Move],
     then: &Story<'_>,
 ) -> Result<(), AllocError> {
     say_moves(items, moves, " the script has, its calls numbered anew:");
-    tell_in_short(items, setting.platform, then)
+    tell_in_short(items, scenario.platform, then)
 }
 
 /// Tells that calls are moved, with words after that.
@@ -213,22 +213,22 @@ fn moved<'a>(alloc: Global, calls: &[Call<'a>], moves: &[Move]) -> Result<Vec<Ca
 /// What the domain at a path becomes once calls are moved.
 fn outcome_moved(
     alloc: Global,
-    setting: &Setting<'_>,
+    scenario: &Scenario<'_>,
     moves: &[Move],
     path: &str,
 ) -> Result<Option<String>, AllocError>
     ensures { IfOk result (λ said. IfSome said (λ what. IsPromisedMoved
-        setting.now.platform.now setting.now.calls.now path.now (string_bytes what))) }
+        scenario.now.platform.now scenario.now.calls.now path.now (string_bytes what))) }
 {
-    let calls = moved(alloc, setting.calls, moves)?;
-    setting.outcome(alloc, &calls, path)
+    let calls = moved(alloc, scenario.calls, moves)?;
+    scenario.outcome(alloc, &calls, path)
 }
 
 /// Tells what the domain at a path would be once the calls that stand too early are moved, if that
 /// is decided then and isn't now.
 pub fn tell_then(
     items: &mut Items,
-    setting: &Setting<'_>,
+    scenario: &Scenario<'_>,
     story: &Story<'_>,
     path: &str,
 ) -> Result<(), AllocError> {
@@ -236,10 +236,10 @@ pub fn tell_then(
     if moves.is_empty() || make_name(story, &moves) {
         return Ok(());
     }
-    match outcome_moved(items.alloc(), setting, &moves, path)? {
+    match outcome_moved(items.alloc(), scenario, &moves, path)? {
         Some(line) if line.as_str() != "pending" => {
             say_moves(items, &moves, " it would be:");
-            put_promised(items, setting, path, line);
+            put_promised(items, scenario, path, line);
         }
         _ => {}
     }
@@ -258,8 +258,8 @@ fn make_name(story: &Story<'_>, moves: &[Move]) -> bool {
 }
 
 /// Puts the decision that comes once calls are moved.
-fn put_promised(items: &mut Items, setting: &Setting<'_>, path: &str, line: String)
-    requires { IsPromisedMoved setting.now.platform.now setting.now.calls.now path.now
+fn put_promised(items: &mut Items, scenario: &Scenario<'_>, path: &str, line: String)
+    requires { IsPromisedMoved scenario.now.platform.now scenario.now.calls.now path.now
         (string_bytes line) }
 {
     items.promise(2, line)

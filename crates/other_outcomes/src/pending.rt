@@ -4,24 +4,24 @@ use domain_reasons::who_holds_up;
 use explanation_text::wording::{MOST_NAMES, put_few};
 use explanation_text::{Items, Name, Words};
 use script_reading::{Act, Call};
-use script_story::{Setting, Story};
+use script_story::{Scenario, Story};
 use std::alloc::{AllocError, Global};
 
 /// Tells what the domain of an index would be if nobody who is awaited stated anything. Groups
 /// without a child are left out: a child would be made up.
 pub fn tell_without(
     items: &mut Items,
-    setting: &Setting<'_>,
+    scenario: &Scenario<'_>,
     story: &Story<'_>,
     index: usize,
     path: &str,
 ) -> Result<(), AllocError> {
     let awaited = who_holds_up(items.alloc(), story, index)?;
-    if awaited.is_empty() || setting.effort.is_spent() {
+    if awaited.is_empty() || scenario.effort.is_spent() {
         return Ok(());
     }
-    match without(items.alloc(), setting, story, &awaited)? {
-        Some(calls) => tell_with(items, setting, story, &awaited, &calls, path),
+    match without(items.alloc(), scenario, story, &awaited)? {
+        Some(calls) => tell_with(items, scenario, story, &awaited, &calls, path),
         None => Ok(()),
     }
 }
@@ -29,13 +29,13 @@ pub fn tell_without(
 /// Tells what the domain at a path would be with these calls, by which nobody is awaited.
 fn tell_with(
     items: &mut Items,
-    setting: &Setting<'_>,
+    scenario: &Scenario<'_>,
     story: &Story<'_>,
     awaited: &[usize],
     calls: &[Call<'_>],
     path: &str,
 ) -> Result<(), AllocError> {
-    match setting.outcome(items.alloc(), calls, path)? {
+    match scenario.outcome(items.alloc(), calls, path)? {
         Some(line) if line.as_str() != "pending" => {
             say_ended(items, story, awaited, " it would be:")?;
             items.promise(2, line);
@@ -106,11 +106,11 @@ fn names_of<'a>(
 /// released, groups complete, the innermost first. `None` where a group has no child.
 fn without<'a>(
     alloc: Global,
-    setting: &Setting<'a>,
+    scenario: &Scenario<'a>,
     story: &Story<'a>,
     awaited: &[usize],
 ) -> Result<Option<Vec<Call<'a>>>, AllocError> {
-    let mut calls: Vec<Call<'a>> = Vec::from_slice(alloc, setting.calls)?;
+    let mut calls: Vec<Call<'a>> = Vec::from_slice(alloc, scenario.calls)?;
     for one in awaited {
         if !story.is_group(*one) {
             calls.push(call_on(story, *one, Act::Release))?;

@@ -2,7 +2,7 @@
 
 use explanation_text::{Gathered, Items, Words};
 use negotiation_inputs::Platform;
-use script_story::Setting;
+use script_story::Scenario;
 use std::alloc::{AllocError, Global};
 use sysmem_formats::{Modifier, Pair};
 use sysmem_memory::{Heap, HeapInfo};
@@ -15,14 +15,14 @@ const MOST: usize = 4;
 /// path would have settings, and what would be decided then.
 pub fn tell_platform(
     items: &mut Items,
-    setting: &Setting<'_>,
+    scenario: &Scenario<'_>,
     path: &str,
     people: &[Asked<'_>],
 ) -> Result<(), AllocError> {
     let alloc = items.alloc();
-    let lacked = lacked_pairs(alloc, setting.platform, people)?;
+    let lacked = lacked_pairs(alloc, scenario.platform, people)?;
     for pair in lacked.iter().take(MOST) {
-        if let Some(line) = outcome_with(alloc, setting, path, *pair)? {
+        if let Some(line) = outcome_with(alloc, scenario, path, *pair)? {
             say_pair(items, *pair);
             items.promise(2, line);
             return Ok(());
@@ -42,14 +42,14 @@ fn say_pair(items: &mut Items, pair: Pair) {
 /// What the domain at a path would be on the platform with one pair more, if it would be chosen.
 fn outcome_with(
     alloc: Global,
-    setting: &Setting<'_>,
+    scenario: &Scenario<'_>,
     path: &str,
     pair: Pair,
 ) -> Result<Option<String>, AllocError> {
-    let mut pairs = Vec::from_slice(alloc, setting.platform.pairs())?;
+    let mut pairs = Vec::from_slice(alloc, scenario.platform.pairs())?;
     pairs.push(pair)?;
-    let heaps = heaps_of(alloc, setting.platform)?;
-    outcome_on(alloc, setting, heaps, pairs, path)
+    let heaps = heaps_of(alloc, scenario.platform)?;
+    outcome_on(alloc, scenario, heaps, pairs, path)
 }
 
 /// The pairs that participants name and the platform lacks, each once; without a modifier the
@@ -96,21 +96,21 @@ pub(crate) fn heaps_of(alloc: Global, platform: &Platform) -> Result<Vec<HeapInf
 /// chosen.
 pub(crate) fn outcome_on(
     alloc: Global,
-    setting: &Setting<'_>,
+    scenario: &Scenario<'_>,
     heaps: Vec<HeapInfo>,
     pairs: Vec<Pair>,
     path: &str,
 ) -> Result<Option<String>, AllocError> {
-    let colours = Vec::from_slice(alloc, setting.platform.colours())?;
+    let colours = Vec::from_slice(alloc, scenario.platform.colours())?;
     let Ok(platform) = Platform::of(heaps, pairs, colours) else {
         return Ok(None);
     };
-    let other = Setting {
+    let other = Scenario {
         platform: &platform,
-        calls: setting.calls,
-        effort: setting.effort,
+        calls: scenario.calls,
+        effort: scenario.effort,
     };
-    match other.outcome(alloc, setting.calls, path)? {
+    match other.outcome(alloc, scenario.calls, path)? {
         Some(line) if line.as_str().starts_with("chosen ") => Ok(Some(line)),
         _ => Ok(None),
     }

@@ -5,7 +5,7 @@ use std::fmt::Write;
 
 /// A node's name in the script, its path, and how many nodes were made on it.
 #[derive(Drop)]
-struct Named<'a> {
+struct NodeName<'a> {
     name: &'a str,
     path: String,
     made: usize,
@@ -14,7 +14,7 @@ struct Named<'a> {
 /// The nodes of a collection, in the order in which they were made.
 #[derive(Drop)]
 pub(crate) struct Names<'a> {
-    list: Vec<Named<'a>>,
+    list: Vec<NodeName<'a>>,
 }
 
 impl<'a> Names<'a> {
@@ -22,7 +22,7 @@ impl<'a> Names<'a> {
     pub(crate) fn new(alloc: Global) -> Result<Names<'a>, AllocError> {
         let mut list = Vec::new(alloc);
         let path = String::from_str(alloc, "/")?;
-        list.push(Named {
+        list.push(NodeName {
             name: "root",
             path,
             made: 0,
@@ -40,7 +40,7 @@ impl<'a> Names<'a> {
         };
         let path = path_below(above)?;
         above.made = above.made.saturating_add(1);
-        self.list.push(Named {
+        self.list.push(NodeName {
             name,
             path,
             made: 0,
@@ -69,7 +69,7 @@ impl<'a> Names<'a> {
 }
 
 /// The path of the next node that is made on this one.
-fn path_below(above: &Named<'_>) -> Result<String, AllocError> {
+fn path_below(above: &NodeName<'_>) -> Result<String, AllocError> {
     let mut path = String::new(*above.path.allocator());
     if above.path.as_str() != "/" {
         path.push_str(above.path.as_str())?;

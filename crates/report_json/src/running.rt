@@ -14,7 +14,7 @@ use std::alloc::{AllocError, Global};
 
 /// The objects of a report, the certificate of its decisions, and how the run ended that gave both.
 #[derive(Drop)]
-struct Told {
+struct RunObjects {
     ended: Ended,
     objects: String,
     certificate: Vec<u8>,
@@ -22,7 +22,7 @@ struct Told {
 
 /// How a run ended, and what it wrote.
 #[derive(Drop)]
-struct Made {
+struct TextRun {
     ended: Result<Ended, RunFault>,
     report: Vec<u8>,
     certificate: Vec<u8>,
@@ -78,7 +78,7 @@ pub fn run_as_json_with_proof<R: Source, W: Sink, P: Sink>(
 
 /// What is told of a script's bytes. It fails where the script is refused, by its first fault, and
 /// where memory is refused outside of a decision.
-fn told_of(alloc: Global, bytes: &[u8]) -> Result<Told, RunFault>
+fn told_of(alloc: Global, bytes: &[u8]) -> Result<RunObjects, RunFault>
     ensures refused { (fault : FaultOfScript) → result ≡ Err (RunFault.Script fault)
         → RunsTo bytes.now (Err fault) }
     ensures silent { (result ≢ Err RunFault.Read) × (result ≢ Err RunFault.Write) }
@@ -91,7 +91,7 @@ fn told_of(alloc: Global, bytes: &[u8]) -> Result<Told, RunFault>
     }
 }
 
-fn made_of(alloc: Global, bytes: &[u8]) -> Made
+fn made_of(alloc: Global, bytes: &[u8]) -> TextRun
     ensures { RanWithProof result.ended (Some bytes.now) (Some []) (Some result.report.items)
         (Some []) (Some result.certificate.items) }
 {
@@ -99,7 +99,7 @@ fn made_of(alloc: Global, bytes: &[u8]) -> Made
     let mut writer = Counted::new(Vec::new(alloc));
     let mut proof = Counted::new(Vec::new(alloc));
     let ended = run_with_proof(alloc, &mut reader, &mut writer, &mut proof);
-    Made {
+    TextRun {
         ended,
         report: writer.inner,
         certificate: proof.inner,
@@ -113,11 +113,11 @@ fn told_made(
     ended: Ended,
     report: Vec<u8>,
     certificate: Vec<u8>,
-) -> Result<Told, RunFault>
+) -> Result<RunObjects, RunFault>
     ensures { IfErr result (λ fault. fault ≡ RunFault.NoMemory) }
 {
     match objects_on(alloc, bytes, report, &certificate) {
-        Ok(objects) => Ok(Told {
+        Ok(objects) => Ok(RunObjects {
             ended,
             objects,
             certificate,

@@ -1,7 +1,9 @@
 //! The faults of a script's calls, in words.
 
 use crate::keys::{CALLS, KNOWN};
-use crate::record::{CONSTRAINTS, Document, Part, first_unknown, is_one_of, key_of, wrong_kind};
+use crate::record::{
+    CONSTRAINTS, Document, RecordPart, first_unknown, is_one_of, key_of, wrong_kind,
+};
 use explanation_text::wording::{put_few, put_joined};
 use explanation_text::{Gathered, Items, Step, Words, nearest};
 use script_reading::ScriptFault;
@@ -58,7 +60,7 @@ impl<'a> Faulty<'a, '_> {
         let steps = if self.call.get(key).is_some() { 3 } else { 2 };
         let path = member.get(..steps).unwrap_or(&member);
         self.document
-            .advise(items, 1, path, Part::Value, note, help)
+            .advise(items, 1, path, RecordPart::Value, note, help)
     }
 
     /// Points at the call, which lacks a member; or at a key that it can't have, which is likely
@@ -76,7 +78,7 @@ impl<'a> Faulty<'a, '_> {
             None => {
                 let mut words = Words::of(alloc, key);
                 words.put(" is missing");
-                document.tell(items, 1, &path, Part::Begin, words, help)
+                document.tell(items, 1, &path, RecordPart::Begin, words, help)
             }
         }
         Ok(())
@@ -87,7 +89,7 @@ impl<'a> Faulty<'a, '_> {
         let mut words = Words::of(items.alloc(), "did you mean ");
         words.put(key).put("? It is missing");
         self.document
-            .advise(items, 1, other, Part::Key, "unknown key", words)
+            .advise(items, 1, other, RecordPart::Key, "unknown key", words)
     }
 
     fn text(&self, key: &str) -> Option<&'a str> {
@@ -163,7 +165,7 @@ fn tell_no_object(items: &mut Items, faulty: Faulty<'_, '_>) {
         Ok(note) => {
             faulty
                 .document
-                .point(items, 1, &faulty.path(), Part::Value, &note, &[])
+                .point(items, 1, &faulty.path(), RecordPart::Value, &note, &[])
         }
         Err(AllocError) => items.refuse(),
     }
@@ -269,7 +271,7 @@ fn tell_key(
     let help = help_of_key(items.alloc(), key_of(path), name, keys);
     faulty
         .document
-        .advise(items, 1, path, Part::Key, "unknown key", help)
+        .advise(items, 1, path, RecordPart::Key, "unknown key", help)
 }
 
 /// What helps with such a key of a call that has a name.

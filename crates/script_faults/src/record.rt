@@ -12,7 +12,7 @@ mod record_fault;
 mod record_place;
 mod unknown;
 
-pub use document::{Document, Part, Whole};
+pub use document::{Document, RecordPart, Whole};
 pub use keys::{CONSTRAINTS, is_one_of};
 pub use kinds::wrong_kind;
 pub use record_fault::tell_record_fault;

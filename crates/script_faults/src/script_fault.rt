@@ -3,7 +3,7 @@
 use crate::call_fault::tell_call_fault;
 use crate::keys::SCRIPT;
 use crate::no_json::{Broken, is_blank, tell_break};
-use crate::record::{Document, Part, first_unknown, key_of, tell_record_fault, wrong_kind};
+use crate::record::{Document, RecordPart, first_unknown, key_of, tell_record_fault, wrong_kind};
 use explanation_text::{Item, Items, Kind, Step, Words, nearest};
 use script_reading::{LONGEST, ScriptFault};
 use serde_json::Value;
@@ -112,7 +112,7 @@ fn tell_missing(items: &mut Items, document: &Document<'_>, key: &str) {
     let mut words = Words::of(items.alloc(), key);
     words.put(" is missing");
     match words.done() {
-        Ok(note) => document.point(items, 1, &[], Part::Begin, &note, &[]),
+        Ok(note) => document.point(items, 1, &[], RecordPart::Begin, &note, &[]),
         Err(AllocError) => items.refuse(),
     }
 }
@@ -126,7 +126,7 @@ fn tell_wrong(
     due: &str,
 ) {
     match wrong_kind(items.alloc(), value, due).done() {
-        Ok(note) => document.point(items, 1, path, Part::Value, &note, &[]),
+        Ok(note) => document.point(items, 1, path, RecordPart::Value, &note, &[]),
         Err(AllocError) => items.refuse(),
     }
 }
@@ -146,6 +146,6 @@ fn tell_key(
         }
         None => Words::of(alloc, "a script has just platform and calls"),
     };
-    document.advise(items, 1, path, Part::Key, "unknown key", help);
+    document.advise(items, 1, path, RecordPart::Key, "unknown key", help);
     Ok(())
 }

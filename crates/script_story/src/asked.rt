@@ -1,6 +1,6 @@
 //! Participants with what they ask.
 
-use crate::story::{Deed, Story};
+use crate::story::{Milestone, Story};
 use script_reading::Act;
 use serde_json::Value;
 use std::alloc::{AllocError, Global};
@@ -54,7 +54,7 @@ fn asked_of<'a>(story: &Story<'a>, node: usize) -> Option<Asked<'a>> {
 
 /// The value that a participant set.
 fn stated<'a>(story: &Story<'a>, node: usize) -> Option<&'a Value> {
-    let number = story.deed(node, Deed::SetConstraints)?;
+    let number = story.milestone(node, Milestone::SetConstraints)?;
     match story.call(number)?.act {
         Act::SetConstraints(value) => value,
         _ => None,

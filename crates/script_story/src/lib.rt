@@ -2,7 +2,7 @@
 //! did, why some were refused, and what other calls on the script's platform do.
 //!
 //! ```
-//! let told = setting.tell(rt.alloc(), &script.calls)?;
+//! let told = scenario.tell(rt.alloc(), &script.calls)?;
 //! let story = story_of(rt.alloc(), &value, &script.calls, &told)?;
 //! println!(rt; "{} of {} calls were refused", refused_calls(&story), story.calls.len())?;
 //! ```
@@ -12,7 +12,7 @@ mod asked;
 mod effort;
 mod moves;
 mod refused;
-mod setting;
+mod scenario;
 mod story;
 mod telling;
 mod words;
@@ -21,6 +21,6 @@ pub use asked::{asked_by, asked_in};
 pub use effort::Effort;
 pub use moves::{Move, moves_in};
 pub use refused::{left_out, put_domain, refused_calls, refused_words, tell_refused};
-pub use setting::Setting;
-pub use story::{Deed, Deeds, Domain, Made, Node, Story, first_word};
+pub use scenario::Scenario;
+pub use story::{Domain, Made, Milestone, Milestones, Node, Story, first_word};
 pub use telling::story_of;

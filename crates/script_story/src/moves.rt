@@ -1,7 +1,7 @@
 //! Calls that stand too early: before the bind of what they are made on, or as the bind of what
 //! later ones need as a token.
 
-use crate::story::{Deed, Made, Story};
+use crate::story::{Made, Milestone, Story};
 use explanation_text::Gathered;
 use script_reading::Act;
 use std::alloc::{AllocError, Global};
@@ -58,10 +58,13 @@ fn add_held(moves: &mut Gathered<Move>, story: &Story<'_>, call: &Made<'_>, numb
     let Some(node) = call.node else {
         return;
     };
-    let Some(bound) = story.deed_before(node, Deed::Bind, number) else {
+    let Some(bound) = story.milestone_before(node, Milestone::Bind, number) else {
         return;
     };
-    if story.deed_before(node, Deed::End, number).is_some() {
+    if story
+        .milestone_before(node, Milestone::End, number)
+        .is_some()
+    {
         return;
     }
     for (index, other) in story.calls.iter().enumerate() {
@@ -85,9 +88,11 @@ fn binding(story: &Story<'_>, call: &Made<'_>, number: usize) -> Option<usize> {
         }
         _ => false,
     };
-    let is_gone = story.deed_before(node, Deed::End, number).is_some();
+    let is_gone = story
+        .milestone_before(node, Milestone::End, number)
+        .is_some();
     if !suits || is_gone || story.kind_before(node, number) != NodeKind::Token {
         return None;
     }
-    story.deed(node, Deed::Bind)
+    story.milestone(node, Milestone::Bind)
 }

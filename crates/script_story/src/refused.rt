@@ -1,6 +1,6 @@
 //! Why calls were refused.
 
-use crate::story::{Deed, Made, Story};
+use crate::story::{Made, Milestone, Story};
 use explanation_text::wording::{MOST_NAMES, mark_after, put_few, put_joined};
 use explanation_text::{Gathered, Items, Name, Step, Text, Words};
 use record_reading::{Code, Fault};
@@ -476,7 +476,7 @@ fn put_wrong_state(
     node: usize,
     number: usize,
 ) {
-    if let Some(gone) = story.deed_before(node, Deed::End, number) {
+    if let Some(gone) = story.milestone_before(node, Milestone::End, number) {
         return put_gone(text, story, call, number, gone);
     }
     let makes = matches!(call.act, Act::CreateChild(_) | Act::AllChildrenPresent);
@@ -495,7 +495,7 @@ fn put_wrong_state(
 fn put_gone(text: &mut Words, story: &Story<'_>, call: &Made<'_>, number: usize, gone: usize) {
     let actor = story.actor(gone);
     let how = match story.call(gone) {
-        Some(deed) if matches!(deed.act, Act::Close) => "closed",
+        Some(milestone) if matches!(milestone.act, Act::Close) => "closed",
         _ => "released",
     };
     call.put_on(text);
@@ -507,7 +507,7 @@ fn put_gone(text: &mut Words, story: &Story<'_>, call: &Made<'_>, number: usize,
 
 /// A call that needs a collection, on a token.
 fn put_unbound(text: &mut Words, story: &Story<'_>, call: &Made<'_>, node: usize, number: usize) {
-    let Some(later) = story.deed(node, Deed::Bind) else {
+    let Some(later) = story.milestone(node, Milestone::Bind) else {
         call.put_on(text);
         text.put(" is a token: bind makes it a collection");
         return;
@@ -535,7 +535,9 @@ fn put_unset(text: &mut Words, story: &Story<'_>, call: &Made<'_>, number: usize
 fn unset<'a>(alloc: Global, story: &Story<'a>, number: usize) -> Result<Vec<Name<'a>>, AllocError> {
     let mut names = Vec::new(alloc);
     for node in 0..story.nodes.len() {
-        let is_bound = story.deed_before(node, Deed::Bind, number).is_some();
+        let is_bound = story
+            .milestone_before(node, Milestone::Bind, number)
+            .is_some();
         if is_bound && story.is_awaited(node, usize::MAX) {
             names.push(story.called(node))?;
         }
@@ -561,7 +563,9 @@ fn put_wrong_group(
     makes: bool,
 ) {
     if makes {
-        let last = story.deed_before(node, Deed::Complete, number).unwrap_or(0);
+        let last = story
+            .milestone_before(node, Milestone::Complete, number)
+            .unwrap_or(0);
         call.put_on(text);
         text.put(" got its last child before call ");
         text.call(last).put(", all_children_present");
@@ -597,7 +601,9 @@ fn put_wrong_collection(
 
 /// A call that needs a token, on a collection.
 fn put_bound(text: &mut Words, story: &Story<'_>, call: &Made<'_>, node: usize, number: usize) {
-    let bound = story.deed_before(node, Deed::Bind, number).unwrap_or(0);
+    let bound = story
+        .milestone_before(node, Milestone::Bind, number)
+        .unwrap_or(0);
     call.put_on(text);
     text.put(" is no token any more: call ");
     text.call(bound).put(" bound it");
@@ -619,7 +625,7 @@ fn put_set_before(
 ) {
     let actor = call.actor;
     let first = story
-        .deed_before(node, Deed::SetConstraints, number)
+        .milestone_before(node, Milestone::SetConstraints, number)
         .unwrap_or(0);
     text.put("call ").call(first);
     text.put(" already set ");

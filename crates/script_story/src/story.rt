@@ -79,7 +79,7 @@ fn name_of(act: &Act<'_>) -> &'static str {
 
 /// What is done to a node once.
 #[derive(Clone, Copy)]
-pub enum Deed {
+pub enum Milestone {
     Bind,
     SetConstraints,
     /// It is released or closed.
@@ -88,49 +88,49 @@ pub enum Deed {
     Complete,
 }
 
-/// The deed that a call does, if it does one.
-fn deed_of(act: &Act<'_>) -> Option<Deed> {
+/// The milestone that a call does, if it does one.
+fn milestone_of(act: &Act<'_>) -> Option<Milestone> {
     match act {
-        Act::Bind => Some(Deed::Bind),
-        Act::SetConstraints(_) => Some(Deed::SetConstraints),
-        Act::Release | Act::Close => Some(Deed::End),
-        Act::AllChildrenPresent => Some(Deed::Complete),
+        Act::Bind => Some(Milestone::Bind),
+        Act::SetConstraints(_) => Some(Milestone::SetConstraints),
+        Act::Release | Act::Close => Some(Milestone::End),
+        Act::AllChildrenPresent => Some(Milestone::Complete),
         _ => None,
     }
 }
 
-/// The numbers of the first calls that did a node's deeds.
+/// The numbers of the first calls that did a node's milestones.
 #[derive(Clone, Copy, Default)]
-pub struct Deeds {
+pub struct Milestones {
     bind: Option<usize>,
     set_constraints: Option<usize>,
     end: Option<usize>,
     complete: Option<usize>,
 }
 
-impl Deeds {
-    fn of(&self, deed: Deed) -> Option<usize> {
-        match deed {
-            Deed::Bind => self.bind,
-            Deed::SetConstraints => self.set_constraints,
-            Deed::End => self.end,
-            Deed::Complete => self.complete,
+impl Milestones {
+    fn of(&self, milestone: Milestone) -> Option<usize> {
+        match milestone {
+            Milestone::Bind => self.bind,
+            Milestone::SetConstraints => self.set_constraints,
+            Milestone::End => self.end,
+            Milestone::Complete => self.complete,
         }
     }
 
-    /// Keeps the number of a call that was made, where it is the first that does its deed.
+    /// Keeps the number of a call that was made, where it is the first that does its milestone.
     pub fn note(&mut self, act: &Act<'_>, number: usize) {
-        let Some(deed) = deed_of(act) else {
+        let Some(milestone) = milestone_of(act) else {
             return;
         };
-        if self.of(deed).is_some() {
+        if self.of(milestone).is_some() {
             return;
         }
-        match deed {
-            Deed::Bind => self.bind = Some(number),
-            Deed::SetConstraints => self.set_constraints = Some(number),
-            Deed::End => self.end = Some(number),
-            Deed::Complete => self.complete = Some(number),
+        match milestone {
+            Milestone::Bind => self.bind = Some(number),
+            Milestone::SetConstraints => self.set_constraints = Some(number),
+            Milestone::End => self.end = Some(number),
+            Milestone::Complete => self.complete = Some(number),
         }
     }
 }
@@ -151,7 +151,7 @@ pub struct Node<'a> {
     pub is_selected: bool,
     pub constraints: Option<&'a Constraints>,
     /// What was done to it, by which calls.
-    pub deeds: Deeds,
+    pub milestones: Milestones,
 }
 
 /// The front of a text up to its first space.
@@ -274,16 +274,21 @@ impl<'a> Story<'a> {
     }
 
     /// The number of the first call that did this to a node.
-    pub fn deed(&self, node: usize, deed: Deed) -> Option<usize> {
+    pub fn milestone(&self, node: usize, milestone: Milestone) -> Option<usize> {
         match self.nodes.get(node) {
-            Some(node) => node.deeds.of(deed),
+            Some(node) => node.milestones.of(milestone),
             None => None,
         }
     }
 
     /// The same, before the call of a number.
-    pub fn deed_before(&self, node: usize, deed: Deed, number: usize) -> Option<usize> {
-        match self.deed(node, deed) {
+    pub fn milestone_before(
+        &self,
+        node: usize,
+        milestone: Milestone,
+        number: usize,
+    ) -> Option<usize> {
+        match self.milestone(node, milestone) {
             Some(made) if made < number => Some(made),
             _ => None,
         }
@@ -297,7 +302,10 @@ impl<'a> Story<'a> {
         if known.state.kind == NodeKind::Group {
             return NodeKind::Group;
         }
-        if self.deed_before(node, Deed::Bind, number).is_some() {
+        if self
+            .milestone_before(node, Milestone::Bind, number)
+            .is_some()
+        {
             NodeKind::Collection
         } else {
             NodeKind::Token
@@ -326,16 +334,20 @@ impl<'a> Story<'a> {
         if matches!(known.made_by, Some(made) if made >= number) {
             return false;
         }
-        let is_open = self.deed_before(node, Deed::End, number).is_none();
+        let is_open = self
+            .milestone_before(node, Milestone::End, number)
+            .is_none();
         match self.kind_before(node, number) {
             NodeKind::Token => is_open,
             NodeKind::Collection => {
                 let is_set = self
-                    .deed_before(node, Deed::SetConstraints, number)
+                    .milestone_before(node, Milestone::SetConstraints, number)
                     .is_some();
                 is_open && !is_set
             }
-            NodeKind::Group => self.deed_before(node, Deed::Complete, number).is_none(),
+            NodeKind::Group => self
+                .milestone_before(node, Milestone::Complete, number)
+                .is_none(),
         }
     }
 

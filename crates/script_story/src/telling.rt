@@ -7,7 +7,7 @@ ghost use Rattle.script_story.specs.Told.{AreTold, IsOn};
 ghost use Rattle.sysmem_tree.specs.Domain.{HasDomain};
 ghost use Rattle.sysmem_tree.specs.Nodes.{HasNode};
 
-use crate::story::{Deeds, Domain, Made, Node, Story, first_word};
+use crate::story::{Domain, Made, Milestones, Node, Story, first_word};
 use crate::words::{is_domain_line, reply_in, said_on};
 use certificate_text::push_path;
 use explanation_text::Gathered;
@@ -103,7 +103,7 @@ fn node_of<'a>(alloc: Global, tree: &'a Tree, node: NodeId) -> Result<Node<'a>, 
         made_by: None,
         is_selected: tree.is_selected(node),
         constraints: tree.constraints_of(node),
-        deeds: Deeds::default(),
+        milestones: Milestones::default(),
     })
 }
 
@@ -152,7 +152,7 @@ fn note_deeds(nodes: &mut [Node<'_>], calls: &[Made<'_>]) {
             continue;
         };
         if let Some(node) = nodes.get_mut(number) {
-            node.deeds.note(&call.act, index.saturating_add(1));
+            node.milestones.note(&call.act, index.saturating_add(1));
         }
     }
 }

@@ -20,7 +20,7 @@ use Rattle.script_run.proofs.CallerLemmas.{Appends-nothing}
 use Rattle.sysmem_participants.specs.declared.faults.AuditFault.TheVariants as audits
 use Rattle.script_threads.specs.declared.fault.PlayFault.{PlayFault}
 use Rattle.script_threads.specs.declared.fault.PlayFault.TheVariants as plays
-use Rattle.script_threads.specs.declared.playing.Told.{Told}
+use Rattle.script_threads.specs.declared.playing.PlayReport.{PlayReport}
 use Rattle.script_threads.specs.Run.{IsPlayable, Played, SpellsApart, TellsOf, Writes, fault_of_play}
 use Rattle.script_threads.specs.Text.{IsText, IsTold}
 use Rattle.script_threads.proofs.Spelling.{playable-input, spells-input}
@@ -56,7 +56,7 @@ module _ (had hold : Option (List ℕ)) where
     disagrees found is = early (faults.Audit found) (λ is. absurd (cc)) (λ is. absurd (cc)) (λ other is. absurd (cc)) (λ other same. playable-input had left bytes read is)
 
     -- a run whose script wasn't played to its end
-    pub played-refused : (result : Result Ended RunFault) (fault : PlayFault) → result ≡ Err (fault_of_play fault) → TellsOf {X = Told} bytes (Err fault) → Played result had hold hold
+    pub played-refused : (result : Result Ended RunFault) (fault : PlayFault) → result ≡ Err (fault_of_play fault) → TellsOf {X = PlayReport} bytes (Err fault) → Played result had hold hold
     played-refused result (plays.Parse parsing.NoMemory) e said = rw e (outside NoMemory (λ is. absurd (cc)) (λ is. absurd (cc)) (λ found is. absurd (cc)) (λ found is. absurd (cc)))
     played-refused result (plays.Parse (parsing.Refused fault)) e said = rw e (early (Script fault) (λ is. absurd (cc)) (λ is. absurd (cc))
         (λ found is. let same : fault ≡ found = (cc) in spells-input had left bytes (Err found) read (rw (← same) said)) (λ found is. absurd (cc)))

@@ -15,7 +15,7 @@ use Rattle.script_reading.specs.Text.{Outcome, too_long, not_json, spelled, long
 use Rattle.script_run.proofs.CallerLemmas.{whole-read}
 use Rattle.script_threads.specs.declared.fault.PlayFault.{PlayFault}
 use Rattle.script_threads.specs.declared.fault.PlayFault.TheVariants.{Parse, Audit}
-use Rattle.script_threads.specs.declared.playing.Told.{Told}
+use Rattle.script_threads.specs.declared.playing.PlayReport.{PlayReport}
 use Rattle.script_threads.specs.Run.{IsPlayable, SpellsApart, TellsOf, TellsOfValue}
 
 no_value : (bytes : List ℕ) (fault : ScriptFault) → Outcome IsValue bytes (Err fault) → SpellsApart bytes (Err fault)
@@ -24,7 +24,7 @@ no_value bytes _ (not_json short none) = not_json short none
 no_value bytes fault (spelled value short json _ said) = absurd (cc)
 
 -- bytes that spell no value
-pub tells-fault : (bytes : List ℕ) (fault : ParseFault) → GivesOneOf {X = Value} {A = Data} view (Err fault) (Outcome IsValue bytes) → TellsOf {X = Told} bytes (Err (Parse fault))
+pub tells-fault : (bytes : List ℕ) (fault : ParseFault) → GivesOneOf {X = Value} {A = Data} view (Err fault) (Outcome IsValue bytes) → TellsOf {X = PlayReport} bytes (Err (Parse fault))
 tells-fault bytes NoMemory said = tt
 tells-fault bytes (Refused fault) said = no_value bytes fault said
 
@@ -36,7 +36,7 @@ spells bytes d _ answer e (spelled value short json _ is) said =
     spelled d short (rw (← same) json) answer said
 
 -- bytes that spell a value
-pub tells-value : (bytes : List ℕ) (d : Data) (result : Result Told PlayFault) → Outcome IsValue bytes (Ok d) → TellsOfValue d result → TellsOf bytes result
+pub tells-value : (bytes : List ℕ) (d : Data) (result : Result PlayReport PlayFault) → Outcome IsValue bytes (Ok d) → TellsOfValue d result → TellsOf bytes result
 tells-value bytes d (Ok told) spelled_by said = record { script = said.script; spells = spells bytes d (Ok d) (Ok said.script) refl spelled_by said.says }
 tells-value bytes d (Err (Parse NoMemory)) spelled_by said = tt
 tells-value bytes d (Err (Parse (Refused fault))) spelled_by said = spells bytes d (Ok d) (Err fault) refl spelled_by said

@@ -26,7 +26,7 @@ pub(crate) struct Slot<L: Ledger> {
 
 /// A name of a script, under a lock of its own. It is held as long as a call on it is made: no
 /// other actor makes one.
-pub(crate) struct Place<L: Ledger> {
+pub(crate) struct NameCell<L: Ledger> {
     slot: Mutex<Slot<L>>,
     answered: Condvar,
 }
@@ -77,10 +77,10 @@ impl<L: Ledger> Slot<L> {
     }
 }
 
-impl<L: Ledger> Place<L> {
+impl<L: Ledger> NameCell<L> {
     /// That of a name which no call has made yet.
-    pub(crate) fn new() -> Place<L> {
-        Place {
+    pub(crate) fn new() -> NameCell<L> {
+        NameCell {
             slot: Mutex::new(Slot {
                 handle: None,
                 stub: None,
@@ -154,7 +154,7 @@ impl<L: Ledger> Place<L> {
 
     /// What the name stands for in the end.
     pub(crate) fn into_slot(self) -> Slot<L> {
-        let Place { slot, answered: _ } = self;
+        let NameCell { slot, answered: _ } = self;
         slot.into_inner()
     }
 }

@@ -25,7 +25,7 @@ use sysmem_search::NoGate;
 
 /// What is told of a script that was played.
 #[derive(Drop)]
-pub(crate) struct Told {
+pub(crate) struct PlayReport {
     /// A line for each domain, and that of the audit.
     pub(crate) text: String,
     /// Whether memory was refused to a call or a decision.
@@ -39,7 +39,7 @@ pub(crate) fn play<L: Ledger + Send + Sync, R: Threads + Wait + Sync>(
     blank: Blank,
     platform: Platform,
     calls: &[Call<'_>],
-) -> Result<Told, AuditFault>
+) -> Result<PlayReport, AuditFault>
     requires name { blank.name ≡ L.name }
     requires ledger { blank.parts ≡ L.parts }
     requires parts { blank.parts ≡ all_parts }
@@ -67,7 +67,7 @@ fn play_on<L: Ledger + Send + Sync, R: Threads + Wait + Sync>(
     names: usize,
     stubs: Vec<Stub<L>>,
     calls: &[Call<'_>],
-) -> Result<Told, AuditFault>
+) -> Result<PlayReport, AuditFault>
     ensures { IfOk result (λ told. IsTold told.is_starved (string_bytes told.text)) }
 {
     let Ok(reader) = root.reader() else {
@@ -135,7 +135,7 @@ fn tell<L: Ledger, R: Wait>(
     rt: &R,
     lines: Result<Lines, AllocError>,
     remains: Remains<L>,
-) -> Result<Told, AuditFault>
+) -> Result<PlayReport, AuditFault>
     requires { IfOk lines (λ lines. AreLines lines.is_starved (string_bytes lines.text)) }
     ensures told { IfOk result (λ told. IsTold told.is_starved (string_bytes told.text)) }
     ensures starved { IfOk result (λ told. IsTrue remains.is_starved → IsTrue told.is_starved) }
@@ -149,7 +149,7 @@ fn tell<L: Ledger, R: Wait>(
     };
     let is_starved = lines.is_starved || remains.is_starved;
     match with_audit(lines, audit) {
-        Ok(text) => Ok(Told { text, is_starved }),
+        Ok(text) => Ok(PlayReport { text, is_starved }),
         Err(_) => Err(AuditFault::NoMemory),
     }
 }

@@ -9,7 +9,7 @@ ghost use Rattle.script_threads.specs.Text.{IsTold};
 
 use crate::fault::PlayFault;
 use crate::planning::settle_waits;
-use crate::playing::{Told, play};
+use crate::playing::{PlayReport, play};
 use byte_transfer::{Sink, Source, read_up_to_limit, write_fully};
 use negotiation_inputs::Platform;
 use script_reading::{Call, LONGEST, Script, parse_script, read_script_apart};
@@ -60,7 +60,7 @@ fn play_bytes<T: Threads + Wait + Sync>(
     rt: &T,
     alloc: Global,
     bytes: &[u8],
-) -> Result<Told, PlayFault>
+) -> Result<PlayReport, PlayFault>
     ensures tells { TellsOf bytes.now result }
     ensures text { IfOk result (λ told. IsTold told.is_starved (string_bytes told.text)) }
 {
@@ -75,7 +75,7 @@ fn play_value<T: Threads + Wait + Sync>(
     rt: &T,
     alloc: Global,
     value: &Value,
-) -> Result<Told, PlayFault>
+) -> Result<PlayReport, PlayFault>
     ensures tells { TellsOfValue (view value.now) result }
     ensures text { IfOk result (λ told. IsTold told.is_starved (string_bytes told.text)) }
 {
@@ -94,7 +94,7 @@ fn play_script<T: Threads + Wait + Sync>(
     rt: &T,
     alloc: Global,
     script: Script<'_>,
-) -> Result<Told, AuditFault>
+) -> Result<PlayReport, AuditFault>
     ensures { IfOk result (λ told. IsTold told.is_starved (string_bytes told.text)) }
 {
     let Script {

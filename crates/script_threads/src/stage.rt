@@ -2,7 +2,7 @@
 
 use crate::activity::Activity;
 use crate::handle::Handle;
-use crate::place::Place;
+use crate::place::NameCell;
 use crate::start::Start;
 use script_reading::{Act, Call};
 use std::alloc::{AllocError, Global};
@@ -15,7 +15,7 @@ use sysmem_participants::Stub;
 /// start, and who of them can still act.
 pub(crate) struct Stage<L: Ledger> {
     alloc: Global,
-    places: Vec<Place<L>>,
+    places: Vec<NameCell<L>>,
     pub(crate) start: Start,
     pub(crate) activity: Activity,
 }
@@ -34,7 +34,7 @@ impl<L: Ledger> Stage<L> {
         let count = names.saturating_add(1);
         let mut places = Vec::with_capacity(alloc, count)?;
         for _made in 0..count {
-            places.push_reserved(Place::new());
+            places.push_reserved(NameCell::new());
         }
         Ok(Stage {
             alloc,

@@ -12,7 +12,7 @@ use value_sources::{Asked, put_has};
 
 /// Something that a participant names.
 #[derive(Drop)]
-struct Named<'a> {
+struct LackedName<'a> {
     name: Text,
     people: Vec<Asked<'a>>,
 }
@@ -25,7 +25,7 @@ pub(crate) fn tell_no_images(
     platform: &Platform,
     people: &[Asked<'_>],
 ) -> Result<(), AllocError> {
-    let mut lacked: Vec<Named<'_>> = Vec::new(items.alloc());
+    let mut lacked: Vec<LackedName<'_>> = Vec::new(items.alloc());
     for one in people {
         for entry in one.asked.entries() {
             add_lacked(&mut lacked, platform, entry, one)?;
@@ -36,7 +36,7 @@ pub(crate) fn tell_no_images(
 
 /// Adds what a participant's entry names, if the platform lacks it.
 fn add_lacked<'a>(
-    lacked: &mut Vec<Named<'a>>,
+    lacked: &mut Vec<LackedName<'a>>,
     platform: &Platform,
     entry: &Entry,
     one: &Asked<'a>,
@@ -60,7 +60,7 @@ pub(crate) fn tell_no_heaps(
     people: &[Asked<'_>],
 ) -> Result<(), AllocError> {
     let alloc = items.alloc();
-    let mut lacked: Vec<Named<'_>> = Vec::new(alloc);
+    let mut lacked: Vec<LackedName<'_>> = Vec::new(alloc);
     for one in people {
         for heap in &one.asked.memory().permitted_heaps {
             if !has_heap(platform, heap) {
@@ -111,7 +111,7 @@ fn has_heap(platform: &Platform, heap: &Heap) -> bool {
 
 /// Adds that a participant names something.
 fn add_named<'a>(
-    lacked: &mut Vec<Named<'a>>,
+    lacked: &mut Vec<LackedName<'a>>,
     name: Text,
     one: &Asked<'a>,
 ) -> Result<(), AllocError> {
@@ -122,7 +122,7 @@ fn add_named<'a>(
             return Ok(());
         }
     }
-    lacked.push(Named {
+    lacked.push(LackedName {
         name,
         people: vec![in alloc; *one]?,
     })?;
@@ -133,7 +133,7 @@ fn add_named<'a>(
 fn tell_lacked(
     items: &mut Items,
     depth: usize,
-    lacked: &[Named<'_>],
+    lacked: &[LackedName<'_>],
     people: usize,
     one: &str,
     many: &str,
@@ -156,7 +156,7 @@ fn tell_lacked(
 /// Adds a name with what those do who name it to the rows.
 fn add_lacked_row(
     rows: &mut Vec<Row>,
-    named: &Named<'_>,
+    named: &LackedName<'_>,
     far: usize,
     one: &str,
     many: &str,

@@ -8,9 +8,9 @@ use Rattle.sysmem_image.specs.declared.entry.Entry.{Entry}
 use Rattle.sysmem_image.specs.declared.size.Size.{Size}
 use Rattle.negotiation_inputs.specs.Participant.{Participant}
 use Rattle.value_sources.specs.declared.asked.Asked.{Asked}
-use Rattle.value_sources.specs.declared.counting.Part.{Part}
-use Rattle.value_sources.specs.declared.counting.Part.TheVariants.{Camping, Dedicated, Shared}
-use Rattle.value_sources.specs.declared.counting.Part.TheVariants.{Minimum}
+use Rattle.value_sources.specs.declared.counting.CountPart.{CountPart}
+use Rattle.value_sources.specs.declared.counting.CountPart.TheVariants.{Camping, Dedicated, Shared}
+use Rattle.value_sources.specs.declared.counting.CountPart.TheVariants.{Minimum}
 use Rattle.value_sources.specs.declared.wishes.Side.{Side}
 use Rattle.value_sources.specs.declared.wishes.Side.TheVariants.{Width, Height}
 use Rattle.value_sources.specs.declared.wishes.Wish.{Wish}
@@ -33,7 +33,7 @@ abbrev pub counts_of : List Asked → List CountConstraints
 counts_of people = map (λ one. one.asked.now.counts) people
 
 -- a part of the count that a participant asks for
-abbrev pub part_of : Part → Asked → ℕ
+abbrev pub part_of : CountPart → Asked → ℕ
 part_of Camping one = one.asked.now.counts.min_buffer_count_for_camping
 part_of Dedicated one = one.asked.now.counts.min_buffer_count_for_dedicated_slack
 part_of Shared one = one.asked.now.counts.min_buffer_count_for_shared_slack

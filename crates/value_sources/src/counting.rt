@@ -19,22 +19,22 @@ const MOST_PARTS: usize = 5;
 
 /// A part of a count.
 #[derive(Clone, Copy)]
-enum Part {
+enum CountPart {
     Camping,
     Dedicated,
     Shared,
     Minimum,
 }
 
-fn value_of(one: &Asked<'_>, part: Part) -> u32
+fn value_of(one: &Asked<'_>, part: CountPart) -> u32
     ensures { result ≡ part_of part one.now }
 {
     let counts = one.asked.counts();
     match part {
-        Part::Camping => counts.min_buffer_count_for_camping,
-        Part::Dedicated => counts.min_buffer_count_for_dedicated_slack,
-        Part::Shared => counts.min_buffer_count_for_shared_slack,
-        Part::Minimum => counts.min_buffer_count,
+        CountPart::Camping => counts.min_buffer_count_for_camping,
+        CountPart::Dedicated => counts.min_buffer_count_for_dedicated_slack,
+        CountPart::Shared => counts.min_buffer_count_for_shared_slack,
+        CountPart::Minimum => counts.min_buffer_count,
     }
 }
 
@@ -50,7 +50,7 @@ fn bounds_of(people: &[Asked<'_>]) -> CountBounds
     bounds
 }
 
-fn total(people: &[Asked<'_>], part: Part) -> u64 {
+fn total(people: &[Asked<'_>], part: CountPart) -> u64 {
     let mut sum = 0u64;
     for one in people {
         sum = sum.saturating_add(u64::from(value_of(one, part)));
@@ -59,7 +59,7 @@ fn total(people: &[Asked<'_>], part: Part) -> u64 {
 }
 
 /// The first who asks for the most, with that, if anybody asks for some.
-fn greatest<'a>(people: &[Asked<'a>], part: Part) -> Option<(Asked<'a>, u32)>
+fn greatest<'a>(people: &[Asked<'a>], part: CountPart) -> Option<(Asked<'a>, u32)>
     ensures from { IfSome result (λ r. IsNumberOf (part_of part) people.now r.0.name.now r.1) }
     ensures most { IfSome result (λ r. All (λ one. part_of part one ≤ r.1) people.now) }
     ensures some { IfSome result (λ r. 0 < r.1) }
@@ -75,28 +75,28 @@ fn greatest<'a>(people: &[Asked<'a>], part: Part) -> Option<(Asked<'a>, u32)>
 
 /// What participants hold together.
 fn held(people: &[Asked<'_>]) -> u64 {
-    let shared = match greatest(people, Part::Shared) {
+    let shared = match greatest(people, CountPart::Shared) {
         Some((_, value)) => u64::from(value),
         None => 0,
     };
-    total(people, Part::Camping)
-        .saturating_add(total(people, Part::Dedicated))
+    total(people, CountPart::Camping)
+        .saturating_add(total(people, CountPart::Dedicated))
         .saturating_add(shared)
 }
 
 /// Puts what participants hold together after a text, as a sum of named parts.
 fn put_held(text: &mut Words, people: &[Asked<'_>]) {
-    let camping = total(people, Part::Camping);
-    let both = camping.saturating_add(total(people, Part::Dedicated));
-    put_part(text, "", people, Part::Camping, "camping");
+    let camping = total(people, CountPart::Camping);
+    let both = camping.saturating_add(total(people, CountPart::Dedicated));
+    put_part(text, "", people, CountPart::Camping, "camping");
     put_part(
         text,
         mark_after(camping),
         people,
-        Part::Dedicated,
+        CountPart::Dedicated,
         "dedicated slack",
     );
-    if let Some((one, value)) = greatest(people, Part::Shared) {
+    if let Some((one, value)) = greatest(people, CountPart::Shared) {
         text.put(mark_after(both)).name(one.called()).put(" ");
         text.put_number(value).put(" (shared slack, the greatest)");
     }
@@ -107,7 +107,7 @@ fn mark_after(sum: u64) -> &'static str {
     if sum > 0 { " + " } else { "" }
 }
 
-fn put_part(text: &mut Words, mark: &str, people: &[Asked<'_>], part: Part, word: &str) {
+fn put_part(text: &mut Words, mark: &str, people: &[Asked<'_>], part: CountPart, word: &str) {
     match parts_of(text.alloc(), people, part) {
         Ok(parts) if parts.is_empty() => {}
         Ok(parts) if parts.len() > MOST_PARTS => {
@@ -119,7 +119,7 @@ fn put_part(text: &mut Words, mark: &str, people: &[Asked<'_>], part: Part, word
 }
 
 /// Who asks for some of a part, each with how many: `camera 2`.
-fn parts_of(alloc: Global, people: &[Asked<'_>], part: Part) -> Result<Vec<Text>, AllocError> {
+fn parts_of(alloc: Global, people: &[Asked<'_>], part: CountPart) -> Result<Vec<Text>, AllocError> {
     let mut parts: Gathered<Text> = Gathered::new(alloc);
     for one in people {
         let value = value_of(one, part);
@@ -150,7 +150,7 @@ fn put_sum(text: &mut Words, mark: &str, parts: &[Text], word: &str) {
 
 /// The least count that the participants need.
 fn needed(people: &[Asked<'_>]) -> u64 {
-    let least = match greatest(people, Part::Minimum) {
+    let least = match greatest(people, CountPart::Minimum) {
         Some((_, value)) => u64::from(value),
         None => 0,
     };
@@ -169,7 +169,7 @@ fn put_why(text: &mut Words, people: &[Asked<'_>]) {
     if sum >= needed(people) {
         return put_held(text, people);
     }
-    let Some((one, _)) = greatest(people, Part::Minimum) else {
+    let Some((one, _)) = greatest(people, CountPart::Minimum) else {
         text.put("nobody asks for more than one");
         return;
     };

@@ -2,7 +2,7 @@
 
 use crate::trials::group::line_at;
 use explanation_text::Step;
-use script_faults::{Document, Part};
+use script_faults::{Document, RecordPart};
 use serde_json::Value;
 use std::alloc::{AllocError, Global};
 
@@ -56,7 +56,7 @@ pub(crate) fn entry_lines(
         Step::Item(index),
     ];
     let mut lines: Vec<usize> = Vec::new(alloc);
-    add_line(&mut lines, document, &path, Part::Value)?;
+    add_line(&mut lines, document, &path, RecordPart::Value)?;
     Ok(lines)
 }
 
@@ -75,7 +75,7 @@ fn add_line(
     lines: &mut Vec<usize>,
     document: &Document<'_>,
     path: &[Step<'_>],
-    part: Part,
+    part: RecordPart,
 ) -> Result<(), AllocError> {
     if lines.len() >= MOST {
         return Ok(());
@@ -110,14 +110,14 @@ fn add_object<'a>(
         };
         if !is_kept {
             let at = longer(alloc, path, Step::Key(name))?;
-            add_line(lines, document, &at, Part::Key)?;
+            add_line(lines, document, &at, RecordPart::Key)?;
         }
     }
     for (key, _) in others.iter() {
         if was.get(key.as_str()).is_none() {
             let part = match path.last() {
-                Some(Step::Key(_)) => Part::Key,
-                _ => Part::Value,
+                Some(Step::Key(_)) => RecordPart::Key,
+                _ => RecordPart::Value,
             };
             add_line(lines, document, path, part)?;
         }
@@ -139,7 +139,7 @@ fn add_entries<'a>(
         return Ok(());
     };
     if was.len() != is.len() {
-        return add_line(lines, document, path, Part::Key);
+        return add_line(lines, document, path, RecordPart::Key);
     }
     for (index, entry) in was.iter().enumerate() {
         if let Some(other) = is.get(index) {

@@ -4,8 +4,8 @@ use crate::trials::changed_lines::{changed_lines, entry_lines};
 use constraint_edits::Edit;
 use explanation_text::wording::put_few;
 use explanation_text::{Gathered, Step, Text, Words, line_of};
-use script_faults::{Document, Part};
-use script_story::{Deed, Setting, Story};
+use script_faults::{Document, RecordPart};
+use script_story::{Milestone, Scenario, Story};
 use serde_json::Value;
 use std::alloc::{AllocError, Global};
 use value_sources::Asked;
@@ -17,7 +17,7 @@ const LONGEST: usize = 262_144;
 #[derive(Clone, Copy)]
 pub struct Group<'a, 'b> {
     pub document: &'b Document<'a>,
-    pub setting: &'b Setting<'a>,
+    pub scenario: &'b Scenario<'a>,
     pub story: &'b Story<'a>,
     pub path: &'b str,
     /// The root of the domain, by number.
@@ -45,7 +45,7 @@ impl Group<'_, '_> {
     pub(crate) fn one_stating(&self, place: usize) -> Option<&Asked<'_>> {
         let number = Some(place.saturating_add(1));
         for one in self.people {
-            if self.story.deed(one.node, Deed::SetConstraints) == number {
+            if self.story.milestone(one.node, Milestone::SetConstraints) == number {
                 return Some(one);
             }
         }
@@ -55,13 +55,16 @@ impl Group<'_, '_> {
     /// A participant, with the call that states its constraints and its line: `camera (call 5, line
     /// 14)`.
     pub fn who(&self, alloc: Global, one: &Asked<'_>) -> Result<Text, AllocError> {
-        let number = self.story.deed(one.node, Deed::SetConstraints).unwrap_or(0);
+        let number = self
+            .story
+            .milestone(one.node, Milestone::SetConstraints)
+            .unwrap_or(0);
         let path = [
             Step::Key("calls"),
             Step::Item(number.saturating_sub(1)),
             Step::Key("constraints"),
         ];
-        let line = line_at(alloc, self.document, &path, Part::Key)?;
+        let line = line_at(alloc, self.document, &path, RecordPart::Key)?;
         let mut words = Words::of_name(alloc, one.called());
         words.put(" (call ").call(number);
         if let Some(line) = line {
@@ -80,7 +83,10 @@ impl Group<'_, '_> {
         edit: Edit,
         changed: &Value,
     ) -> Result<Text, AllocError> {
-        let number = self.story.deed(one.node, Deed::SetConstraints).unwrap_or(0);
+        let number = self
+            .story
+            .milestone(one.node, Milestone::SetConstraints)
+            .unwrap_or(0);
         let place = number.saturating_sub(1);
         let lines = match (edit, one.stated) {
             (Edit::EntryFirst(index), _) => entry_lines(alloc, self.document, place, index)?,
@@ -122,7 +128,7 @@ pub fn line_at(
     alloc: Global,
     document: &Document<'_>,
     path: &[Step<'_>],
-    part: Part,
+    part: RecordPart,
 ) -> Result<Option<usize>, AllocError> {
     let bytes = document.bytes;
     if bytes.len() > LONGEST || line_of(bytes, bytes.len().saturating_sub(1)) < 2 {

@@ -95,7 +95,7 @@ pub(crate) fn need_too_many(
     if need_in(alloc, group, people, None)?.is_too_great() {
         return Ok(true);
     }
-    for heap in group.setting.platform.heaps() {
+    for heap in group.scenario.platform.heaps() {
         for coherency in DOMAINS {
             if heap.domains.has(coherency)
                 && !need_in(alloc, group, people, Some((heap, coherency)))?.is_too_great()

@@ -65,7 +65,7 @@ pub fn parties_of<'a>(alloc: Global, group: Group<'a, '_>) -> Result<Vec<Party<'
     }
     for chosen in selections(alloc, group)? {
         let people = asked_with(alloc, group, &chosen)?;
-        let Some(needed) = in_the_way(alloc, group.setting.platform, &people)? else {
+        let Some(needed) = in_the_way(alloc, group.scenario.platform, &people)? else {
             return Ok(Vec::new(alloc));
         };
         parties.push(Party { people, needed })?;
@@ -108,7 +108,7 @@ fn next_group(
     group: Group<'_, '_>,
     chosen: &[usize],
 ) -> Result<Option<usize>, AllocError> {
-    let platform = group.setting.platform;
+    let platform = group.scenario.platform;
     let people = asked_with(alloc, group, chosen)?;
     if is_unmet(alloc, platform, &people)? {
         return Ok(None);

@@ -11,8 +11,8 @@ use std::alloc::AllocError;
 
 /// Puts the decision that comes by several changes.
 pub fn put_line(items: &mut Items, group: Group<'_, '_>, depth: usize, line: String)
-    requires { IsPromisedSo group.setting.now.platform.now
-        (map call_seen group.setting.now.calls.now) group.path.now (string_bytes line) }
+    requires { IsPromisedSo group.scenario.now.platform.now
+        (map call_seen group.scenario.now.calls.now) group.path.now (string_bytes line) }
 {
     items.promise(depth, line)
 }

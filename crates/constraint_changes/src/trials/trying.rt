@@ -13,7 +13,7 @@ use crate::trials::unmet::least_met;
 use constraint_edits::{Changed, Edit, Halving, is_absurd};
 use explanation_text::Text;
 use script_reading::{Act, Call};
-use script_story::Setting;
+use script_story::Scenario;
 use serde_json::Value;
 use std::alloc::{AllocError, Global};
 
@@ -55,7 +55,7 @@ impl Found {
 /// Trying constraints of a participant, for the domain at a path.
 #[derive(Clone, Copy)]
 pub struct Trial<'a, 'b> {
-    pub setting: &'b Setting<'a>,
+    pub scenario: &'b Scenario<'a>,
     pub path: &'b str,
     /// The place of the call that states its constraints, from 0.
     pub place: usize,
@@ -66,12 +66,12 @@ impl Trial<'_, '_> {
     /// then.
     pub fn outcome(&self, alloc: Global, value: &Value) -> Result<Option<String>, AllocError>
         ensures { IfOk result (λ said. IfSome said (λ what. IsReportedOn
-            self.now.setting.now.platform.now (stating (map call_seen
-            self.now.setting.now.calls.now) self.now.place (view value.now)) self.now.path.now
+            self.now.scenario.now.platform.now (stating (map call_seen
+            self.now.scenario.now.calls.now) self.now.place (view value.now)) self.now.path.now
             (string_bytes what))) }
     {
-        let calls = replaced(alloc, self.setting.calls, self.place, value)?;
-        chosen_with(alloc, self.setting, &calls, self.path)
+        let calls = replaced(alloc, self.scenario.calls, self.place, value)?;
+        chosen_with(alloc, self.scenario, &calls, self.path)
     }
 
     /// The least change of the field that an edit leaves out, where leaving it out does, for the
@@ -85,11 +85,11 @@ impl Trial<'_, '_> {
         edit: Edit,
         found: Found,
     ) -> Result<Found, AllocError>
-        requires { IsPromised self.now.setting.now.platform.now
-            (map call_seen self.now.setting.now.calls.now) self.now.place self.now.path.now
+        requires { IsPromised self.now.scenario.now.platform.now
+            (map call_seen self.now.scenario.now.calls.now) self.now.place self.now.path.now
             (string_bytes found.line) }
-        ensures { IfOk result (λ best. IsPromised self.now.setting.now.platform.now
-            (map call_seen self.now.setting.now.calls.now) self.now.place self.now.path.now
+        ensures { IfOk result (λ best. IsPromised self.now.scenario.now.platform.now
+            (map call_seen self.now.scenario.now.calls.now) self.now.place self.now.path.now
             (string_bytes best.line)) }
     {
         let Some(change) = least_met(alloc, group, parties, self.place, value, edit, &found.line)?
@@ -110,11 +110,11 @@ impl Trial<'_, '_> {
         edit: Edit,
         found: Found,
     ) -> Result<Found, AllocError>
-        requires { IsPromised self.now.setting.now.platform.now
-            (map call_seen self.now.setting.now.calls.now) self.now.place self.now.path.now
+        requires { IsPromised self.now.scenario.now.platform.now
+            (map call_seen self.now.scenario.now.calls.now) self.now.place self.now.path.now
             (string_bytes found.line) }
-        ensures { IfOk result (λ best. IsPromised self.now.setting.now.platform.now
-            (map call_seen self.now.setting.now.calls.now) self.now.place self.now.path.now
+        ensures { IfOk result (λ best. IsPromised self.now.scenario.now.platform.now
+            (map call_seen self.now.scenario.now.calls.now) self.now.place self.now.path.now
             (string_bytes best.line)) }
     {
         let mut best = found;
@@ -138,7 +138,7 @@ impl Trial<'_, '_> {
     /// A change with the decision that comes then, if one is chosen that may be meant.
     fn promised(&self, alloc: Global, change: Changed) -> Result<Option<Found>, AllocError>
         ensures { IfOk result (λ told. IfSome told (λ found. IsPromised
-            self.now.setting.now.platform.now (map call_seen self.now.setting.now.calls.now)
+            self.now.scenario.now.platform.now (map call_seen self.now.scenario.now.calls.now)
             self.now.place self.now.path.now (string_bytes found.line))) }
     {
         match self.outcome(alloc, &change.value)? {
@@ -154,14 +154,14 @@ impl Trial<'_, '_> {
 /// What the domain at a path becomes by these calls, if it is chosen.
 pub fn chosen_with(
     alloc: Global,
-    setting: &Setting<'_>,
+    scenario: &Scenario<'_>,
     calls: &[Call<'_>],
     path: &str,
 ) -> Result<Option<String>, AllocError>
     ensures { IfOk result (λ said. IfSome said (λ what. IsReportedOn
-        setting.now.platform.now (map call_seen calls.now) path.now (string_bytes what))) }
+        scenario.now.platform.now (map call_seen calls.now) path.now (string_bytes what))) }
 {
-    match setting.outcome(alloc, calls, path)? {
+    match scenario.outcome(alloc, calls, path)? {
         Some(line) if line.as_str().starts_with("chosen ") => Ok(Some(line)),
         _ => Ok(None),
     }

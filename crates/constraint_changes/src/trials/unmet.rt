@@ -105,7 +105,7 @@ fn leaves_none_with(
     party: &Party<'_>,
     read: &[Read<'_>],
 ) -> Result<bool, AllocError> {
-    let platform = group.setting.platform;
+    let platform = group.scenario.platform;
     let few = all_with(alloc, &party.needed, read)?;
     if together_need_too_many(&few) || is_unmet(alloc, platform, &few)? {
         return Ok(true);

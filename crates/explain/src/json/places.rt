@@ -5,7 +5,7 @@ use crate::json::scene::Scene;
 use crate::json::values::count_value;
 use explanation_text::wording::put_visible;
 use explanation_text::{Step, Words, column_of, line_of};
-use script_faults::{Document, Part};
+use script_faults::{Document, RecordPart};
 use serde_json::Value;
 use std::alloc::{AllocError, Global};
 use std::mem;
@@ -120,7 +120,7 @@ pub(crate) fn place_of_call(
     }
     let index = number.saturating_sub(1);
     let steps = [Step::Key("calls"), Step::Item(index)];
-    let Some(span) = document.span(alloc, &steps, Part::Value)? else {
+    let Some(span) = document.span(alloc, &steps, RecordPart::Value)? else {
         return Ok(None);
     };
     let at = span.start.min(document.bytes.len());

@@ -3,7 +3,7 @@
 ghost use Rattle.std.specs.Prelude.{◌≡◌, ◌≢◌, IfOk, IfSome, option_map};
 ghost use Rattle.serde_json.specs.View.{view};
 ghost use Rattle.explanation_text.specs.Places.{IsPlaceOf, value_on};
-ghost use Rattle.script_faults.specs.declared.record.document.Part.TheVariants.{Key};
+ghost use Rattle.script_faults.specs.declared.record.document.RecordPart.TheVariants.{Key};
 
 use crate::record::paths::put_path;
 use explanation_text::{Items, Mark, Span, Step, Words, key_span_of, show, span_of, value_at};
@@ -12,9 +12,9 @@ use std::alloc::{AllocError, Global};
 use std::slice::from_ref;
 
 /// What of a place is marked: where something is missing its first byte alone.
-fn pointed(span: Span, part: Part) -> Span {
+fn pointed(span: Span, part: RecordPart) -> Span {
     match part {
-        Part::Begin => Span {
+        RecordPart::Begin => Span {
             start: span.start,
             end: span.start.saturating_add(1),
         },
@@ -68,7 +68,7 @@ pub struct Document<'a> {
 
 /// What of a member is pointed at.
 #[derive(Clone, Copy, PartialEq, Eq)]
-pub enum Part {
+pub enum RecordPart {
     Value,
     Key,
     /// Where it begins, as something is missing in it.
@@ -89,12 +89,12 @@ impl<'a> Document<'a> {
         &self,
         alloc: Global,
         path: &[Step<'_>],
-        part: Part,
+        part: RecordPart,
     ) -> Result<Option<Span>, AllocError>
         ensures { part ≢ Key → IfOk result (λ span. IfSome span
             (IsPlaceOf self.now.bytes.now path.now (view self.now.value.now))) }
     {
-        if part == Part::Key {
+        if part == RecordPart::Key {
             return key_span_of(alloc, self.bytes, path);
         }
         span_of(alloc, self.bytes, path, self.value)
@@ -102,7 +102,7 @@ impl<'a> Document<'a> {
 
     /// How the value at a path is written.
     pub fn written(&self, alloc: Global, path: &[Step<'_>]) -> Result<&'a [u8], AllocError> {
-        match self.span(alloc, path, Part::Value)? {
+        match self.span(alloc, path, RecordPart::Value)? {
             Some(span) => Ok(span.within(self.bytes)),
             None => Ok(&[]),
         }
@@ -114,7 +114,7 @@ impl<'a> Document<'a> {
         items: &mut Items,
         depth: usize,
         path: &[Step<'_>],
-        part: Part,
+        part: RecordPart,
         note: &str,
         helps: &[String],
     ) {
@@ -135,7 +135,7 @@ impl<'a> Document<'a> {
         items: &mut Items,
         depth: usize,
         path: &[Step<'_>],
-        part: Part,
+        part: RecordPart,
         note: &str,
         help: Words,
     ) {
@@ -151,7 +151,7 @@ impl<'a> Document<'a> {
         items: &mut Items,
         depth: usize,
         path: &[Step<'_>],
-        part: Part,
+        part: RecordPart,
         note: Words,
         help: Words,
     ) {

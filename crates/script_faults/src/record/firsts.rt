@@ -73,7 +73,7 @@ fn is_same_pair(a: &Value, b: &Value) -> bool {
 
 /// Where in an entry a pair stands.
 #[derive(Clone, Copy)]
-enum Place {
+enum KeyPlace {
     /// As its own.
     Own,
     /// Among its further pairs, at an index.
@@ -95,8 +95,8 @@ fn put_first_pair(text: &mut Words, script: &Value, path: &[Step<'_>]) -> bool {
     };
     let entry = Step::Item(index);
     match place {
-        Place::Own => put_longer(text, base, &[entry, Step::Key("pixel_format")]),
-        Place::Further(index) => {
+        KeyPlace::Own => put_longer(text, base, &[entry, Step::Key("pixel_format")]),
+        KeyPlace::Further(index) => {
             let pairs = Step::Key("pixel_format_and_modifiers");
             put_longer(text, base, &[entry, pairs, Step::Item(index)])
         }
@@ -106,7 +106,7 @@ fn put_first_pair(text: &mut Words, script: &Value, path: &[Step<'_>]) -> bool {
 
 /// The first entry of the list at a path that has the pair at another path, by its index, and where
 /// it has it.
-fn first_pair(script: &Value, path: &[Step<'_>], list: &[Step<'_>]) -> Option<(usize, Place)> {
+fn first_pair(script: &Value, path: &[Step<'_>], list: &[Step<'_>]) -> Option<(usize, KeyPlace)> {
     let mine = pair_at(script, path)?;
     let entries = value_at(script, list)?.as_array()?;
     for (index, entry) in entries.iter().enumerate() {
@@ -126,11 +126,11 @@ fn pair_at<'a>(script: &'a Value, path: &[Step<'_>]) -> Option<&'a Value> {
 }
 
 /// Where an entry has a pair first, if it does.
-fn place_in(entry: &Value, mine: &Value) -> Option<Place> {
+fn place_in(entry: &Value, mine: &Value) -> Option<KeyPlace> {
     if entry.get("pixel_format").is_some() && is_same_pair(entry, mine) {
-        return Some(Place::Own);
+        return Some(KeyPlace::Own);
     }
     let pairs = entry.get("pixel_format_and_modifiers")?.as_array()?;
     let index = pairs.iter().position(|pair| is_same_pair(pair, mine))?;
-    Some(Place::Further(index))
+    Some(KeyPlace::Further(index))
 }

@@ -1,7 +1,7 @@
 //! A record's first fault, in words.
 
 use crate::record::alike::begins_alike;
-use crate::record::document::{Document, Part};
+use crate::record::document::{Document, RecordPart};
 use crate::record::firsts::put_first_like;
 use crate::record::keys::{
     CONSTRAINTS, Due, ENTRY, HEAP_NAME, MEMORY, PAIR, PLATFORM, PLATFORM_HEAP, SIZE, allowed,
@@ -108,7 +108,7 @@ fn tell_missing(items: &mut Items, faulty: Faulty<'_, '_>) {
     let note = missing_note(items.alloc(), at);
     faulty
         .document
-        .tell(items, faulty.depth, object, Part::Begin, note, help)
+        .tell(items, faulty.depth, object, RecordPart::Begin, note, help)
 }
 
 /// The keys that an object at a place may have.
@@ -158,8 +158,8 @@ fn tell_key(
     let document = faulty.document;
     let note = "unknown key";
     match help_of_key(items.alloc(), key_of(path), keys, faulty.is_platform)? {
-        Some(help) => document.advise(items, faulty.depth, path, Part::Key, note, help),
-        None => document.point(items, faulty.depth, path, Part::Key, note, &[]),
+        Some(help) => document.advise(items, faulty.depth, path, RecordPart::Key, note, help),
+        None => document.point(items, faulty.depth, path, RecordPart::Key, note, &[]),
     }
     Ok(())
 }
@@ -185,9 +185,14 @@ fn tell_side(items: &mut Items, faulty: Faulty<'_, '_>, value: &Value) -> Result
         None => {
             let note = missing_note(items.alloc(), side);
             let help = help_allowed(items.alloc(), "allowed", at, faulty.is_platform);
-            faulty
-                .document
-                .tell(items, faulty.depth, faulty.path, Part::Begin, note, help)
+            faulty.document.tell(
+                items,
+                faulty.depth,
+                faulty.path,
+                RecordPart::Begin,
+                note,
+                help,
+            )
         }
     }
     Ok(())
@@ -206,7 +211,7 @@ fn tell_number(
     let note = wrong_number(items.alloc(), number, written, bounds.0, bounds.1);
     faulty
         .document
-        .tell(items, faulty.depth, path, Part::Value, note, help);
+        .tell(items, faulty.depth, path, RecordPart::Value, note, help);
     Ok(())
 }
 
@@ -218,7 +223,7 @@ fn tell_name(items: &mut Items, faulty: Faulty<'_, '_>, value: &Value) {
         items,
         faulty.depth,
         faulty.path,
-        Part::Value,
+        RecordPart::Value,
         "unknown name",
         hint,
     )
@@ -230,9 +235,14 @@ fn tell_kind(items: &mut Items, faulty: Faulty<'_, '_>, value: &Value) -> Result
     let written = faulty.document.written(items.alloc(), faulty.path)?;
     let note = wrong_value(items.alloc(), at, value, written, is_item);
     let help = help_allowed(items.alloc(), "allowed", at, faulty.is_platform);
-    faulty
-        .document
-        .tell(items, faulty.depth, faulty.path, Part::Value, note, help);
+    faulty.document.tell(
+        items,
+        faulty.depth,
+        faulty.path,
+        RecordPart::Value,
+        note,
+        help,
+    );
     Ok(())
 }
 
@@ -261,7 +271,14 @@ fn tell_list(items: &mut Items, faulty: Faulty<'_, '_>, value: &Value) -> Result
     let is_empty = matches!(value.as_array(), Some(list) if list.is_empty());
     let helps = helps_of_list(items.alloc(), faulty, is_empty)?;
     let note = note_of_list(items.alloc(), faulty.fault.code, value, is_empty).done()?;
-    faulty.document.point(items, faulty.depth, faulty.path, Part::Value, &note, &helps);
+    faulty.document.point(
+        items,
+        faulty.depth,
+        faulty.path,
+        RecordPart::Value,
+        &note,
+        &helps,
+    );
     Ok(())
 }
 

@@ -1,6 +1,6 @@
 //! The first key of an object that it can't have.
 
-use crate::record::document::{Document, Part};
+use crate::record::document::{Document, RecordPart};
 use crate::record::keys::is_one_of;
 use crate::record::paths::{Path, with};
 use explanation_text::Step;
@@ -60,7 +60,7 @@ fn start_of<'a>(
     key: &'a str,
 ) -> Result<usize, AllocError> {
     let longer = with(alloc, path, Step::Key(key))?;
-    match document.span(alloc, &longer, Part::Key)? {
+    match document.span(alloc, &longer, RecordPart::Key)? {
         Some(span) => Ok(span.start),
         None => Ok(usize::MAX),
     }

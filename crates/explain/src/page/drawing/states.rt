@@ -5,7 +5,7 @@ use bitflags::Flags;
 use explanation_text::wording::{put_count, put_few};
 use explanation_text::{Standing, Words};
 use negotiation_inputs::Constraints;
-use script_story::{Deed, Story};
+use script_story::{Milestone, Story};
 use std::alloc::{AllocError, Global};
 use sysmem_counts::Usage;
 use sysmem_image::Entry;
@@ -56,7 +56,7 @@ pub(crate) fn state_of(alloc: Global, story: &Story<'_>, node: usize) -> Words {
                 Ok(children) => put_count(&mut words, children.len(), "child", "children"),
                 Err(AllocError) => words.refuse(),
             }
-            if story.deed(node, Deed::Complete).is_none() {
+            if story.milestone(node, Milestone::Complete).is_none() {
                 words.put(", not complete");
             }
         }
@@ -68,7 +68,7 @@ pub(crate) fn state_of(alloc: Global, story: &Story<'_>, node: usize) -> Words {
 
 /// Puts by which call a node ended after a text.
 fn put_end(text: &mut Words, story: &Story<'_>, node: usize) {
-    let Some(number) = story.deed(node, Deed::End) else {
+    let Some(number) = story.milestone(node, Milestone::End) else {
         return;
     };
     let how = match story.call(number) {
@@ -81,7 +81,7 @@ fn put_end(text: &mut Words, story: &Story<'_>, node: usize) {
 /// Puts what the participant of a collection asks after a text.
 fn put_asked(text: &mut Words, story: &Story<'_>, node: usize) {
     text.put("collection");
-    let Some(number) = story.deed(node, Deed::SetConstraints) else {
+    let Some(number) = story.milestone(node, Milestone::SetConstraints) else {
         text.put(", nothing set");
         return;
     };

@@ -6,4 +6,4 @@ use Rattle.constraint_changes.proofs.trials.trying.Trial.least_run.Given as goal
 
 abbrev pub invariant-loop-halving : goal.invariant-loop-halving
 invariant-loop-halving l =
-    IsPromised l.self.setting.now.platform.now (map call_seen l.self.setting.now.calls.now) l.self.place l.self.path.now (string_bytes l.best.line)
+    IsPromised l.self.scenario.now.platform.now (map call_seen l.self.scenario.now.calls.now) l.self.place l.self.path.now (string_bytes l.best.line)

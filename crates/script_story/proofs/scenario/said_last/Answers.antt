@@ -3,7 +3,7 @@ use Rattle.std.specs.Str.Iter.{lines_rest}
 use Rattle.std.specs.Str.Lines.{lines}
 use Rattle.std.proofs.lemmas.Iterator.Splits.{YieldsList-from_lines}
 use Rattle.std.proofs.lemmas.Iterator.Consumers.{YieldsList-turn}
-use Rattle.script_story.proofs.setting.said_last.Goals as goal
+use Rattle.script_story.proofs.scenario.said_last.Goals as goal
 
 pub loop-line-preserved-in-Some-said_on : goal.loop-line-preserved-in-Some-said_on
 loop-line-preserved-in-Some-said_on c =

@@ -18,13 +18,13 @@ use std::alloc::{AllocError, Global};
 
 /// A script's platform and its calls, with what its runs cost so far.
 #[derive(Clone, Copy)]
-pub struct Setting<'a> {
+pub struct Scenario<'a> {
     pub platform: &'a Platform,
     pub calls: &'a [Call<'a>],
     pub effort: &'a Effort,
 }
 
-impl<'a> Setting<'a> {
+impl<'a> Scenario<'a> {
     /// What these calls do on the platform: the report of a script with them, and its collection.
     pub fn tell(&self, alloc: Global, calls: &[Call<'_>]) -> Result<Replayed, AllocError>
         ensures report { IfOk result (λ told. IsReported self.now.platform.now
