@@ -4,7 +4,7 @@ use Rattle.book_events.specs.declared.entry.Entry.{Entry}
 use Rattle.node_names.specs.Names.{NamedNode}
 use Rattle.sysmem_alloc.specs.Book.{BookFacts, IsBook}
 use Rattle.sysmem_alloc.specs.Entry.{entry_in}
-use Rattle.sysmem_alloc.specs.History.{replay}
+use Rattle.sysmem_alloc.specs.History.{IsLegal, replay}
 use Rattle.sysmem_alloc.specs.State.{State}
 use Rattle.negotiation_inputs.specs.Platform.{PlatformFacts}
 use Rattle.sysmem_tree.specs.Domain.{TreeFacts}
@@ -15,7 +15,7 @@ pub settled_copy : (b : BookFacts) (p : PlatformFacts) (t : TreeFacts) (raw : Li
     → IsSnapshot p t (map (entry_in t.nodes) raw)
 settled_copy b p t raw book platform tree part =
     let es = map (entry_in b.state.tree.nodes) raw in
-    let led : HasLedTo es b.state.tree = record { later = part.later; is = ap (λ (s : State). s.tree) book.replayed ∙ ap (λ xs. (replay xs).tree) part.split } in
+    let led : HasLedTo b.platform es b.state.tree = record { later = part.later; legal = subst (IsLegal b.platform) part.split book.legal; is = ap (λ (s : State). s.tree) book.replayed ∙ ap (λ xs. (replay xs).tree) part.split } in
     subst (λ (q : PlatformFacts). IsSnapshot q t (map (entry_in t.nodes) raw)) (sym platform)
     (subst (λ (x : TreeFacts). IsSnapshot b.platform x (map (entry_in x.nodes) raw)) (sym tree) (record { settled = part.settled; led = led }))
 

@@ -181,7 +181,7 @@ impl Snapshot {
     /// tree is what it has led to. It does nothing.
     pub fn recall_settled(&self)
         ensures settled { IsSettled self.now.platform self.now.history }
-        ensures led { HasLedTo self.now.history self.now.tree }
+        ensures led { HasLedTo self.now.platform self.now.history self.now.tree }
     {
         let _ = &self.history;
     }

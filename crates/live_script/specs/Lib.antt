@@ -2,4 +2,5 @@ pub mod Laws
 pub mod Recurring
 pub mod Refusing
 pub mod Script
+pub mod Telling
 pub mod Texts

@@ -1,4 +1,5 @@
 pub mod CallerLemmas
+pub mod Growing
 pub mod Names
 pub mod Plain
 pub mod Reading

@@ -31,7 +31,7 @@ from_45 n h = either (45 ≤ n) (((is_from 97 122 n || is_from 65 90 n) || is_fr
     (λ e. omega (arith, eqb-true n 45 e))
 
 no_backslash : (n : ℕ) → is_name_byte n ≡ true → n ≡ 92 → ⊥
-no_backslash n h e = cc (ap is_name_byte e, h)
+no_backslash n h e = let same : is_name_byte n ≡ false = ap is_name_byte e in cc (same, h)
 
 byte_plain : (n : ℕ) → is_name_byte n ≡ true → escape_byte n ≡ n ∷ []
 byte_plain n h =

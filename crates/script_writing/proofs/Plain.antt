@@ -1,5 +1,5 @@
 -- Records of constraints and of platforms have no float, and aren't deep.
-use Rattle.std.proofs.Common.{◌≡◌, ◌≤◌, ℕ, suc, max, Bool, true, false, List, [], ◌∷◌, ◌++◌, map, Option, Some, None, Ordering, Less, Equal, Greater, refl, sym, ap, ◌∙◌, subst, arith}
+use Rattle.std.proofs.Common.{◌≡◌, ◌≤◌, ℕ, suc, max, Bool, true, false, List, [], ◌∷◌, ◌++◌, map, codes, Option, Some, None, Ordering, Less, Equal, Greater, refl, sym, ap, ◌∙◌, subst, arith}
 use Rattle.std.specs.Prelude.{◌||◌, IfSome, if◌then◌else◌}
 use Rattle.std.specs.List.{AllByRecursion}
 use Rattle.std.specs.Ordering.{nat_cmp, match_ordering}
@@ -8,6 +8,7 @@ use Rattle.serde_json.specs.Data.{Data, boolean, string, array, object, Items, n
 use Rattle.serde_json.specs.View.{items_of}
 use Rattle.serde_json.specs.Written.{has_float, items_have_float, members_have_float}
 use Rattle.sysmem_counts.specs.declared.field.Field.{Field}
+use Rattle.sysmem_counts.specs.declared.field.Field.TheVariants as field
 use Rattle.sysmem_counts.specs.Field.{field_name}
 use Rattle.sysmem_formats.specs.declared.colour_space.ColourSpace.{ColourSpace}
 use Rattle.sysmem_formats.specs.declared.offer.Pair.{Pair}
@@ -169,7 +170,10 @@ is_names n ns = is_array n (items_of (with_names [] ns)) (these_shallow n (with_
 -- ---- records
 
 size_shallow : (n : ℕ) (s : Size) → Shallow (suc n) (size_record s)
-size_shallow n s = is_object n _ (put_shallow n _ (natural s.width) _ (is_natural n s.width) (put_shallow n _ (natural s.height) no_members (is_natural n s.height) (no_member n)))
+size_shallow n s =
+    let inner = put_shallow n (codes "height") (natural s.height) no_members (is_natural n s.height) (no_member n) in
+    is_object n (put (codes "width") (natural s.width) (put (codes "height") (natural s.height) no_members))
+    (put_shallow n (codes "width") (natural s.width) (put (codes "height") (natural s.height) no_members) (is_natural n s.width) inner)
 
 bound_shallow : (n : ℕ) (b : ImageBounds) (f : Bound) → IfSome (bound_said b f) (Shallow (suc n))
 bound_shallow n b f = by (is_size f) where
@@ -189,8 +193,11 @@ formats_shallow : (n : ℕ) (format : Option PixelFormat) (modifier : Option Mod
 formats_shallow n format modifier = (choice_shallow n format_name format, (unless_shallow n (is_usual format modifier) (choice modifier_name modifier) (choice_shallow n modifier_name modifier), tt))
 
 entry_shallow : (e : Entry) → Shallow 3 (entry_written e)
-entry_shallow e = is_fields 2 (entry_said e) (both_said 2 (formats_said e.format e.modifier) _ (formats_shallow 2 e.format e.modifier)
-    (is_names 1 (colours_in e.colours), both_said 2 (map (λ f. (field_of f, bound_said e.bounds.asked f)) all_bounds) _ (bounds_shallow 1 e.bounds.asked all_bounds) (true_shallow 2 e.bounds.at_pixel_boundary, tt)))
+entry_shallow e =
+    let last : AreSaid 2 ((field.RequireBytesPerRowAtPixelBoundary, true_said e.bounds.at_pixel_boundary) ∷ []) = (true_shallow 2 e.bounds.at_pixel_boundary, tt) in
+    let bounds : AreSaid 2 (bounds_said e.bounds) = both_said 2 (map (λ f. (field_of f, bound_said e.bounds.asked f)) all_bounds) ((field.RequireBytesPerRowAtPixelBoundary, true_said e.bounds.at_pixel_boundary) ∷ []) (bounds_shallow 1 e.bounds.asked all_bounds) last in
+    let rest : AreSaid 2 ((field.ColorSpaces, Some (names_said (colours_in e.colours))) ∷ bounds_said e.bounds) = (is_names 1 (colours_in e.colours), bounds) in
+    is_fields 2 (entry_said e) (both_said 2 (formats_said e.format e.modifier) ((field.ColorSpaces, Some (names_said (colours_in e.colours))) ∷ bounds_said e.bounds) (formats_shallow 2 e.format e.modifier) rest)
 
 heap_name_shallow : (n : ℕ) (h : HeapName) → AreSaid n (name_said h)
 heap_name_shallow n h = (is_string n h.heap_type, (number_shallow n 0 h.id, tt))
@@ -225,19 +232,24 @@ memory_shallow w = (
 counts_shallow : (n : ℕ) (p : Participant) → AreSaid n (counts_said p.counts)
 counts_shallow n p = (number_shallow n _ _, (number_shallow n _ _, (number_shallow n _ _, (number_shallow n _ _, (number_shallow n _ _, tt)))))
 
+deeper : (ms : Members) → MembersShallow 2 ms → MembersShallow 3 ms
+deeper ms h = record { whole = h.whole; deep = omega (arith, h.deep) }
+
 participant_shallow : (p : Participant) → Shallow 5 (participant_written p)
-participant_shallow p = is_fields 4 (participant_said p) (is_names 3 (families_in p.usage), both_said 4 (counts_said p.counts) _ (counts_shallow 4 p) (
-  object_shallow 3 (with_fields no_members (memory_said p.memory)) (deeper (fields_shallow 2 no_members (memory_said p.memory) (no_member 2) (memory_shallow p.memory))),
-  (listed_shallow 3 (items_of (map entry_written p.entries)) (items_shallow 3 entry_written entry_shallow p.entries), tt),
-)) where
-  deeper : {ms : Members} → MembersShallow 2 ms → MembersShallow 3 ms
-  deeper h = record { whole = h.whole; deep = omega (arith, h.deep) }
+participant_shallow p =
+    let memory : MembersShallow 3 (with_fields no_members (memory_said p.memory)) = deeper (with_fields no_members (memory_said p.memory)) (fields_shallow 2 no_members (memory_said p.memory) (no_member 2) (memory_shallow p.memory)) in
+    let rest : AreSaid 4 ((field.BufferMemoryConstraints, object_said (with_fields no_members (memory_said p.memory))) ∷ (field.ImageFormatConstraints, list_said (items_of (map entry_written p.entries))) ∷ []) =
+    (object_shallow 3 (with_fields no_members (memory_said p.memory)) memory, (listed_shallow 3 (items_of (map entry_written p.entries)) (items_shallow 3 entry_written entry_shallow p.entries), tt)) in
+    is_fields 4 (participant_said p) (is_names 3 (families_in p.usage), both_said 4 (counts_said p.counts) ((field.BufferMemoryConstraints, object_said (with_fields no_members (memory_said p.memory))) ∷ (field.ImageFormatConstraints, list_said (items_of (map entry_written p.entries))) ∷ []) (counts_shallow 4 p) rest)
 
 heap_shallow : (h : HeapFacts) → Shallow 3 (heap_written h)
-heap_shallow h = is_fields 2 (heap_said h) (both_said 2 (name_said h.heap) _ (heap_name_shallow 2 h.heap) (true_shallow 2 h.contiguous, (true_shallow 2 h.secure, (is_names 1 (domains_in h.domains), tt))))
+heap_shallow h =
+    let rest : AreSaid 2 ((field.Contiguous, true_said h.contiguous) ∷ (field.Secure, true_said h.secure) ∷ (field.Domains, Some (names_said (domains_in h.domains))) ∷ []) =
+    (true_shallow 2 h.contiguous, (true_shallow 2 h.secure, (is_names 1 (domains_in h.domains), tt))) in
+    is_fields 2 (heap_said h) (both_said 2 (name_said h.heap) ((field.Contiguous, true_said h.contiguous) ∷ (field.Secure, true_said h.secure) ∷ (field.Domains, Some (names_said (domains_in h.domains))) ∷ []) (heap_name_shallow 2 h.heap) rest)
 
 pair_shallow : (p : Pair) → Shallow 3 (pair_written p)
-pair_shallow p = is_fields 2 _ (formats_shallow 2 (Some p.format) (Some p.modifier))
+pair_shallow p = is_fields 2 (formats_said (Some p.format) (Some p.modifier)) (formats_shallow 2 (Some p.format) (Some p.modifier))
 
 colour_shallow : (c : ColourSpace) → Shallow 3 (colour_record c)
 colour_shallow c = is_string 3 _

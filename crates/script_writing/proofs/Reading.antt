@@ -1,6 +1,6 @@
 -- What is written of a call is read as the call.
 use Rattle.std.proofs.Common.{◌≡◌, ◌≤◌, ◌+◌, ℕ, suc, true, List, [], ◌∷◌, ◌++◌, map, length, Option, Some, None, Result, Ok, Err, refl, sym, ap, ◌∙◌, subst, arith, le-leb}
-use Rattle.std.specs.Prelude.{nat_le, ok_or, unwrap_or, if◌then◌else◌, ◌×◌}
+use Rattle.std.specs.Prelude.{nat_le, ok_or, unwrap_or, if◌then◌else◌}
 use Rattle.serde_json.specs.Data.{Data}
 use Rattle.serde_json.specs.View.{items_of}
 use Rattle.negotiation_inputs.specs.Participant.{Participant}
@@ -12,7 +12,6 @@ use Rattle.script_reading.specs.Names.{is_name}
 use Rattle.script_reading.specs.Platform.{script_says}
 use Rattle.script_reading.specs.Script.{CallFacts, KnownFacts, ScriptFacts, actor_number, actors_after, call_of, calls_of, few_calls, items_len, names_found, script_of}
 use Rattle.script_reading.specs.declared.fault.ScriptFault.{ScriptFault}
-use Rattle.script_reading.specs.declared.script.TheConstants.{MOST_CALLS}
 use Rattle.script_writing.specs.Call.{IsRecord, StatesRecord, WrittenCall, call_data, form_written}
 use Rattle.script_writing.specs.Script.{script_data}
 
@@ -65,5 +64,5 @@ many_items (c ∷ cs) =
 pub script_is : (p : PlatformFacts) (cs : List WrittenCall) (facts : List CallFacts) → platform_of (platform_written p) ≡ Ok p → length cs ≤ 4096 → calls_of (items_of (map call_data cs)) ≡ Ok facts
     → script_of (script_data p cs) ≡ Ok (record { platform = p; calls = facts })
 script_is p cs facts platform few calls =
-    let short : nat_le (items_len (items_of (map call_data cs))) MOST_CALLS ≡ true = ap (λ n. nat_le n MOST_CALLS) (many_items cs) ∙ le-leb (length cs) 4096 few in
+    let short : nat_le (items_len (items_of (map call_data cs))) 4096 ≡ true = ap (λ n. nat_le n 4096) (many_items cs) ∙ le-leb (length cs) 4096 few in
     rw (platform, short, calls) refl

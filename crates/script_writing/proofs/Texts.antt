@@ -11,7 +11,7 @@ use Rattle.json.specs.Tree.{json_tokens, items_tokens, members_tokens}
 use Rattle.json.specs.Tree as tree
 use Rattle.json.proofs.Printed.Tokens.{print_from-append}
 use Rattle.json.proofs.Printed.Trees.{value-json_tokens, ArePrintable-json_tokens}
-use Rattle.serde_json.specs.Data as data
+use Rattle.serde_json.specs.Data as values
 use Rattle.serde_json.specs.Data.{Data, Items, Members, no_items, item, no_members, member, array, object}
 use Rattle.serde_json.specs.Read.{read, max_depth, of_json, of_items, of_members}
 use Rattle.serde_json.specs.View.{items_of}
@@ -261,7 +261,7 @@ script_depth p cs h all =
 
 call_back : (w on : List ℕ) (actor made : Option (List ℕ)) (stated : Option Data) → IfSome stated IsSpelled
     → of_members (json.member (codes "call") (json.string w) (json.member (codes "on") (json.string on) (json_if (codes "actor") (option_map json.string actor) (json_if (codes "as") (option_map json.string made) (json_if (codes "constraints") (option_map outline stated) json.no_members))))) no_members
-    ≡ Some (member_if (codes "actor") (option_map data.string actor) (member_if (codes "as") (option_map data.string made) (member (codes "call") (data.string w) (member_if (codes "constraints") stated (member (codes "on") (data.string on) no_members)))))
+    ≡ Some (member_if (codes "actor") (option_map values.string actor) (member_if (codes "as") (option_map values.string made) (member (codes "call") (values.string w) (member_if (codes "constraints") stated (member (codes "on") (values.string on) no_members)))))
 call_back w on None None None h = refl
 call_back w on (Some a) None None h = refl
 call_back w on None (Some m) None h = refl

@@ -18,7 +18,7 @@ script_data platform calls = object (
     (member (codes "platform") (platform_written platform) no_members))
 
 -- the text of calls, each in a line of its own, with the script's end
-pub calls_text : Bool → List WrittenCall → List ℕ
+abbrev pub calls_text : Bool → List WrittenCall → List ℕ
 calls_text later [] = codes "]}\n"
 calls_text later (c ∷ cs) = comma_if later ++ (codes "\n" ++ (call_text c ++ calls_text true cs))
 

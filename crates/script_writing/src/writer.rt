@@ -1,6 +1,6 @@
 //! Writes a script, call by call.
 
-ghost use Rattle.std.specs.Prelude.{◌≡◌, ◌++◌, [], ◌∷◌, IfOk, List, OnOk, option_map};
+ghost use Rattle.std.specs.Prelude.{◌≡◌, ◌++◌, [], ◌∷◌, IfOk, List, OnOk, codes, if◌then◌else◌, option_map};
 ghost use Rattle.negotiation_inputs.specs.Platform.{PlatformFacts};
 ghost use Rattle.script_reading.specs.Seen.{act_seen};
 ghost use Rattle.script_writing.specs.Call.{StatesRecord, WrittenCall};
@@ -28,6 +28,13 @@ impl Model for ScriptWriter {
     ghost Value = { Begun };
 
     ghost view = { λ w. record { text = string_bytes w.text; later = w.has_calls } };
+}
+
+/// What stands before a call: a newline, and a comma behind another call.
+fn before_call(has_calls: bool) -> &'static str
+    ensures { result.now ≡ (if has_calls then codes ",\n" else codes "\n") }
+{
+    if has_calls { ",\n" } else { "\n" }
 }
 
 impl ScriptWriter {
@@ -59,12 +66,12 @@ impl ScriptWriter {
         ensures { (platform : PlatformFacts) (calls : List WrittenCall)
             → HasTaken self.old platform calls
             → OnOk result (HasTaken self.new platform (calls ++ record {
-                act = act_seen act;
+                act = act_seen act.entry;
                 on = on.now;
-                actor = option_map (λ one. one.now) actor;
+                actor = option_map (λ one. one.now) actor.entry;
             } ∷ [])) }
     {
-        self.text.push_str(if self.has_calls { ",\n" } else { "\n" })?;
+        self.text.push_str(before_call(self.has_calls))?;
         put_call(self.alloc, &mut self.text, act, on, actor)?;
         self.has_calls = true;
         Ok(())
@@ -78,6 +85,7 @@ impl ScriptWriter {
     {
         let ScriptWriter { mut text, .. } = self;
         text.push_str("]}\n")?;
+        let _ = text.as_str();
         Ok(text.into_bytes())
     }
 }
