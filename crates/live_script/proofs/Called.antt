@@ -1,5 +1,5 @@
 -- What nodes are called: each has a name, and no two have the same.
-use Rattle.std.proofs.Common.{◌≡◌, ◌≢◌, ◌<◌, ◌≤◌, ◌+◌, ◌%◌, ◌^◌, ◌&&◌, ◌||◌, ◌++◌, ◌==◌, ℕ, zero, suc, Bool, true, false, cond, not, List, [], ◌∷◌, Option, Some, None, length, nat_le, nat_eq, codes, decimal, refl, sym, ap, ◌∙◌, subst, arith, eq-eqb, eqb-true, le-leb, inl, inr}
+use Rattle.std.proofs.Common.{◌≡◌, ◌≢◌, ◌<◌, ◌≤◌, ◌+◌, ◌%◌, ◌^◌, ◌&&◌, ◌||◌, ◌++◌, ◌==◌, ℕ, zero, suc, Bool, true, false, cond, not, List, [], ◌∷◌, Option, Some, None, length, drop, get_or, nat_le, nat_eq, codes, decimal, refl, sym, ap, ◌∙◌, subst, arith, eq-eqb, eqb-true, le-leb, inl, inr}
 use Rattle.std.specs.Prelude.{IfSome, bytes_eq, find, option_map, unwrap_or}
 use Rattle.std.specs.Cmp.{IsEquivalence}
 use Rattle.std.specs.List.{AllByRecursion, list_all}
@@ -23,9 +23,9 @@ pub bytes_are : (a b : List ℕ) → a ≡ b → bytes_eq a b ≡ true
 bytes_are a b e = (bytes_eq-Decides a b).1 e
 
 pub bytes_differ : (a b : List ℕ) → a ≢ b → bytes_eq a b ≡ false
-bytes_differ a b no = by (bytes_eq a b) refl where
+bytes_differ a b differ = by (bytes_eq a b) refl where
   by : (t : Bool) → bytes_eq a b ≡ t → bytes_eq a b ≡ false
-  by true e = absurd (no (bytes_same a b e))
+  by true e = absurd (differ (bytes_same a b e))
   by false e = e
 
 pub bytes_laws : IsEquivalence bytes_eq
@@ -39,10 +39,10 @@ bytes_laws = record {
 
 found : (P : NamedNode → Type 0) (ns : List NamedNode) (p : NamedNode → Bool) (m : NamedNode) → AllByRecursion P ns → find p ns ≡ Some m → P m
 found P [] p m all is = absurd (cc is)
-found P (n ∷ ns) p m all is = by (p n) is where
-  by : (t : Bool) → cond t (Some n) (find p ns) ≡ Some m → P m
-  by true e = subst P (same_Some n m e) all.0
-  by false e = found P ns p m all.1 e
+found P (n ∷ ns) p m all is = by (p n) (λ e. found P ns p m all.1 e) is where
+  by : (t : Bool) → (find p ns ≡ Some m → P m) → cond t (Some n) (find p ns) ≡ Some m → P m
+  by true rest e = subst P (same_Some n m e) all.0
+  by false rest e = rest e
 
 abbrev IsGiven : NamedNode → Type 0
 IsGiven n = own.is_name n.name ≡ true
@@ -56,12 +56,12 @@ is_node k n = n.node == k
 
 given_apart : (ns : List NamedNode) → AreNames ns → (i j : ℕ) (a b : NamedNode) → find (is_node i) ns ≡ Some a → find (is_node j) ns ≡ Some b → a.name ≡ b.name → i ≡ j
 given_apart [] are i j a b first second same = absurd (cc first)
-given_apart (n ∷ ns) are i j a b first second same = by (n.node == i) (n.node == j) refl refl first second where
-  by : (s t : Bool) → (n.node == i) ≡ s → (n.node == j) ≡ t → cond s (Some n) (find (is_node i) ns) ≡ Some a → cond t (Some n) (find (is_node j) ns) ≡ Some b → i ≡ j
-  by true true x y e f = sym (eqb-true n.node i x) ∙ eqb-true n.node j y
-  by true false x y e f = absurd ((found (Differ n) ns (is_node j) b are.1 f).name (ap (λ (m : NamedNode). m.name) (same_Some n a e) ∙ same))
-  by false true x y e f = absurd ((found (Differ n) ns (is_node i) a are.1 e).name (ap (λ (m : NamedNode). m.name) (same_Some n b f) ∙ sym same))
-  by false false x y e f = given_apart ns are.2 i j a b e f same
+given_apart (n ∷ ns) are i j a b first second same = by (n.node == i) (n.node == j) refl refl (λ e f. given_apart ns are.2 i j a b e f same) first second where
+  by : (s t : Bool) → (n.node == i) ≡ s → (n.node == j) ≡ t → (find (is_node i) ns ≡ Some a → find (is_node j) ns ≡ Some b → i ≡ j) → cond s (Some n) (find (is_node i) ns) ≡ Some a → cond t (Some n) (find (is_node j) ns) ≡ Some b → i ≡ j
+  by true true x y rest e f = sym (eqb-true n.node i x) ∙ eqb-true n.node j y
+  by true false x y rest e f = absurd ((found (Differ n) ns (is_node j) b are.1 f).name (ap (λ (m : NamedNode). m.name) (same_Some n a e) ∙ same))
+  by false true x y rest e f = absurd ((found (Differ n) ns (is_node i) a are.1 e).name (ap (λ (m : NamedNode). m.name) (same_Some n b f) ∙ sym same))
+  by false false x y rest e f = rest e f
 
 -- ---- names of nodes without one
 
@@ -85,9 +85,9 @@ not_own name (suc k) small is e =
 
 own_apart : (i j : ℕ) → i < 1000 → j < 1000 → own_name i ≡ own_name j → i ≡ j
 own_apart zero zero a b e = refl
-own_apart zero (suc j) a b e = absurd (cc e)
-own_apart (suc i) zero a b e = absurd (cc e)
-own_apart (suc i) (suc j) a b e = decimal_injective (suc i) (suc j) (omega (arith, a)) (omega (arith, b)) (cc e)
+own_apart zero (suc j) a b e = let h : 114 ≡ 110 = ap (λ (xs : List ℕ). get_or xs 0 0) e in absurd (omega (arith, h))
+own_apart (suc i) zero a b e = let h : 110 ≡ 114 = ap (λ (xs : List ℕ). get_or xs 0 0) e in absurd (omega (arith, h))
+own_apart (suc i) (suc j) a b e = let same : decimal (suc i) ≡ decimal (suc j) = ap (drop 1) e in decimal_injective (suc i) (suc j) (omega (arith, a)) (omega (arith, b)) same
 
 -- ---- what nodes are called
 

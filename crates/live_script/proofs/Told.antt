@@ -12,8 +12,8 @@ use Rattle.std.proofs.lemmas.Option.{get_or_from_slice_get, same_Some, slice_get
 use Rattle.live_book.specs.Snapshot.{IsSettled, SnapshotFacts}
 use Rattle.live_script.proofs.Called.{apart, bytes_are, bytes_differ, bytes_laws, bytes_same, given_called, is_called, or_first, or_second}
 use Rattle.live_script.proofs.Named.{decided_long, get_first, get_last, is_made, set_long}
-use Rattle.live_script.specs.Script.{AreCallsOf, IsCallOf, ReadsBack, act_told, actor_told, call_told, called, calls_told, nodes_then}
-use Rattle.live_script.specs.Telling.{IsRead}
+use Rattle.live_script.specs.Script.{AreCallsOf, IsCallOf, IsTooLong, ReadsBack, act_told, actor_told, call_told, called, calls_told, nodes_then}
+use Rattle.live_script.specs.Calls.{IsRead}
 use Rattle.negotiation_inputs.specs.Participant.{Participant}
 use Rattle.negotiation_inputs.specs.Platform.{PlatformFacts}
 use Rattle.node_names.specs.Names.{AreNames, NamedNode, given_name}
@@ -81,13 +81,10 @@ acts_on ns k = unwrap_or (actor_told ns k) main_actor
 
 given_among : (ns : List NamedNode) (k : ℕ) (name : List ℕ) → given_name ns k ≡ Some name → list_any (bytes_eq name) (map (λ (n : NamedNode). n.name) ns) ≡ true
 given_among [] k name is = absurd (cc is)
-given_among (n ∷ ns) k name is = by (n.node == k) is where
-  rest : Bool
-  rest = list_any (bytes_eq name) (map (λ (m : NamedNode). m.name) ns)
-
-  by : (t : Bool) → option_map (λ (m : NamedNode). m.name) (cond t (Some n) (find (λ m. m.node == k) ns)) ≡ Some name → (bytes_eq name n.name || list_any (bytes_eq name) (map (λ (m : NamedNode). m.name) ns)) ≡ true
-  by true e = or_first (bytes_eq name n.name) _ (bytes_are name n.name (sym (same_Some n.name name e)))
-  by false e = or_second (bytes_eq name n.name) _ (given_among ns k name e)
+given_among (n ∷ ns) k name is = by (n.node == k) (λ e. given_among ns k name e) is where
+  by : (t : Bool) → (given_name ns k ≡ Some name → list_any (bytes_eq name) (map (λ (m : NamedNode). m.name) ns) ≡ true) → option_map (λ (m : NamedNode). m.name) (cond t (Some n) (find (λ m. m.node == k) ns)) ≡ Some name → (bytes_eq name n.name || list_any (bytes_eq name) (map (λ (m : NamedNode). m.name) ns)) ≡ true
+  by true rest e = or_first (bytes_eq name n.name) _ (bytes_are name n.name (sym (same_Some n.name name e)))
+  by false rest e = or_second (bytes_eq name n.name) _ (rest e)
 
 acts_may : (ns : List NamedNode) (k : ℕ) → is_among (acts_on ns k) (may_act ns) ≡ true
 acts_may ns k = by (nat_le (length ns) 15) where
@@ -128,7 +125,7 @@ with_may ns actors a may own q = by (is_among a actors) where
   one : (bytes_eq q a || false) ≡ true → is_among q (may_act ns) ≡ true
   one e = elim (or_cases (bytes_eq q a) false e) as (λ _. is_among q (may_act ns) ≡ true) [
     | inl same ↦ subst (λ (x : List ℕ). is_among x (may_act ns) ≡ true) (sym (bytes_same q a same)) own
-    | inr no ↦ absurd (cc no)
+    | inr none ↦ absurd (cc none)
   ]
 
   by : (t : Bool) → is_among q (if t then actors else actors ++ a ∷ []) ≡ true → is_among q (may_act ns) ≡ true
@@ -147,6 +144,7 @@ record Knows (ns : List NamedNode) (n : ℕ) (known : KnownFacts) : Type 0 where
   may : (q : List ℕ) → is_among q known.actors ≡ true → is_among q (may_act ns) ≡ true
 
 first_known : (ns : List NamedNode) → Knows ns 1 nothing_known
+unfolding IsDistinct
 first_known ns = record { many = refl; each = each; distinct = tt; may = may } where
   each : (k : ℕ) → k < 1 → slice_get (root ∷ []) k ≡ Some (called ns k)
   each zero less = refl
@@ -274,7 +272,7 @@ record Reads (ns : List NamedNode) (n : ℕ) (es : List BookEntry) (m : ℕ) (kn
   own : AreCallsOf ns es facts
   names : AllByRecursion HasNames (calls_told ns n es)
 
-one_read : (ns : List NamedNode) → AreNames ns → (n m k : ℕ) (deed : Deed) (known : KnownFacts) → Knows ns n known → n ≤ 900 → k < n
+one_read : (ns : List NamedNode) (are : AreNames ns) → (n m k : ℕ) (deed : Deed) (known : KnownFacts) → Knows ns n known → n ≤ 900 → k < n
     → call_of m known (call_data (call_told ns n k deed))
     ≡ Ok (record { act = act_told ns n deed; on = called ns k; place = k; actor = actor_number (acts_on ns k) known.actors },
     record { names = known.names ++ named_by ns are n (is_some (makes (kind_of deed))); actors = with_actor known.actors (acts_on ns k) })
@@ -334,3 +332,7 @@ reads_back s text are settled few read script short =
       spelled = spelled (script_data s.platform cs) short (record { text = script.utf8; spelled = script.spelled told.names }) (Ok (record { platform = s.platform; calls = told.facts })) is;
       own = told.own;
     }
+
+-- a text that is longer than a script may be is the one that is told
+pub too_long : (s : SnapshotFacts) (text : List ℕ) → IsScriptText s.platform (calls_told s.names 1 s.history) text → longest < length text → IsTooLong s
+too_long s text script long = subst (λ (xs : List ℕ). longest < length xs) script.is long

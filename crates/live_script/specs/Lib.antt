@@ -1,6 +1,6 @@
+pub mod Calls
 pub mod Laws
 pub mod Recurring
 pub mod Refusing
 pub mod Script
-pub mod Telling
 pub mod Texts

@@ -61,10 +61,7 @@ fn certificate_in(alloc: Global, object: &Object, text: &mut [u8], size: &mut us
     };
     match certificate_of(alloc, copy) {
         Ok(certificate) => fit(&certificate, text, size),
-        Err(_) => {
-            *size = 0;
-            NO_MEMORY
-        }
+        Err(_) => unwritten(Unwritten::NoMemory, size),
     }
 }
 

@@ -1,18 +1,19 @@
 //! The certificate of a collection's decisions.
 
-ghost use Rattle.std.specs.Prelude.{◌≡◌, ◌++◌, IfOk, IfSome, List, OnOk, option_map};
+ghost use Rattle.std.specs.Prelude.{◌≡◌, ◌++◌, IfOk, List, OnOk, option_map};
 ghost use Rattle.std.specs.Arc.{arc_value};
 ghost use Rattle.certificate_text.specs.Certificate.{HasTaken};
+ghost use Rattle.live_script.specs.Calls.{HasItsDomain};
 ghost use Rattle.live_script.specs.Texts.{IsCertificateOf, certified_of};
 ghost use Rattle.serde_json.specs.Data.{Data};
 ghost use Rattle.sysmem_alloc.specs.Entry.{entry_in};
-ghost use Rattle.sysmem_tree.specs.Domain.{HasDomain};
 
 use book_events::Entry;
 use certificate_text::CertificateWriter;
 use live_book::Snapshot;
 use std::alloc::{AllocError, Global};
 use std::sync::Arc;
+use sysmem_alloc::laws::{legal_is_sound, numbers_stay};
 use verdict_claims::Claim;
 
 fn claim_in(claim: &Option<Arc<Claim>>) -> Option<&Claim>
@@ -31,7 +32,8 @@ fn put_entry(
     snapshot: &Snapshot,
     entry: &Entry,
 ) -> Result<(), AllocError>
-    requires { IfSome (decided_in entry) (HasDomain snapshot.now.tree.nodes) }
+    requires { HasItsDomain snapshot.now.tree.nodes
+        (entry_in snapshot.now.tree.nodes entry.now) }
     ensures { (decisions : List Data) → HasTaken writer.old decisions → OnOk result
         (HasTaken writer.new (decisions ++ certified_of snapshot.now.platform
         snapshot.now.tree.nodes (entry_in snapshot.now.tree.nodes entry.now))) }

@@ -1,10 +1,10 @@
 //! A collection's history as a script: the accepted calls, in their order.
 
-ghost use Rattle.std.specs.Prelude.{◌≡◌, ◌≤◌, ◌++◌, ◌∷◌, [], IfErr, IfOk, IfSome, List, Ok, OnOk, option_map};
+ghost use Rattle.std.specs.Prelude.{◌≡◌, ◌≤◌, ◌++◌, ◌∷◌, ℕ, [], IfErr, IfOk, IfSome, List, Ok, OnOk, Option, option_map};
 ghost use Rattle.std.specs.List.{AllByRecursion};
 ghost use Rattle.std.specs.String.{string_bytes};
 ghost use Rattle.live_script.specs.Script.{IsScriptOf, IsTooLong, act_told, actor_told, asked_by, call_told, called, calls_told, nodes_then};
-ghost use Rattle.live_script.specs.Telling.{IsRead, IsThere, nodes_behind};
+ghost use Rattle.live_script.specs.Calls.{HasItsNode, IsRead, nodes_behind};
 ghost use Rattle.live_script.specs.declared.script.Unwritten.TheVariants.{TooLong};
 ghost use Rattle.negotiation_inputs.specs.Participant.{Participant};
 ghost use Rattle.negotiation_inputs.specs.Platform.{PlatformFacts};
@@ -20,6 +20,7 @@ ghost use Rattle.sysmem_tree.specs.Nodes.{HasNode};
 ghost use Rattle.verdict_claims.specs.Asked.{asks_at};
 
 use crate::laws::settled_calls_recur;
+use book_events::Entry;
 use live_book::Snapshot;
 use node_names::Names;
 use record_writing::write_constraints;
@@ -27,7 +28,6 @@ use script_reading::{Act, LONGEST};
 use script_writing::ScriptWriter;
 use serde_json::Value;
 use std::alloc::{AllocError, Global};
-use sysmem_alloc::Entry;
 use sysmem_alloc::laws::few_entries;
 use sysmem_tree::{ActionKind, NodeId, Tree};
 
@@ -164,7 +164,7 @@ fn put_entry(
     entry: &Entry,
     nodes: u32,
 ) -> Result<u32, AllocError>
-    requires there { IsThere snapshot.now.tree.nodes
+    requires there { HasItsNode snapshot.now.tree.nodes
         (entry_in snapshot.now.tree.nodes entry.now) }
     requires few { nodes ≤ 1000 }
     ensures put { (platform : PlatformFacts) (calls : List WrittenCall)

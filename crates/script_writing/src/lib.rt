@@ -10,6 +10,7 @@
 #![tactic(auto)]
 
 mod call;
+pub mod laws;
 mod writer;
 
 pub use writer::ScriptWriter;

@@ -7,6 +7,7 @@ use Rattle.record_laws.specs.Sparse.{participant_written}
 use Rattle.record_reading.specs.Reading.{participant_of}
 use Rattle.script_writing.specs.Script.{Begun, HasTaken}
 use Rattle.sysmem_alloc.specs.Entry.{BookEntry, Acted, Decided}
+use Rattle.sysmem_tree.specs.Domain.{HasDomain}
 use Rattle.sysmem_tree.specs.Node.{NodeFacts}
 use Rattle.sysmem_tree.specs.Nodes.{HasNode}
 
@@ -15,10 +16,15 @@ abbrev pub IsRead : BookEntry → Type 0
 IsRead (Acted k deed) = IfSome (asked_by deed) (λ p. participant_of (participant_written p) ≡ Ok p)
 IsRead (Decided c) = Unit {0}
 
--- the node of an action is there
-abbrev pub IsThere : List NodeFacts → BookEntry → Type 0
-IsThere nodes (Acted k deed) = HasNode nodes k
-IsThere nodes (Decided c) = Unit {0}
+-- the node of an action is one of the tree's
+abbrev pub HasItsNode : List NodeFacts → BookEntry → Type 0
+HasItsNode nodes (Acted k deed) = HasNode nodes k
+HasItsNode nodes (Decided c) = Unit {0}
+
+-- the domain of a decision is
+abbrev pub HasItsDomain : List NodeFacts → BookEntry → Type 0
+HasItsDomain nodes (Acted k deed) = Unit {0}
+HasItsDomain nodes (Decided c) = HasDomain nodes c.domain
 
 -- how many nodes there are behind an entry
 abbrev pub nodes_behind : ℕ → BookEntry → ℕ
