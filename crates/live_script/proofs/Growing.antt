@@ -1,6 +1,6 @@
 -- The calls of a history's entries, one after the other.
-use Rattle.std.proofs.Common.{◌≡◌, ◌≤◌, ◌+◌, ℕ, suc, Bool, true, false, List, [], ◌∷◌, ◌++◌, length, map, take, Option, Some, None, Result, Ok, Err, OnOk, slice_get, refl, sym, ◌∙◌, ap, subst, arith, append-nil}
-use Rattle.std.specs.Prelude.{IfOk, IfSome, if◌then◌else◌, is_some, option_map}
+use Rattle.std.proofs.Common.{Bor, ◌≡◌, ◌≤◌, ◌+◌, ℕ, suc, Bool, true, false, List, [], ◌∷◌, ◌++◌, length, map, take, Option, Some, None, Result, Ok, Err, OnOk, slice_get, refl, sym, ◌∙◌, ap, subst, arith, append-nil}
+use Rattle.std.specs.Prelude.{IfOk, IfSome, if◌then◌else◌, is_some, option_copied, option_map}
 use Rattle.std.specs.List.{AllByRecursion}
 use Rattle.live_book.specs.Snapshot.{HasLedTo, SnapshotFacts}
 use Rattle.live_script.proofs.There.{domain_there, node_there}
@@ -9,6 +9,7 @@ use Rattle.live_script.specs.Script.{call_told, calls_told, nodes_then}
 use Rattle.negotiation_inputs.specs.Participant.{Participant}
 use Rattle.negotiation_inputs.specs.Platform.{PlatformFacts}
 use Rattle.node_names.specs.Names.{NamedNode}
+use Rattle.script_reading.specs.Call.{ActFacts}
 use Rattle.script_writing.specs.Call.{WrittenCall}
 use Rattle.script_writing.specs.Script.{Begun, HasTaken}
 use Rattle.sysmem_alloc.specs.Entry.{BookEntry, Acted, Decided}
@@ -30,6 +31,18 @@ on_ok (Err e) f p = tt
 pub always : {A E P : Type 0} (r : Result A E) → P → OnOk r P
 always (Ok a) p = p
 always (Err e) p = tt
+
+-- what a reference to an option gives
+pub ref_mapped : {V W : Type 0} (f : V → W) (o : Option (Bor V)) (v : Option V) → option_copied o ≡ v → option_map (λ r. f r.now) o ≡ option_map f v
+ref_mapped f None v e = ap (option_map f) e
+ref_mapped f (Some r) v e = ap (option_map f) e
+
+pub same_call : (a b : ActFacts) (on there : List ℕ) (x y : Option (List ℕ)) → a ≡ b → on ≡ there → x ≡ y
+    → ◌≡◌ {A = WrittenCall} (record { act = a; on = on; actor = x }) (record { act = b; on = there; actor = y })
+same_call a b on there x y act at actor =
+    let first = ap (λ (z : ActFacts). let c : WrittenCall = record { act = z; on = on; actor = x } in c) act in
+    let second = ap (λ (z : List ℕ). let c : WrittenCall = record { act = b; on = z; actor = x } in c) at in
+    first ∙ second ∙ ap (λ (z : Option (List ℕ)). let c : WrittenCall = record { act = b; on = there; actor = z } in c) actor
 
 calls_more : (ns : List NamedNode) (n : ℕ) (es : List BookEntry) (e : BookEntry) → calls_told ns n (es ++ e ∷ []) ≡ calls_told ns n es ++ calls_told ns (nodes_behind_all n es) (e ∷ [])
 calls_more ns n [] e = refl

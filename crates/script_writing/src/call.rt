@@ -14,11 +14,7 @@ use serde_json::Value;
 use std::alloc::{AllocError, Global};
 
 /// Puts the text of a record.
-pub(crate) fn put_record(
-    alloc: Global,
-    text: &mut String,
-    value: &Value,
-) -> Result<(), AllocError>
+pub(crate) fn put_record(alloc: Global, text: &mut String, value: &Value) -> Result<(), AllocError>
     requires { IsPlain (view value.now) }
     ensures text { OnOk result (string_bytes text.new
         ≡ string_bytes text.old ++ compact_text (view value.now)) }
@@ -116,9 +112,9 @@ pub(crate) fn put_call(
 ) -> Result<(), AllocError>
     requires { StatesRecord (act_seen act) }
     ensures text { OnOk result (string_bytes text.new ≡ string_bytes text.old ++ call_text (record {
-        act = act_seen act.entry;
-        on = on.now;
-        actor = option_map (λ one. one.now) actor.entry;
+      act = act_seen act.entry;
+      on = on.now;
+      actor = option_map (λ one. one.now) actor.entry;
     })) }
     ensures spelled { OnOk result (IfSome (stated_by (act_seen act.entry)) IsSpelled) }
 {

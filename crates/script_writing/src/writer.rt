@@ -7,11 +7,11 @@ ghost use Rattle.script_writing.specs.Call.{StatesRecord, WrittenCall};
 ghost use Rattle.script_writing.specs.Script.{HasTaken, IsScriptText};
 
 use crate::call::{put_call, put_record};
+use negotiation_inputs::Platform;
 use record_writing::write_platform;
 use script_reading::Act;
 use std::alloc::{AllocError, Global};
 use std::marker::Model;
-use negotiation_inputs::Platform;
 
 /// A script that is being written: its platform, and its calls so far.
 #[derive(Drop)]
@@ -56,19 +56,14 @@ impl ScriptWriter {
     /// Writes a call: what it does, on which name, and by which actor, if it names one. Its
     /// constraints are a record that was written. Where memory is refused to the text, a part of the
     /// call may be written, and nothing is said of the script any more.
-    pub fn put(
-        &mut self,
-        act: Act<'_>,
-        on: &str,
-        actor: Option<&str>,
-    ) -> Result<(), AllocError>
+    pub fn put(&mut self, act: Act<'_>, on: &str, actor: Option<&str>) -> Result<(), AllocError>
         requires { StatesRecord (act_seen act) }
         ensures { (platform : PlatformFacts) (calls : List WrittenCall)
             → HasTaken self.old platform calls
             → OnOk result (HasTaken self.new platform (calls ++ record {
-                act = act_seen act.entry;
-                on = on.now;
-                actor = option_map (λ one. one.now) actor.entry;
+              act = act_seen act.entry;
+              on = on.now;
+              actor = option_map (λ one. one.now) actor.entry;
             } ∷ [])) }
     {
         self.text.push_str(before_call(self.has_calls))?;

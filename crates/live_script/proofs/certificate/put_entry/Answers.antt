@@ -1,13 +1,19 @@
 -- What is written of a decision is its path and its claim.
-use Rattle.std.proofs.Common.{◌∙◌, ◌++◌, subst}
+use Rattle.std.proofs.Common.{◌++◌, subst, sym}
+use Rattle.book_events.specs.declared.entry.Entry.{Entry}
 use Rattle.certificate_text.specs.Certificate.{HasTaken}
 use Rattle.live_script.proofs.Entries.{certified_as}
 use Rattle.live_script.proofs.Growing.{on_ok}
+use Rattle.live_script.specs.Calls.{HasItsDomain}
+use Rattle.sysmem_alloc.specs.Entry.{entry_in}
+use Rattle.sysmem_tree.specs.Domain.{HasDomain, TreeFacts}
 use Rattle.script_replay.proofs.CallerLemmas.{path_is}
 use Rattle.live_script.proofs.certificate.put_entry.Goals as goal
 
 pub root_of-requires : goal.root_of-requires
-root_of-requires c = ?
+root_of-requires c =
+    let nodes = c.args.snapshot.now.tree.nodes in
+    subst (λ (t : TreeFacts). HasDomain t.nodes c.in-Decided.domain) (sym c.tree-tree.ensures) (subst (λ (e : Entry). HasItsDomain nodes (entry_in nodes e)) c.in-Decided.is c.requires)
 
 pub returns : goal.returns
 returns c decisions taken =
