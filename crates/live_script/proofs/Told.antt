@@ -45,10 +45,10 @@ use Rattle.sysmem_tree.specs.declared.state.NodeState.{NodeState}
 
 -- ---- how many nodes there are
 
-made_long : (o : Option NodeState) (set nodes : List NodeFacts) (i : ℕ) (n : NodeFacts) (kind : ActionKind) → length set ≡ length nodes
-    → length (set ++ nodes_made (length nodes) i n kind o) ≡ (if is_some o then length nodes + 1 else length nodes)
-made_long None set nodes i n kind same = ap length (append-nil set) ∙ same
-made_long (Some s) set nodes i n kind same = length-append set (nodes_made (length nodes) i n kind (Some s)) ∙ ap (λ m. m + 1) same
+made_long : (o : Option NodeState) (set nodes : List NodeFacts) (i : ℕ) (n : NodeFacts) (deed : ActionKind) → length set ≡ length nodes
+    → length (set ++ nodes_made (length nodes) i n deed o) ≡ (if is_some o then length nodes + 1 else length nodes)
+made_long None set nodes i n deed same = ap length (append-nil set) ∙ same
+made_long (Some s) set nodes i n deed same = length-append set (nodes_made (length nodes) i n deed (Some s)) ∙ ap (λ m. m + 1) same
 
 pub nodes_long : (s : State) (k : ℕ) (deed : Deed) (after : Applied) → applied s.tree k deed ≡ Ok after → length (after_entry s (Acted k deed)).tree.nodes ≡ nodes_then (length s.tree.nodes) deed
 nodes_long s k deed after did =

@@ -19,7 +19,7 @@ pub put-requires : goal.put-requires
 put-requires c =
     let s = c.args.snapshot.now in
     let set = asks_at s.tree.nodes c.args.node in
-    let made = c.deref.ensures.value ∙ c.in_ok-made.ensures ∙ ap (λ (ns : List NamedNode). called ns c.args.nodes) c.names-names.ensures in
+    let made = c.deref.ensures ∙ c.in_ok-made.ensures ∙ ap (λ (ns : List NamedNode). called ns c.args.nodes) c.names-names.ensures in
     let stated = ref_mapped view c.as_ref.result c.in_ok-record.record c.as_ref.ensures.value ∙ c.in_ok-record.ensures.written
     ∙ ap (λ (t : TreeFacts). option_map participant_written (asked_by (deed_with (asks_at t.nodes c.args.node) c.args.kind))) c.tree-tree.ensures in
     subst StatesRecord (sym (c.act_of-act.ensures s.names c.args.nodes set made stated)) (states_record s.names c.args.nodes (deed_with set c.args.kind))
@@ -28,12 +28,12 @@ pub returns-clause-put : goal.returns-clause-put
 returns-clause-put c = λ platform calls taken.
     let s = c.args.snapshot.now in
     let set = asks_at s.tree.nodes c.args.node in
-    let made = c.deref.ensures.value ∙ c.in_ok-made.ensures ∙ ap (λ (ns : List NamedNode). called ns c.args.nodes) c.names-names.ensures in
+    let made = c.deref.ensures ∙ c.in_ok-made.ensures ∙ ap (λ (ns : List NamedNode). called ns c.args.nodes) c.names-names.ensures in
     let stated = ref_mapped view c.as_ref.result c.in_ok-record.record c.as_ref.ensures.value ∙ c.in_ok-record.ensures.written
     ∙ ap (λ (t : TreeFacts). option_map participant_written (asked_by (deed_with (asks_at t.nodes c.args.node) c.args.kind))) c.tree-tree.ensures in
     let act = c.act_of-act.ensures s.names c.args.nodes set made stated in
     let on : c.deref-2.result.now ≡ called s.names c.args.node =
-    c.deref-2.ensures.value ∙ c.in_ok-on.ensures ∙ ap (λ (ns : List NamedNode). called ns c.number_of-number.result) c.names-names.ensures ∙ ap (called s.names) c.number_of-number.ensures.number in
+    c.deref-2.ensures ∙ c.in_ok-on.ensures ∙ ap (λ (ns : List NamedNode). called ns c.number_of-number.result) c.names-names.ensures ∙ ap (called s.names) c.number_of-number.ensures.number in
     let actor : option_map (λ (one : Bor (List ℕ)). one.now) c.actor_of.result ≡ actor_told s.names c.args.node =
     c.actor_of.ensures ∙ ap (λ (ns : List NamedNode). actor_told ns c.number_of-number.result) c.names-names.ensures ∙ ap (actor_told s.names) c.number_of-number.ensures.number in
     subst (λ (k : WrittenCall). HasTaken c.put.new.self platform (calls ++ k ∷ []))
