@@ -274,8 +274,10 @@ record Reads (ns : List NamedNode) (n : ℕ) (es : List BookEntry) (m : ℕ) (kn
 
 one_read : (ns : List NamedNode) (are : AreNames ns) → (n m k : ℕ) (deed : Deed) (known : KnownFacts) → Knows ns n known → n ≤ 900 → k < n
     → call_of m known (call_data (call_told ns n k deed))
-    ≡ Ok (record { act = act_told ns n deed; on = called ns k; place = k; actor = actor_number (acts_on ns k) known.actors },
-    record { names = known.names ++ named_by ns are n (is_some (makes (kind_of deed))); actors = with_actor known.actors (acts_on ns k) })
+    ≡ Ok (
+      record { act = act_told ns n deed; on = called ns k; place = k; actor = actor_number (acts_on ns k) known.actors },
+      record { names = known.names ++ named_by ns are n (is_some (makes (kind_of deed))); actors = with_actor known.actors (acts_on ns k) },
+    )
 one_read ns are n m k deed known knows few less =
     let c = call_told ns n k deed in
     let after = known.names ++ named_by ns are n (is_some (makes (kind_of deed))) in
