@@ -1,12 +1,11 @@
 -- The calls of a history's entries, one after the other.
-use Rattle.std.proofs.Common.{Bor, ◌≡◌, ◌≤◌, ◌+◌, ℕ, suc, Bool, true, false, List, [], ◌∷◌, ◌++◌, length, map, take, Option, Some, None, Result, Ok, Err, OnOk, slice_get, refl, sym, ◌∙◌, ap, subst, arith, append-nil}
-use Rattle.std.specs.Prelude.{IfOk, IfSome, if◌then◌else◌, is_some, option_copied, option_map}
+use Rattle.std.proofs.Common.{Bor, ◌≡◌, ◌≤◌, ◌+◌, ℕ, suc, Bool, true, false, List, [], ◌∷◌, ◌++◌, length, Option, Some, None, Result, Ok, Err, OnOk, slice_get, refl, sym, ◌∙◌, ap, subst, arith, append-nil}
+use Rattle.std.specs.Prelude.{IfOk, if◌then◌else◌, is_some, option_copied, option_map}
 use Rattle.std.specs.List.{AllByRecursion}
 use Rattle.live_book.specs.Snapshot.{HasLedTo, SnapshotFacts}
 use Rattle.live_script.proofs.There.{domain_there, node_there}
 use Rattle.live_script.specs.Calls.{HasItsDomain, HasItsNode, IsRead, IsToldOf, nodes_behind, nodes_behind_all}
 use Rattle.live_script.specs.Script.{call_told, calls_told, nodes_then}
-use Rattle.negotiation_inputs.specs.Participant.{Participant}
 use Rattle.negotiation_inputs.specs.Platform.{PlatformFacts}
 use Rattle.node_names.specs.Names.{NamedNode}
 use Rattle.script_reading.specs.Call.{ActFacts}
@@ -16,7 +15,6 @@ use Rattle.sysmem_alloc.specs.Entry.{BookEntry, Acted, Decided}
 use Rattle.sysmem_alloc.specs.Laws.{LegalIsSound, NumbersStay}
 use Rattle.sysmem_tree.specs.ActionKind.{kind_of}
 use Rattle.sysmem_tree.specs.Domain.{TreeFacts}
-use Rattle.sysmem_tree.specs.Node.{NodeFacts}
 use Rattle.sysmem_tree.specs.Table.{makes}
 
 pub if_ok : {A E : Type 0} {P Q : A → Type 0} (r : Result A E) → ((a : A) → P a → Q a) → IfOk r P → IfOk r Q

@@ -1,5 +1,5 @@
 -- The names of a script's nodes, in the order in which they are made: the k-th stands for node k.
-use Rattle.std.proofs.Common.{◌≡◌, ◌<◌, ℕ, zero, suc, ◌+◌, List, [], ◌∷◌, ◌++◌, length, length-append, append-nil, Bool, Option, Some, None, Result, Ok, Err, slice_get, slice_set, refl, sym, ◌∙◌, ap, subst, arith, inl, inr}
+use Rattle.std.proofs.Common.{◌≡◌, ◌<◌, ℕ, zero, suc, ◌+◌, List, [], ◌∷◌, ◌++◌, length, length-append, append-nil, Option, Some, None, Result, Ok, Err, slice_get, slice_set, refl, sym, ◌∙◌, ap, subst, arith, inl, inr}
 use Rattle.std.specs.Prelude.{IsOk, is_some, unwrap_or, if◌then◌else◌}
 use Rattle.std.proofs.lemmas.Bool.{cases_lt}
 use Rattle.std.proofs.lemmas.Option.{slice_get_within}
@@ -12,7 +12,7 @@ use Rattle.sysmem_alloc.specs.Decision.{DomainVerdict, choices_of}
 use Rattle.sysmem_alloc.specs.Entry.{Acted}
 use Rattle.sysmem_alloc.specs.History.{after_answer}
 use Rattle.negotiation_inputs.specs.Platform.{PlatformFacts}
-use Rattle.sysmem_tree.proofs.CallerLemmas.{accepted, IsAccepted}
+use Rattle.sysmem_tree.proofs.CallerLemmas.{accepted}
 use Rattle.sysmem_tree.specs.ActionKind.{Deed, kind_of}
 use Rattle.sysmem_tree.specs.Domain.{TreeFacts}
 use Rattle.sysmem_tree.specs.Node.{NodeFacts}

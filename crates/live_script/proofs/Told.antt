@@ -1,6 +1,6 @@
 -- The calls that are told of a history are read as its actions.
-use Rattle.std.proofs.Common.{◌≡◌, ◌≢◌, ◌<◌, ◌≤◌, ◌+◌, ◌&&◌, ◌||◌, ◌==◌, ◌++◌, ℕ, zero, suc, Bool, true, false, cond, not, List, [], ◌∷◌, map, length, length-append, append-nil, Option, Some, None, Result, Ok, Err, slice_get, slice_set, get_or, codes, refl, sym, ◌∙◌, ap, subst, arith, lt-ltb, le-leb, inl, inr}
-use Rattle.std.specs.Prelude.{IfSome, IsOk, bytes_eq, find, if◌then◌else◌, is_some, nat_le, nat_lt, option_map, position, unwrap_or}
+use Rattle.std.proofs.Common.{◌≡◌, ◌<◌, ◌≤◌, ◌+◌, ◌||◌, ◌==◌, ◌++◌, ℕ, zero, suc, Bool, true, false, cond, List, [], ◌∷◌, map, length, length-append, append-nil, Option, Some, None, Result, Ok, slice_get, slice_set, get_or, refl, sym, ◌∙◌, ap, subst, arith, lt-ltb, le-leb, inl, inr}
+use Rattle.std.specs.Prelude.{IfSome, bytes_eq, find, if◌then◌else◌, is_some, nat_le, nat_lt, option_map, position, unwrap_or}
 use Rattle.std.specs.List.{AllByRecursion, IsDistinct, list_any, position_or_len}
 use Rattle.std.proofs.lemmas.Bool.{cases_lt, leb-true, or_cases}
 use Rattle.std.proofs.lemmas.List.{length-map}
@@ -12,19 +12,17 @@ use Rattle.std.proofs.lemmas.Option.{get_or_from_slice_get, same_Some, slice_get
 use Rattle.live_book.specs.Snapshot.{IsSettled, SnapshotFacts}
 use Rattle.live_script.proofs.Called.{apart, bytes_are, bytes_differ, bytes_laws, bytes_same, given_called, is_called, or_first, or_second}
 use Rattle.live_script.proofs.Named.{decided_long, get_first, get_last, is_made, set_long}
-use Rattle.live_script.specs.Script.{AreCallsOf, IsCallOf, IsTooLong, ReadsBack, act_told, actor_told, call_told, called, calls_told, nodes_then}
+use Rattle.live_script.specs.Script.{AreCallsOf, IsTooLong, ReadsBack, act_told, actor_told, call_told, called, calls_told, nodes_then}
 use Rattle.live_script.specs.Calls.{IsRead}
-use Rattle.negotiation_inputs.specs.Participant.{Participant}
 use Rattle.negotiation_inputs.specs.Platform.{PlatformFacts}
 use Rattle.node_names.specs.Names.{AreNames, NamedNode, given_name}
 use Rattle.record_laws.specs.Sparse.{participant_written}
-use Rattle.record_reading.specs.Reading.{participant_of}
 use Rattle.script_reading.specs.Call.{name_made}
 use Rattle.script_reading.specs.Names.{is_among, is_name, main_actor, root, with_actor}
 use Rattle.script_reading.specs.Script.{CallFacts, KnownFacts, actor_number, actors_after, call_of, calls_from, names_after, names_found, nothing_known, script_of}
 use Rattle.script_reading.specs.Text.{longest, spelled}
 use Rattle.script_replay.specs.Answer.{AsksFor, to_attach_token, to_bind, to_close, to_complete, to_create_child, to_create_group, to_duplicate, to_release, to_set, to_set_none}
-use Rattle.script_writing.specs.Call.{HasNames, IsName, StatesRecord, WrittenCall, call_data, form_written}
+use Rattle.script_writing.specs.Call.{HasNames, IsName, StatesRecord, call_data, form_written}
 use Rattle.script_writing.specs.Script.{IsScriptText, script_data}
 use Rattle.script_writing.proofs.CallerLemmas.{call_read, script_is}
 use Rattle.serde_json.specs.View.{items_of}
@@ -32,7 +30,7 @@ use Rattle.sysmem_alloc.specs.Entry.{BookEntry, Acted, Decided}
 use Rattle.sysmem_alloc.specs.History.{AreAllowed, after_answer, after_entry}
 use Rattle.sysmem_alloc.specs.Decision.{answer_of, choices_of}
 use Rattle.sysmem_alloc.specs.State.{State, first_state}
-use Rattle.sysmem_tree.proofs.CallerLemmas.{IsAccepted, accepted}
+use Rattle.sysmem_tree.proofs.CallerLemmas.{accepted}
 use Rattle.sysmem_tree.specs.ActionKind.{Deed, kind_of}
 use Rattle.sysmem_tree.specs.ActionKind as deeds
 use Rattle.sysmem_tree.specs.Domain.{TreeFacts}

@@ -1,5 +1,5 @@
 -- The script of a collection.
-use Rattle.std.specs.Prelude.{◌≡◌, ◌+◌, ◌<◌, ℕ, zero, suc, List, [], ◌∷◌, length, nat_le, Option, Some, None, Ok}
+use Rattle.std.specs.Prelude.{◌≡◌, ◌+◌, ◌<◌, ℕ, zero, suc, List, [], ◌∷◌, length, nat_le, Option, None, Ok}
 use Rattle.std.specs.Prelude.{if◌then◌else◌, is_some, option_map}
 use Rattle.live_book.specs.Snapshot.{SnapshotFacts}
 use Rattle.live_script.specs.Recurring.{Recurs}

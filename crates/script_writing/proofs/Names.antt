@@ -1,11 +1,11 @@
 -- Names need no escape.
-use Rattle.std.proofs.Common.{◌≡◌, ◌≤◌, ◌&&◌, ◌||◌, ◌++◌, ℕ, Bool, true, false, List, [], ◌∷◌, Option, Some, None, length, nat_eq, nat_le, refl, ap, ap₂, ◌∙◌, arith, eqb-true, leb-true}
+use Rattle.std.proofs.Common.{◌≡◌, ◌≤◌, ◌&&◌, ◌||◌, ◌++◌, ℕ, Bool, true, false, List, [], ◌∷◌, Option, Some, None, length, nat_eq, nat_le, refl, ap, ap₂, arith, eqb-true, leb-true}
 use Rattle.std.specs.Prelude.{IfSome}
 use Rattle.std.specs.List.{list_all}
-use Rattle.std.proofs.lemmas.Bool.{and_parts, or_cases}
+use Rattle.std.proofs.lemmas.Bool.{and_parts}
 use Rattle.json.specs.Print.{escape, escape_byte}
 use Rattle.json.proofs.Printed.Strings.{escape_byte_plain}
-use Rattle.script_reading.specs.Names.{is_name, is_name_byte}
+use Rattle.script_reading.specs.Names.{is_name_byte}
 use Rattle.script_writing.specs.Call.{IsName}
 
 abbrev pub IsUnescaped : List ℕ → Type 0

@@ -1,18 +1,13 @@
 -- What is written of a call is read as the call.
-use Rattle.std.proofs.Common.{◌≡◌, ◌≤◌, ◌+◌, ℕ, suc, true, List, [], ◌∷◌, ◌++◌, map, length, Option, Some, None, Result, Ok, Err, refl, sym, ap, ◌∙◌, subst, arith, le-leb}
-use Rattle.std.specs.Prelude.{nat_le, ok_or, unwrap_or, if◌then◌else◌}
-use Rattle.serde_json.specs.Data.{Data}
+use Rattle.std.proofs.Common.{◌≡◌, ◌≤◌, ◌+◌, ℕ, suc, true, List, [], ◌∷◌, map, length, Option, Some, None, Ok, refl, ap, ◌∙◌, arith, le-leb}
+use Rattle.std.specs.Prelude.{nat_le}
 use Rattle.serde_json.specs.View.{items_of}
-use Rattle.negotiation_inputs.specs.Participant.{Participant}
 use Rattle.negotiation_inputs.specs.Platform.{PlatformFacts}
 use Rattle.record_reading.specs.Reading.{platform_of}
-use Rattle.record_laws.specs.Sparse.{participant_written, platform_written}
-use Rattle.script_reading.specs.Call.{ActFacts, duplicates, binds, states, creates_group, creates_child, has_all_children, attaches_token, releases, closes, checks, waits, FormFacts, form_of, makes_name, may_have, name_made}
-use Rattle.script_reading.specs.Names.{is_name}
-use Rattle.script_reading.specs.Platform.{script_says}
-use Rattle.script_reading.specs.Script.{CallFacts, KnownFacts, ScriptFacts, actor_number, actors_after, call_of, calls_of, few_calls, items_len, names_found, script_of}
-use Rattle.script_reading.specs.declared.fault.ScriptFault.{ScriptFault}
-use Rattle.script_writing.specs.Call.{IsRecord, StatesRecord, WrittenCall, call_data, form_written}
+use Rattle.record_laws.specs.Sparse.{platform_written}
+use Rattle.script_reading.specs.Call.{ActFacts, duplicates, binds, states, creates_group, creates_child, has_all_children, attaches_token, releases, closes, checks, waits, form_of, makes_name, may_have}
+use Rattle.script_reading.specs.Script.{CallFacts, KnownFacts, actor_number, actors_after, call_of, calls_of, items_len, names_found, script_of}
+use Rattle.script_writing.specs.Call.{StatesRecord, WrittenCall, call_data, form_written}
 use Rattle.script_writing.specs.Script.{script_data}
 
 -- the form of a call is that which was written

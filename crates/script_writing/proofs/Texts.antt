@@ -1,18 +1,18 @@
 -- The text of a script is that of its tokens, with newlines between some of them.
-use Rattle.std.proofs.Common.{◌≡◌, ◌≤◌, ℕ, suc, max, Bool, true, false, cond, List, [], ◌∷◌, ◌++◌, map, fold, codes, Option, Some, None, option_map, option_and_then, refl, sym, ap, ap₂, ◌∙◌, subst, arith, append_assoc, append-nil, inr}
+use Rattle.std.proofs.Common.{◌≡◌, ◌≤◌, ℕ, suc, max, Bool, true, false, List, [], ◌∷◌, ◌++◌, map, codes, Option, Some, None, option_map, option_and_then, refl, sym, ap, ap₂, ◌∙◌, subst, arith, append_assoc, append-nil, inr}
 use Rattle.std.specs.Prelude.{IfSome}
 use Rattle.std.specs.List.{AllByRecursion}
 use Rattle.json.specs.Token.{Token, begin_object, end_object, begin_array, end_array, key, string}
 use Rattle.json.specs.Json as json
 use Rattle.json.specs.Lex.{tokens}
-use Rattle.json.specs.Print.{escape, escape_byte, ends, print_from, ArePrintable}
+use Rattle.json.specs.Print.{escape_byte, ends, print_from, ArePrintable}
 use Rattle.json.specs.Spaced.{AreGaps, print_spaced}
 use Rattle.json.specs.Tree.{json_tokens, items_tokens, members_tokens}
 use Rattle.json.specs.Tree as tree
 use Rattle.json.proofs.Printed.Tokens.{print_from-append}
 use Rattle.json.proofs.Printed.Trees.{value-json_tokens, ArePrintable-json_tokens}
 use Rattle.serde_json.specs.Data as values
-use Rattle.serde_json.specs.Data.{Data, Items, Members, no_items, item, no_members, member, array, object}
+use Rattle.serde_json.specs.Data.{Data, item, no_members, member, object}
 use Rattle.serde_json.specs.Read.{read, max_depth, of_json, of_items, of_members}
 use Rattle.serde_json.specs.View.{items_of}
 use Rattle.serde_json.specs.Written.{comma_if, compact_text, outline}
@@ -20,7 +20,7 @@ use Rattle.serde_json.proofs.Texts.{print-outline}
 use Rattle.negotiation_inputs.specs.Platform.{PlatformFacts}
 use Rattle.record_laws.specs.Sparse.{platform_written}
 use Rattle.script_reading.specs.Call.{ActFacts, duplicates, binds, states, creates_group, creates_child, has_all_children, attaches_token, releases, closes, checks, waits, name_made}
-use Rattle.script_writing.specs.Call.{WrittenCall, HasNames, call_data, call_text, member_if, stated_by, stated_text, text_if, text_member, word_of}
+use Rattle.script_writing.specs.Call.{WrittenCall, HasNames, call_data, member_if, stated_by, stated_text, text_if, text_member, word_of}
 use Rattle.script_writing.specs.Script.{IsCallSpelled, IsSpelled, calls_text, script_data, script_text}
 use Rattle.script_writing.proofs.Names.{IsUnescaped, name_plain, if_plain}
 use Rattle.script_writing.proofs.Spaced.{Piece, ends_after, gaps_of_both, gaps_of_plain, plain, print_plain, tokens_in, tokens_in_both, tokens_in_plain, tokens_line}

@@ -9,7 +9,7 @@ use Rattle.serde_json.specs.Written.{comma_if, compact_text, has_float, outline}
 use Rattle.negotiation_inputs.specs.Platform.{PlatformFacts}
 use Rattle.record_reading.specs.Reading.{platform_of}
 use Rattle.record_laws.specs.Sparse.{platform_written}
-use Rattle.script_writing.specs.Call.{WrittenCall, HasNames, StatesRecord, call_data, call_text, stated_by}
+use Rattle.script_writing.specs.Call.{WrittenCall, HasNames, call_data, call_text, stated_by}
 
 -- the object of a script
 abbrev pub script_data : PlatformFacts → List WrittenCall → Data

@@ -1,5 +1,5 @@
 -- What is put is the call that is told of the action.
-use Rattle.std.proofs.Common.{◌≡◌, ◌∙◌, ◌++◌, ◌∷◌, [], Bor, List, Option, ap, subst, sym, ℕ}
+use Rattle.std.proofs.Common.{◌≡◌, ◌∙◌, ◌++◌, ◌∷◌, [], Bor, List, ap, subst, sym, ℕ}
 use Rattle.std.specs.Prelude.{option_map}
 use Rattle.live_script.proofs.Growing.{ref_mapped, same_call}
 use Rattle.live_script.proofs.Told.{states_record}

@@ -1,11 +1,11 @@
 -- The calls of all entries are told.
-use Rattle.std.proofs.Common.{◌≡◌, ◌≤◌, ◌+◌, ◌∙◌, ◌++◌, ◌∷◌, [], Some, ap, arith, length, length-take-le, map, refl, slice_get, subst, sym, take}
+use Rattle.std.proofs.Common.{◌≡◌, ◌≤◌, ◌∙◌, [], Some, ap, arith, length, length-take-le, map, refl, slice_get, subst, sym, take}
 use Rattle.std.specs.List.{AllByRecursion}
 use Rattle.std.proofs.lemmas.List.{length-map, take_all}
 use Rattle.std.proofs.lemmas.Option.{slice_get-get_or}
 use Rattle.live_script.proofs.Entries.{entry_at, mapped_more}
 use Rattle.live_script.proofs.Growing.{always, few_behind, if_ok, its_node, told_more}
-use Rattle.live_script.specs.Calls.{IsRead, IsToldOf, nodes_behind_all}
+use Rattle.live_script.specs.Calls.{IsRead, IsToldOf}
 use Rattle.live_script.specs.Script.{calls_told}
 use Rattle.script_writing.specs.Script.{HasTaken, IsScriptText}
 use Rattle.sysmem_alloc.specs.Entry.{entry_in}
