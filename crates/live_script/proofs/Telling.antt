@@ -11,9 +11,7 @@ use Rattle.flat_negotiation.specs.declared.unsettled.Unsettled.{Unsettled}
 use Rattle.flat_negotiation.specs.declared.unsettled.Unsettled.TheVariants as why
 use Rattle.live_book.specs.Snapshot.{SnapshotFacts}
 use Rattle.live_book.specs.declared.object.Object.TheVariants.{Snapshot}
-use Rattle.live_script.specs.Refusing.{TellsRefusal, TellsWho, asking_in, by_number, is_told, isnt_told, tells_nobody, tells_refusal, tells_who, who_starves}
-use Rattle.sysmem_merge.specs.Best.{IsBest}
-use Rattle.sysmem_merge.specs.declared.settings.Settings.{Settings}
+use Rattle.live_script.specs.Refusing.{TellsRefusal, TellsWho, asking_in, by_number, is_told, isnt_told, tells_refusal, tells_who, who_starves}
 use Rattle.sysmem_tree.specs.Node.{NodeFacts}
 use Rattle.verdict_claims.specs.Asked.{asked_in}
 
@@ -29,10 +27,6 @@ who_told s r ks before after status (why.Unmet refusal) same unmet tells starves
 who_told s r ks before after status (why.Platform amiss) same unmet tells starves = absurd unmet
 who_told s r ks before after status (why.Participant who amiss) same unmet tells starves = absurd unmet
 who_told s r ks before after status why.TooMany same unmet tells starves = absurd unmet
-
--- or nobody is
-pub nobody : (s : SnapshotFacts) (r : ℕ) (ks : List ℕ) (before : FlatRefusal) (best : Settings) → ks ≡ asking_in s.tree.nodes r → IsBest true s.platform (asked_in s.tree.nodes ks) best → TellsWho s r before before 6
-nobody s r ks before best same is = tells_nobody best (subst (λ (js : List ℕ). IsBest true s.platform (asked_in s.tree.nodes js) best) same is) refl
 
 is_there : (xs : List NodeFacts) (i : ℕ) → i < length xs → slice_get xs i ≢ None
 is_there [] i less none = omega (arith, less)

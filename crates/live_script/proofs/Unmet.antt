@@ -5,7 +5,7 @@ use Rattle.std.specs.List.{list_any}
 use Rattle.std.proofs.lemmas.Bool.{eqb-true}
 use Rattle.std.proofs.lemmas.List.{append_assoc}
 use Rattle.std.proofs.lemmas.Option.{slice_get_within}
-use Rattle.live_book.specs.Snapshot.{SnapshotFacts}
+use Rattle.live_book.specs.Snapshot.{HasLedTo, SnapshotFacts}
 use Rattle.live_script.specs.Laws.{ToldAreUnmet}
 use Rattle.live_script.specs.Refusing.{asked_of, asking_in, has_group, is_emptied, is_empty, is_told}
 use Rattle.live_script.proofs.Homes.{asked_by_homes, homes, homes_are_members, plain_forest}
@@ -118,6 +118,10 @@ module _ (headline : Headline) (stays : NumbersStay) (sound : LegalIsSound) (one
       ap (λ xs. xs ++ later) e.is ∙ append_assoc e.before (Decided (record { domain = r; claim = Some e.claim }) ∷ e.after) later in
       unmet s.platform e.before r e.claim (e.after ++ later) (subst (IsLegal s.platform) all legal) e.empty s.tree.nodes
       (ap (λ (t : TreeFacts). t.nodes) tree ∙ ap (λ (es : List BookEntry). (replay es).tree.nodes) all) (is_free (host_number s.tree.nodes r) parts.0) parts.1
+
+  -- of a copy, to whose tree its history has led
+  pub led_are_unmet : (s : SnapshotFacts) (r : ℕ) → HasLedTo s.platform s.history s.tree → is_told s r ≡ true → IsUnmet true s.platform (asked_of s r)
+  led_are_unmet s r led told = unmet_behind s led.later r led.legal led.is told
 
   pub told_are_unmet : ToldAreUnmet
   told_are_unmet c s r book copy told =

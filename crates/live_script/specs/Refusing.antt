@@ -14,8 +14,6 @@ use Rattle.live_book.specs.declared.object.Object.TheVariants.{Snapshot}
 use Rattle.live_script.specs.Texts.{IsNoSnapshot}
 use Rattle.sysmem_alloc.specs.Decision.{verdict_in}
 use Rattle.sysmem_alloc.specs.Entry.{BookEntry, Acted, Decided}
-use Rattle.sysmem_merge.specs.Best.{IsBest}
-use Rattle.sysmem_merge.specs.declared.settings.Settings.{Settings}
 use Rattle.negotiation_inputs.specs.Participant.{Participant}
 use Rattle.sysmem_tree.specs.Domain.{host_number}
 use Rattle.sysmem_tree.specs.Layout.{is_group}
@@ -64,15 +62,12 @@ asked_of s r = asked_in s.tree.nodes (asking_in s.tree.nodes r)
 abbrev pub by_number : List ℕ → FlatRefusal → FlatRefusal
 by_number ks r = option_map_or (λ k. record r { who = k }) (slice_get ks r.who) r
 
--- who is in the way of the list of what is asked in a domain is told; or nobody is, as the list has
--- settings (6); or memory is refused (4)
+-- who is in the way of the list of what is asked in a domain is told, or memory is refused (4)
 pub data TellsWho (s : SnapshotFacts) (r : ℕ) (before after : FlatRefusal) : ℕ → Type 0 where
   tells_who : (refusal : Refusal) → IsBlamed s.platform (asked_of s r) refusal
       → after ≡ by_number (asking_in s.tree.nodes r)
       (flat_refusal before.struct_size (Unmet refusal))
       → TellsWho s r before after 0
-  tells_nobody : (best : Settings) → IsBest true s.platform (asked_of s r) best → after ≡ before
-      → TellsWho s r before after 6
   who_starves : after ≡ before → TellsWho s r before after 4
 
 -- this is told of the domain of node k of the copy that lies behind a handle; or it isn't told of

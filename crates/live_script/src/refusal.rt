@@ -9,10 +9,10 @@ ghost use Rattle.flat_negotiation.specs.Unsettled.{AreUnmet};
 ghost use Rattle.flat_negotiation.specs.declared.unsettled.Refusal.{Refusal};
 ghost use Rattle.flat_negotiation.specs.declared.unsettled.Unsettled.TheVariants.{NoMemory, Unmet};
 ghost use Rattle.live_book.specs.declared.object.Object.TheVariants.{Snapshot as Copied};
-ghost use Rattle.live_script.specs.Refusing.{TellsRefusal, TellsWho, asking_in, asks_in, by_number, has_group, is_emptied, is_empty, is_group_of, is_told};
+ghost use Rattle.live_script.specs.Refusing.{TellsRefusal, TellsWho, asked_of, asking_in, asks_in, by_number, has_group, is_emptied, is_empty, is_group_of, is_told};
 ghost use Rattle.sysmem_alloc.specs.Decision.{verdict_in};
 ghost use Rattle.sysmem_alloc.specs.Entry.{entry_in};
-ghost use Rattle.sysmem_merge.specs.Best.{IsBest};
+ghost use Rattle.sysmem_merge.specs.Best.{IsBest, IsUnmet};
 ghost use Rattle.sysmem_tree.specs.Domain.{HasDomain};
 ghost use Rattle.sysmem_tree.specs.Node.{NodeFacts};
 ghost use Rattle.sysmem_tree.specs.Nodes.{HasNode};
@@ -28,7 +28,9 @@ use negotiation_inputs::Constraints;
 use record_writing::copy_constraints;
 use std::alloc::{AllocError, Global};
 use std::sync::Arc;
+use sysmem_alloc::laws::{headline, legal_is_sound, numbers_stay};
 use sysmem_merge::Settings;
+use sysmem_tree::laws::{one_forest, one_path};
 use sysmem_tree::{DomainId, NodeId, NodeKind, Tree};
 use verdict_claims::{Claim, Verdict};
 
@@ -211,22 +213,41 @@ fn tell_unsettled(unsettled: Unsettled, numbers: &[u32], why: &mut FlatRefusal) 
     }
 }
 
-/// Tells who is in the way of the list of the nodes of these numbers, if anybody is.
+/// Tells who is in the way of the list of the nodes of these numbers.
 fn tell_list(alloc: Global, snapshot: &Snapshot, numbers: &[u32], why: &mut FlatRefusal) -> u32
-    requires { length numbers.now ≤ MOST_NODES }
+    requires few { length numbers.now ≤ MOST_NODES }
+    requires unmet { IsUnmet true snapshot.now.platform
+        (asked_in snapshot.now.tree.nodes numbers.now) }
     ensures { (r : ℕ) → numbers.now ≡ asking_in snapshot.now.tree.nodes r
         → TellsWho snapshot.now r why.old why.new result }
 {
     match settled_for(alloc, snapshot, numbers) {
-        Ok(_) => NO,
+        Ok(_) => unreachable!(),
         Err(unsettled) => tell_unsettled(unsettled, numbers, why),
     }
 }
 
+/// Recalls, for a proof, that no settings meet the list of what is asked in a domain of which it is
+/// told who is in the way. It does nothing.
+fn recall_unmet(snapshot: &Snapshot, domain: DomainId)
+    requires { is_told snapshot.now domain ≡ true }
+    ensures { IsUnmet true snapshot.now.platform (asked_of snapshot.now domain) }
+{
+    headline();
+    numbers_stay();
+    legal_is_sound();
+    one_path();
+    one_forest();
+    snapshot.recall_settled();
+    let _ = domain;
+}
+
 /// Tells who is in the way of a domain, by the list of what is asked in it.
 fn tell(alloc: Global, snapshot: &Snapshot, domain: DomainId, why: &mut FlatRefusal) -> u32
+    requires { is_told snapshot.now domain ≡ true }
     ensures { TellsWho snapshot.now domain why.old why.new result }
 {
+    recall_unmet(snapshot, domain);
     match asking_in(alloc, snapshot.tree(), domain) {
         Ok(numbers) => tell_list(alloc, snapshot, &numbers, why),
         Err(_) => NO_MEMORY,
