@@ -1,6 +1,6 @@
 //! Calls that act on a collection.
 
-ghost use Rattle.std.specs.Prelude.{◌≡◌, ℕ, Some, None, IfSome, option_map};
+ghost use Rattle.std.specs.Prelude.{◌≡◌, ◌≢◌, ℕ, Some, None, IfSome, option_map};
 ghost use Rattle.std.specs.Arc.{arc_value};
 ghost use Rattle.sysmem_tree.specs.ActionKind.{deed_of, sets};
 ghost use Rattle.live_calls.specs.Acting.{Acts};
@@ -23,8 +23,9 @@ fn act_in(
     made: &mut u32,
     is_ready: &mut bool,
 ) -> u32
-    ensures { Acts node (deed_of action) (Some object.old) (Some object.new)
+    ensures acts { Acts node (deed_of action) (Some object.old) (Some object.new)
         made.new is_ready.new result }
+    ensures stays { result ≢ 0 → (made.new ≡ made.old) × (is_ready.new ≡ is_ready.old) }
 {
     let Object::Collection(collection) = object else {
         return MISUSED;
@@ -48,8 +49,9 @@ fn act_by(
     made: &mut u32,
     is_ready: &mut bool,
 ) -> u32
-    ensures { Acts node (deed_of action) held.old.value held.new.value
+    ensures acts { Acts node (deed_of action) held.old.value held.new.value
         made.new is_ready.new result }
+    ensures stays { result ≢ 0 → (made.new ≡ made.old) × (is_ready.new ≡ is_ready.old) }
 {
     let Some(mut object) = held.take(alloc) else {
         return MISUSED;
@@ -72,6 +74,7 @@ pub fn act_on(
         (λ deed. Acts node deed held.old.value held.new.value made.new is_ready.new result) }
     ensures none { action_at action ≡ None → result ≡ 2 }
     ensures unchanged { action_at action ≡ None → held.new.value ≡ held.old.value }
+    ensures stays { result ≢ 0 → (made.new ≡ made.old) × (is_ready.new ≡ is_ready.old) }
 {
     match action_of(action) {
         Some(action) => act_by(alloc, held, node, action, made, is_ready),
@@ -87,8 +90,9 @@ fn set_shared(
     shared: Arc<Constraints>,
     is_ready: &mut bool,
 ) -> u32
-    ensures { (made : ℕ) × Acts node (sets (Some (arc_value shared))) held.old.value held.new.value
-        made is_ready.new result }
+    ensures acts { (made : ℕ) × Acts node (sets (Some (arc_value shared))) held.old.value
+        held.new.value made is_ready.new result }
+    ensures stays { result ≢ 0 → is_ready.new ≡ is_ready.old }
 {
     let mut made = 0;
     let action = Action::SetConstraints(Some(shared));
@@ -123,6 +127,7 @@ pub fn set_on(
     ensures unchanged { constraints_in constraints.old.value ≡ None
         → held.new.value ≡ held.old.value }
     ensures taken { constraints.new.value ≡ None }
+    ensures stays { result ≢ 0 → is_ready.new ≡ is_ready.old }
 {
     match taken_constraints(alloc, constraints) {
         Some(shared) => set_shared(alloc, held, node, shared, is_ready),

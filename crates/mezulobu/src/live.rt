@@ -4,7 +4,7 @@
 //! A handle is all 0 at first. It is never copied while it is full, nor written by C, and one call
 //! at a time has it.
 
-ghost use Rattle.std.specs.Prelude.{◌≡◌, ℕ, None, Some, IfSome};
+ghost use Rattle.std.specs.Prelude.{◌≡◌, ◌≢◌, ℕ, None, Some, IfSome};
 ghost use Rattle.node_limits.specs.Limits.{no_limits};
 ghost use Rattle.live_calls.specs.Acting.{Acts};
 ghost use Rattle.live_calls.specs.Behind.{constraints_in};
@@ -126,6 +126,7 @@ pub extern "C" fn mezulobu_rt_live_act(
         (λ deed. Acts node deed held.old.value held.new.value made.new is_ready.new result) }
     ensures none { action_at action ≡ None → result ≡ 2 }
     ensures unchanged { action_at action ≡ None → held.new.value ≡ held.old.value }
+    ensures stays { result ≢ 0 → (made.new ≡ made.old) × (is_ready.new ≡ is_ready.old) }
 {
     act_on(alloc, held, node, action, made, is_ready)
 }
@@ -145,6 +146,7 @@ pub extern "C" fn mezulobu_rt_live_set(
     ensures unchanged { constraints_in constraints.old.value ≡ None
         → held.new.value ≡ held.old.value }
     ensures taken { constraints.new.value ≡ None }
+    ensures stays { result ≢ 0 → is_ready.new ≡ is_ready.old }
 {
     set_on(alloc, held, node, constraints, is_ready)
 }

@@ -3,5 +3,5 @@ use Rattle.std.proofs.Common.{◌∙◌}
 use Rattle.live_calls.specs.Acting.{misused}
 use Rattle.live_calls.proofs.acting.act_by.Goals as goal
 
-pub returns-in_default : goal.returns-in_default
-returns-in_default c = misused (λ b e. cc (c.in_default.ensures.taken ∙ e)) (c.in_default.ensures.empty ∙ c.in_default.ensures.taken)
+pub returns-in_default-clause-acts : goal.returns-in_default-clause-acts
+returns-in_default-clause-acts c = misused (λ b e. cc (c.in_default.ensures.taken ∙ e)) (c.in_default.ensures.empty ∙ c.in_default.ensures.taken)

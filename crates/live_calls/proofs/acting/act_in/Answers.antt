@@ -11,11 +11,11 @@ use Rattle.live_book.specs.Collection.{CollectionFacts}
 use Rattle.live_calls.specs.Acting.{Acts, accepts, denies, misused}
 use Rattle.live_calls.proofs.acting.act_in.Goals as goal
 
-pub returns-in_default : goal.returns-in_default
-returns-in_default c = misused (λ b e. c.in_default.not-Collection b (cc e)) refl
+pub returns-in_default-clause-acts : goal.returns-in_default-clause-acts
+returns-in_default-clause-acts c = misused (λ b e. c.in_default.not-Collection b (cc e)) refl
 
-pub returns-in-Ok : goal.returns-in-Ok
-returns-in-Ok c =
+pub returns-in-Ok-clause-acts : goal.returns-in-Ok-clause-acts
+returns-in-Ok-clause-acts c =
     let b = entered c.in-Collection.collection.book (Acted c.args.node (deed_of c.args.action)) in
     accepts c.in-Collection.collection b (ap Some c.in-Collection.is) (ap (λ x. Some (Collection x)) c.in-Ok.ensures.entered)
     (record {
@@ -26,7 +26,7 @@ returns-in-Ok c =
       is_ready = subst (λ (x : CollectionFacts). c.in-Ok.accepted.is_ready ≡ is_some (next_ready x.book.state)) c.in-Ok.ensures.entered c.in-Ok.ensures.ready;
     })
 
-pub returns-in-Err : goal.returns-in-Err
-returns-in-Err c =
+pub returns-in-Err-clause-acts : goal.returns-in-Err-clause-acts
+returns-in-Err-clause-acts c =
     subst (Acts c.args.node (deed_of c.args.action) (Some c.args.object.now) (Some (Collection c.act.new.collection)) c.args.made.now c.args.is_ready.now) (sym c.denial_status.ensures)
     (denies c.in-Collection.collection c.in-Err.denial (ap Some c.in-Collection.is) (ap (λ b. Some (Collection b)) c.in-Err.ensures.unchanged ∙ sym (ap Some c.in-Collection.is)) c.in-Err.ensures.denied)
