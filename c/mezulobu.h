@@ -21,7 +21,7 @@
 extern "C" {
 #endif
 
-#define MEZULOBU_VERSION 0x00010005u /* major 16 bits, minor 16 bits */
+#define MEZULOBU_VERSION 0x00010006u /* major 16 bits, minor 16 bits */
 
 /* What a call answers: the exit status that the program has of the same, and 2 and 5 for what only
  * a caller can get wrong. */

@@ -2,7 +2,7 @@
 import ctypes
 from typing import Any, Dict, List, Tuple
 
-VERSION = 0x00010005
+VERSION = 0x00010006
 
 NOBODY = ctypes.c_size_t(-1).value
 

@@ -9,7 +9,7 @@ use clap::{Arg, ArgAction, ArgMatches, Command, Error};
 use std::alloc::{AllocError, Global};
 
 /// The version that `--version` tells: major and minor number, as in `c/mezulobu.h`.
-const VERSION: &str = "1.5";
+const VERSION: &str = "1.6";
 
 /// What a command line asks for, with the files that it names.
 #[derive(Clone, Copy)]

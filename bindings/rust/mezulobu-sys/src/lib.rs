@@ -4,7 +4,7 @@
 use std::os::raw::{c_char, c_int, c_void};
 
 /// major 16 bits, minor 16 bits
-pub const MEZULOBU_VERSION: u32 = 0x00010005;
+pub const MEZULOBU_VERSION: u32 = 0x00010006;
 
 /// done; of a check: yes
 pub const MEZULOBU_DONE: c_int = 0;
