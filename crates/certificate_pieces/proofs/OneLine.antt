@@ -1,5 +1,5 @@
 -- One line more in a list that is told.
-use Rattle.std.proofs.Common.{arith, ◌≡◌, ◌<◌, ◌≤◌, ◌+◌, ℕ, suc, Bool, true, false, ◌++◌, List, ◌∷◌, All, Contains, Some, drop, get_or, length, map, nat_lt, slice_get, sym, subst, ap, ◌∙◌, append_assoc, lt-ltb}
+use Rattle.std.proofs.Common.{arith, ◌≡◌, ◌<◌, ◌≤◌, ◌+◌, ℕ, suc, Bool, true, false, ◌++◌, List, ◌∷◌, All, Contains, Option, Some, drop, get_or, length, map, nat_lt, slice_get, sym, subst, ap, ◌∙◌, append_assoc, lt-ltb}
 use Rattle.std.specs.Int.{from_bool}
 use Rattle.std.proofs.lemmas.List.{drop_more}
 use Rattle.std.proofs.lemmas.Option.{same_Some}

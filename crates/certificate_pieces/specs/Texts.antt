@@ -1,5 +1,5 @@
 -- The texts of which a certificate is made.
-use Rattle.std.specs.Prelude.{ℕ, List, [], ◌∷◌, ◌++◌, Bool, true, false, Option, Some, None, codes, option_map}
+use Rattle.std.specs.Prelude.{◌≡◌, ℕ, List, [], ◌∷◌, ◌++◌, Bool, true, false, Option, Some, None, codes, option_map}
 use Rattle.std.specs.Arc.{arc_value}
 use Rattle.serde_json.specs.Written.{comma_if, compact_text}
 use Rattle.verdict_claims.specs.declared.certificate.Claim.{Claim}
