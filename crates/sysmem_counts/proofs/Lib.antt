@@ -1,4 +1,3 @@
 pub mod CallerLemmas
 pub mod Lists
 pub mod Counts
-mod Fields

@@ -3,6 +3,8 @@
 ghost use Rattle.std.specs.Prelude.{◌≡◌, ◌↔◌, ◌<◌};
 ghost use Rattle.sysmem_formats.specs.declared.modifier.TheConstants.{MODIFIERS};
 
+use crate::laws::all_modifiers;
+
 /// How the rows of an image lie in memory: one after another, or in tiles.
 #[derive(Clone, Copy, Debug, PartialEq, Eq)]
 pub enum Modifier {
@@ -18,6 +20,13 @@ impl Modifier {
     ghost use Rattle.sysmem_formats.specs.declared.modifier.Modifier.{Modifier};
     ghost use Rattle.sysmem_formats.specs.Codes.{modifier_code};
     ghost use Rattle.sysmem_formats.specs.Names.{modifier_name};
+
+    /// Each modifier, in the order of `index`.
+    pub const ALL: [Modifier; MODIFIERS] = [
+        Modifier::Linear,
+        Modifier::IntelXTiled,
+        Modifier::IntelYTiled,
+    ];
 
     /// The modifier's name in constraints, platforms and reports.
     pub fn name(self) -> &'static str
@@ -35,12 +44,9 @@ impl Modifier {
         ensures { (modifier : Modifier) → (result ≡ Some modifier)
             ↔ (name.now ≡ modifier_name modifier) }
     {
-        match name {
-            "LINEAR" => Some(Modifier::Linear),
-            "INTEL_I915_X_TILED" => Some(Modifier::IntelXTiled),
-            "INTEL_I915_Y_TILED" => Some(Modifier::IntelYTiled),
-            _ => None,
-        }
+        // For the proof: the list leaves no modifier out.
+        all_modifiers();
+        Modifier::ALL.iter().find(|one| one.name() == name).copied()
     }
 
     /// The modifier's place in the list of all, from 0.
