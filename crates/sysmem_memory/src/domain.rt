@@ -4,6 +4,8 @@ ghost use Rattle.std.specs.Prelude.{◌≡◌, ◌↔◌, Some, false, IfSome, I
 ghost use Rattle.sysmem_memory.specs.Domain.{domain_name, has_domain, IsFirstDomain};
 ghost use Rattle.sysmem_memory.specs.declared.domain.CoherencyDomain.{CoherencyDomain as Domain};
 
+use crate::laws::all_domains;
+
 /// How the CPU sees a buffer's memory: through its caches, in main memory, or not at all.
 #[derive(Clone, Copy, Debug, PartialEq, Eq)]
 pub enum CoherencyDomain {
@@ -13,6 +15,13 @@ pub enum CoherencyDomain {
 }
 
 impl CoherencyDomain {
+    /// Each coherency domain, in the order in which they are tried.
+    pub const ALL: [CoherencyDomain; 3] = [
+        CoherencyDomain::Cpu,
+        CoherencyDomain::Ram,
+        CoherencyDomain::Inaccessible,
+    ];
+
     /// The domain's name in a script and in a report.
     pub fn name(self) -> &'static str
         ensures { result.now ≡ domain_name self }
@@ -28,12 +37,12 @@ impl CoherencyDomain {
     pub fn from_name(name: &str) -> Option<CoherencyDomain>
         ensures { (d : Domain) → (result ≡ Some d) ↔ (name.now ≡ domain_name d) }
     {
-        match name {
-            "cpu" => Some(CoherencyDomain::Cpu),
-            "ram" => Some(CoherencyDomain::Ram),
-            "inaccessible" => Some(CoherencyDomain::Inaccessible),
-            _ => None,
-        }
+        // For the proof: the list leaves no domain out.
+        all_domains();
+        CoherencyDomain::ALL
+            .iter()
+            .find(|one| one.name() == name)
+            .copied()
     }
 }
 
