@@ -40,7 +40,6 @@ FORMATS = column(FORMATS_OF, "format_name")
 MODIFIERS, COLOURS = column(NAMES, "modifier_name"), column(NAMES, "colour_name")
 PIXEL_BYTES, SAMPLING = column(FORMATS_OF, "pixel_bytes"), column(FORMATS_OF, "sampling_of")
 OF_4_BYTES = [FORMATS[form] for form, count in PIXEL_BYTES.items() if count == "4"]
-HALF_PLANE = [form for form, sampling in SAMPLING.items() if sampling in ("TwoPlanes", "ThreePlanes")]
 PLANES = {"Full": "1", "HalfRow": "1", "TwoPlanes": "2", "ThreePlanes": "3"}
 FIELDS = column(specs("sysmem_counts", "Field"), "field_name")
 FIELDS_OF = specs("sysmem_image", "Fields")

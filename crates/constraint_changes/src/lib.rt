@@ -21,4 +21,4 @@ mod walk;
 
 pub use changes::tell_changes;
 pub use together::tell_together;
-pub use trials::{Group, Trial, entry_place, line_at, put_choice, takes};
+pub use trials::{Group, Trial, entry_place, line_at, put_choice};

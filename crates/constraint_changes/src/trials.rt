@@ -15,7 +15,7 @@ mod unmet;
 mod worth;
 
 pub use drafting::{Change, asked_after};
-pub use entries::{EntryPlace, entries_behind, entry_place, takes};
+pub use entries::{EntryPlace, entries_behind, entry_place};
 pub use group::{Group, line_at};
 pub use parties::{Party, can_help, parties_of};
 pub use promising::{put_choice, put_line};

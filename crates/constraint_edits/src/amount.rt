@@ -1,7 +1,7 @@
 //! The value of a field of constraints, and values between two.
 
 use crate::edits::{Changed, Edit};
-use crate::objects::{ENTRIES, MEMORY, entries_of, number_value, values_in, with};
+use crate::objects::{ENTRIES, MEMORY, entries_of, exact_value, values_in, with};
 use explanation_text::{Gathered, Words};
 use serde_json::Value;
 use std::alloc::{AllocError, Global};
@@ -118,10 +118,10 @@ impl Amount {
     /// The value as JSON.
     fn value(self, alloc: Global) -> Result<Value, AllocError> {
         match self {
-            Amount::Number(number) => Ok(number_value(number)),
+            Amount::Number(number) => Ok(exact_value(number)),
             Amount::Sides(width, height) => {
-                let sides = with(alloc, None, "width", number_value(width))?;
-                with(alloc, Some(&sides), "height", number_value(height))
+                let sides = with(alloc, None, "width", exact_value(width))?;
+                with(alloc, Some(&sides), "height", exact_value(height))
             }
         }
     }

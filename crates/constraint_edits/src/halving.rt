@@ -5,6 +5,7 @@ use crate::edits::{Changed, Edit};
 use serde_json::Value;
 use std::alloc::{AllocError, Global};
 use sysmem_counts::Field;
+use sysmem_image::bounds_table;
 
 /// What a decision says of its buffers.
 #[derive(Clone, Copy)]
@@ -66,31 +67,6 @@ fn raised(field: Field, line: &str) -> Option<Amount> {
     }
 }
 
-fn is_lowered(field: Field) -> bool {
-    matches!(
-        field,
-        Field::MinBufferCount
-            | Field::MinBufferCountForCamping
-            | Field::MinBufferCountForDedicatedSlack
-            | Field::MinBufferCountForSharedSlack
-            | Field::MinSizeBytes
-            | Field::MinBytesPerRow
-            | Field::MinSize
-            | Field::RequiredMaxSize
-    )
-}
-
-/// Whether a field asks for multiples of its value.
-fn is_multiple(field: Field) -> bool {
-    matches!(
-        field,
-        Field::SizeAlignment
-            | Field::BytesPerRowDivisor
-            | Field::StartOffsetDivisor
-            | Field::DisplayRectAlignment
-    )
-}
-
 /// How the least change is looked for.
 #[derive(Clone, Copy, PartialEq, Eq)]
 enum Way {
@@ -102,14 +78,29 @@ enum Way {
     Halved,
 }
 
+macro_rules! way_by {
+    (($field:ident) $($name:ident: $shape:ident $rule:ident $of:ident $absent:ident $range:ident,)*) => {
+        match $field {
+            $(Field::$of => way_by_rule!($rule),)*
+            Field::MinBufferCount
+            | Field::MinBufferCountForCamping
+            | Field::MinBufferCountForDedicatedSlack
+            | Field::MinBufferCountForSharedSlack
+            | Field::MinSizeBytes => Some(Way::Lowered),
+            _ => None,
+        }
+    };
+}
+
+macro_rules! way_by_rule {
+    (greatest) => { Some(Way::Lowered) };
+    (least) => { None };
+    (multiple) => { Some(Way::Halved) };
+}
+
+/// How the least change of a field is looked for that isn't raised.
 fn way_of(field: Field) -> Option<Way> {
-    if is_lowered(field) {
-        Some(Way::Lowered)
-    } else if is_multiple(field) {
-        Some(Way::Halved)
-    } else {
-        None
-    }
+    bounds_table!(way_by!(field))
 }
 
 /// Values of a field that are between the stated one and none, the next of which is to be tried.

@@ -46,7 +46,8 @@ pub(crate) fn lacking(alloc: Global, object: &Value, key: &str) -> Result<Value,
     Ok(Value::Object(members_but(alloc, Some(object), key)?))
 }
 
-pub(crate) fn number_value(number: u64) -> Value {
+/// A number as JSON, however great it is.
+pub(crate) fn exact_value(number: u64) -> Value {
     match Number::from_u128(u128::from(number)) {
         Some(number) => Value::Number(number),
         None => Value::Null,

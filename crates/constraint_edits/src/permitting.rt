@@ -1,7 +1,7 @@
 //! Constraints that permit a heap more, or another in the place of one that nearly has its name.
 
 use crate::edits::Changed;
-use crate::objects::{MEMORY, number_value, text_value, with};
+use crate::objects::{MEMORY, exact_value, text_value, with};
 use explanation_text::{Gathered, Words, nearest};
 use serde_json::Value;
 use std::alloc::{AllocError, Global};
@@ -47,7 +47,7 @@ fn is_among(item: &Value, heaps: &[HeapInfo]) -> bool {
 fn heap_value(alloc: Global, heap: &Heap) -> Result<Value, AllocError> {
     let name = text_value(alloc, &heap.heap_type)?;
     let typed = with(alloc, None, "heap_type", name)?;
-    with(alloc, Some(&typed), "id", number_value(heap.id))
+    with(alloc, Some(&typed), "id", exact_value(heap.id))
 }
 
 /// Whether constraints name some heaps and not this one.

@@ -1,7 +1,7 @@
 //! Constraints of one whose buffers no CPU uses, or who asks for more of them.
 
 use crate::edits::Changed;
-use crate::objects::{number_value, text_value, with};
+use crate::objects::{exact_value, text_value, with};
 use explanation_text::Words;
 use serde_json::Value;
 use std::alloc::{AllocError, Global};
@@ -85,7 +85,7 @@ pub(crate) fn asking_for(
     };
     words.put(" becomes ").put_number(count);
     Ok(Some(Changed {
-        value: with(alloc, Some(value), name, number_value(u64::from(count)))?,
+        value: with(alloc, Some(value), name, exact_value(u64::from(count)))?,
         words: words.into_text()?,
     }))
 }

@@ -3,7 +3,7 @@
 use domain_reasons::tell_in_short;
 use explanation_text::wording::{mark_after, put_visible};
 use explanation_text::{Item, Items, Kind, Words, begins_character, line_of};
-use script_faults::{Document, tell_fault};
+use script_faults::{Document, has_name_bytes, tell_fault};
 use script_reading::{ParseFault, Script, ScriptFault, parse_script, read_script};
 use script_story::{Effort, Scenario, story_of};
 use std::alloc::{AllocError, Global};
@@ -90,7 +90,11 @@ fn known_in<'a>(line: &'a str) -> Option<&'a str> {
             told
         }
     };
-    if is_name(name) { Some(name) } else { None }
+    if has_name_bytes(name) {
+        Some(name)
+    } else {
+        None
+    }
 }
 
 /// The first known text that the lines on what helps name.
@@ -101,15 +105,6 @@ fn known_of<'a>(shown: &'a str) -> Option<&'a str> {
         }
     }
     None
-}
-
-fn is_name(text: &str) -> bool {
-    for byte in text.as_bytes() {
-        if !byte.is_ascii_alphanumeric() && *byte != b'_' && *byte != b'-' {
-            return false;
-        }
-    }
-    true
 }
 
 /// Where the fault begins whose line and column are shown after the name of the file: `  -->

@@ -6,14 +6,14 @@ ghost use Rattle.std.specs.String.{string_bytes};
 ghost use Rattle.script_reading.specs.Seen.{call_seen};
 ghost use Rattle.constraint_changes.specs.Edited.{IsPromised};
 
-use constraint_changes::{Trial, entry_place, line_at, put_choice, takes};
+use constraint_changes::{Trial, entry_place, line_at, put_choice};
 use constraint_edits::{Edit, edited};
 use domain_reasons::choices_in;
 use explanation_text::{Items, Step, Words};
 use script_faults::{Document, RecordPart};
 use script_story::{Milestone, Scenario, Story, asked_in};
 use serde_json::Value;
-use settings_reasons::{holder_of, unused_entries};
+use settings_reasons::{holder_of, is_taken, unused_entries};
 use std::alloc::{AllocError, Global};
 use sysmem_formats::{Modifier, Pair, PixelFormat};
 use value_sources::Asked;
@@ -195,7 +195,7 @@ impl Teller<'_, '_> {
     fn holder_of(&self, index: usize) -> Option<Holder> {
         let entry = self.one.asked.entries().get(index)?;
         for pair in self.scenario.platform.pairs() {
-            if takes(entry, *pair) {
+            if is_taken(entry, *pair) {
                 let index = holder_of(self.one.asked.entries(), *pair)?;
                 return Some(Holder { index, pair: *pair });
             }

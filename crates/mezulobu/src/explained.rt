@@ -5,8 +5,8 @@ ghost use Rattle.serde_json.specs.View.{view};
 ghost use Rattle.mezulobu.specs.Explains.{ExplanationSays, HasFault, IsFaultOf};
 
 use crate::told::Answer;
-use crate::{DONE, NO, REFUSED};
 use explain::{Outcome, Outputs, explain};
+use live_calls::{DONE, NO, REFUSED};
 use script_reading::{ParseFault, ScriptFault, parse_script, read_script};
 use serde_json::Value;
 use std::alloc::{AllocError, Global};

@@ -25,20 +25,11 @@ use flat_negotiation::{
     FlatLayout, FlatParticipant, FlatPlatform, FlatRefusal, FlatSettings, Unsettled, layout_of,
     negotiate, refusal_of, settings_of,
 };
+use live_calls::{DONE, NO, NO_MEMORY, REFUSED};
 use std::alloc::Global;
 
-// Statuses, as `mezulobu.h` has them.
-pub(crate) const DONE: u32 = 0;
-
-pub(crate) const MISUSED: u32 = 2;
-
-pub(crate) const REFUSED: u32 = 3;
-
-pub(crate) const NO_MEMORY: u32 = 4;
-
+/// The room that a caller gives is too small for the text.
 pub(crate) const TOO_SMALL: u32 = 5;
-
-pub(crate) const NO: u32 = 6;
 
 /// Replays a script: the text is its report, or the words of its first fault.
 #[unsafe(no_mangle)]

@@ -4,9 +4,10 @@ ghost use Rattle.std.specs.Prelude.{◌≡◌, None, IfOk, IfSome};
 ghost use Rattle.mezulobu.specs.Ends.{Ends};
 ghost use Rattle.mezulobu.specs.RecordFaults.{FaultSays, kind_at};
 
+use crate::TOO_SMALL;
 use crate::told::Answer;
-use crate::{DONE, MISUSED, NO, NO_MEMORY, TOO_SMALL};
 use caller_buffers::hand_out;
+use live_calls::{DONE, MISUSED, NO, NO_MEMORY};
 use script_faults::{RecordKind, record_fault};
 use std::alloc::{AllocError, Global};
 

@@ -8,8 +8,8 @@ ghost use Rattle.mezulobu.specs.Says.{CheckSays, ProvedRunSays, RunSays};
 ghost use Rattle.mezulobu.specs.Words.{refusal_words};
 
 use crate::words::refusal_words;
-use crate::{DONE, NO, REFUSED};
 use byte_transfer::Counted;
+use live_calls::{DONE, NO, REFUSED};
 use script_check::check_file;
 use script_reading::ScriptFault;
 use script_run::{Ended, RunFault, run, run_with_proof};

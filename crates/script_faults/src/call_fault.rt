@@ -303,10 +303,11 @@ fn hint_of_key(alloc: Global, key: &str, keys: &[&'static str]) -> Words {
 
 /// Whether a text is 1 to 32 ASCII letters, digits, `_` and `-`.
 fn is_name(text: &str) -> bool {
-    !text.is_empty() && text.len() <= 32 && has_name_letters(text)
+    !text.is_empty() && text.len() <= 32 && has_name_bytes(text)
 }
 
-fn has_name_letters(text: &str) -> bool {
+/// Whether a text is ASCII letters, digits, `_` and `-`.
+pub fn has_name_bytes(text: &str) -> bool {
     for byte in text.as_bytes() {
         if !byte.is_ascii_alphanumeric() && *byte != b'_' && *byte != b'-' {
             return false;

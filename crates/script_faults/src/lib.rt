@@ -19,7 +19,7 @@ mod record;
 mod record_alone;
 mod script_fault;
 
-pub use call_fault::actor_of;
+pub use call_fault::{actor_of, has_name_bytes};
 pub use record::{Document, RecordPart, Whole, tell_record_fault};
 pub use record_alone::{RecordFault, RecordKind, record_fault};
 pub use script_fault::{tell_fault, tell_no_json};

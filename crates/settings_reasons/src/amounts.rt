@@ -2,7 +2,7 @@
 
 use explanation_text::Words;
 use sysmem_counts::Field;
-use sysmem_image::{ImageBounds, Size};
+use sysmem_image::{ImageBounds, Size, bounds_table};
 
 /// What a field states.
 #[derive(Clone, Copy)]
@@ -36,19 +36,22 @@ pub(crate) fn put_amount(text: &mut Words, amount: Amount) {
     }
 }
 
-/// What bounds state at one of their fields.
+macro_rules! amount_by {
+    (($field:ident $bounds:ident) $($name:ident: $shape:ident $rule:ident $of:ident $absent:ident $range:ident,)*) => {
+        match $field {
+            $(Field::$of => amount_of!($shape $bounds.$name),)*
+            _ => Amount::Number(0),
+        }
+    };
+}
+
+macro_rules! amount_of {
+    (size $stated:expr) => { Amount::Sides($stated) };
+    (number $stated:expr) => { Amount::Number(u64::from($stated)) };
+    (large $stated:expr) => { Amount::Number($stated) };
+}
+
+/// What bounds state at a field; 0 where it is none of theirs.
 pub(crate) fn amount_at(bounds: &ImageBounds, field: Field) -> Amount {
-    match field {
-        Field::MinSize => Amount::Sides(bounds.min_size),
-        Field::MaxSize => Amount::Sides(bounds.max_size),
-        Field::SizeAlignment => Amount::Sides(bounds.size_alignment),
-        Field::DisplayRectAlignment => Amount::Sides(bounds.display_rect_alignment),
-        Field::RequiredMinSize => Amount::Sides(bounds.required_min_size),
-        Field::RequiredMaxSize => Amount::Sides(bounds.required_max_size),
-        Field::MinBytesPerRow => Amount::Number(u64::from(bounds.min_bytes_per_row)),
-        Field::MaxBytesPerRow => Amount::Number(u64::from(bounds.max_bytes_per_row)),
-        Field::BytesPerRowDivisor => Amount::Number(u64::from(bounds.bytes_per_row_divisor)),
-        Field::StartOffsetDivisor => Amount::Number(u64::from(bounds.start_offset_divisor)),
-        _ => Amount::Number(bounds.max_width_times_height),
-    }
+    bounds_table!(amount_by!(field bounds))
 }

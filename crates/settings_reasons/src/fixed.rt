@@ -13,35 +13,32 @@ use negotiation_inputs::{Constraints, Platform};
 use std::alloc::{AllocError, Global};
 use sysmem_counts::Field;
 use sysmem_formats::Offer;
-use sysmem_image::{entry_for, takes_colour};
+use sysmem_image::{bounds_table, entry_for, takes_colour};
 use sysmem_merge::{Settings, fails_in};
 use value_sources::Asked;
 
-/// The fields in which settings may fail a participant, in the order in which they are looked at.
-const FIELDS: &[Field] = &[
-    Field::PixelFormat,
-    Field::ColorSpaces,
-    Field::MinSize,
-    Field::MaxSize,
-    Field::SizeAlignment,
-    Field::MinBytesPerRow,
-    Field::MaxBytesPerRow,
-    Field::BytesPerRowDivisor,
-    Field::StartOffsetDivisor,
-    Field::DisplayRectAlignment,
-    Field::RequiredMinSize,
-    Field::RequiredMaxSize,
-    Field::MaxWidthTimesHeight,
-    Field::MinSizeBytes,
-    Field::MaxSizeBytes,
-    Field::PermittedHeaps,
-    Field::PhysicallyContiguousRequired,
-    Field::SecureRequired,
-    Field::CpuDomainSupported,
-    Field::RamDomainSupported,
-    Field::InaccessibleDomainSupported,
-    Field::Usage,
-];
+macro_rules! failing_fields {
+    (() $($name:ident: $shape:ident $rule:ident $field:ident $absent:ident $range:ident,)*) => {
+        &[
+            Field::PixelFormat,
+            Field::ColorSpaces,
+            $(Field::$field,)*
+            Field::MinSizeBytes,
+            Field::MaxSizeBytes,
+            Field::PermittedHeaps,
+            Field::PhysicallyContiguousRequired,
+            Field::SecureRequired,
+            Field::CpuDomainSupported,
+            Field::RamDomainSupported,
+            Field::InaccessibleDomainSupported,
+            Field::Usage,
+        ]
+    };
+}
+
+/// The fields in which settings may fail a participant, in the order in which they are looked at:
+/// those by which a place is refused stand at the end, in the order of the place table.
+pub(crate) const FIELDS: &[Field] = bounds_table!(failing_fields!());
 
 /// Tells in which fields settings fail participants who come late, and who of those before refuses
 /// the images that they take.

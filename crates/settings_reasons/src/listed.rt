@@ -49,7 +49,7 @@ fn lists_before(entries: &[Entry], pair: Pair, other: Pair) -> bool {
 }
 
 /// Whether an entry takes a pair.
-pub(crate) fn is_taken(entry: &Entry, pair: Pair) -> bool {
+pub fn is_taken(entry: &Entry, pair: Pair) -> bool {
     has_format(entry, pair.format) && has_modifier(entry, pair.modifier)
 }
 

@@ -13,22 +13,18 @@ use negotiation_inputs::Platform;
 use std::alloc::{AllocError, Global};
 use sysmem_counts::Field;
 use sysmem_formats::{Offer, offer_at};
-use sysmem_image::{entry_for, takes_colour};
+use sysmem_image::{bounds_lines, bounds_table, entry_for, takes_colour};
 use sysmem_merge::OfferRead;
 use value_sources::Asked;
 
+macro_rules! image_lines {
+    ($($line:ident)*) => {
+        &[$(Field::$line,)* Field::MaxSizeBytes]
+    };
+}
+
 /// The lines on the bounds of images, in the order of the conflict table.
-const LINES: &[Field] = &[
-    Field::SizeAlignment,
-    Field::BytesPerRowDivisor,
-    Field::StartOffsetDivisor,
-    Field::DisplayRectAlignment,
-    Field::RequiredMinSize,
-    Field::MaxSize,
-    Field::MaxWidthTimesHeight,
-    Field::MaxBytesPerRow,
-    Field::MaxSizeBytes,
-];
+const LINES: &[Field] = bounds_table!(bounds_lines!(image_lines));
 
 const UNNAMED: &[Field] = &[
     Field::UnnamedPixelFormat,

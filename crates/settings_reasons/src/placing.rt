@@ -6,6 +6,7 @@ ghost use Rattle.sysmem_memory.specs.Place.{HasNoPlace};
 ghost use Rattle.offer_fits.specs.Demands.{place_demands};
 ghost use Rattle.value_sources.specs.Sources.{all_asked};
 
+use crate::fixed::FIELDS;
 use crate::rows::{Reason, put_those};
 use explanation_text::wording::put_visible;
 use explanation_text::{Gathered, Words};
@@ -15,18 +16,8 @@ use sysmem_counts::Field;
 use sysmem_memory::{CoherencyDomain, Heap, HeapInfo, MemoryBounds, Place, refuses_in};
 use value_sources::{Asked, put_has};
 
-/// The fields by which a place is refused, in the order of the place table.
-const FIELDS: &[Field] = &[
-    Field::PermittedHeaps,
-    Field::PhysicallyContiguousRequired,
-    Field::SecureRequired,
-    Field::CpuDomainSupported,
-    Field::RamDomainSupported,
-    Field::InaccessibleDomainSupported,
-    Field::Usage,
-];
-
-const DOMAINS: &[CoherencyDomain] = &[
+/// The coherency domains, in the order of a heap's places.
+pub const DOMAINS: &[CoherencyDomain] = &[
     CoherencyDomain::Cpu,
     CoherencyDomain::Ram,
     CoherencyDomain::Inaccessible,

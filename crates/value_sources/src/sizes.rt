@@ -6,9 +6,7 @@ use crate::wishes::{Side, Wish, Wishes};
 use explanation_text::{Gathered, Text, Words};
 use std::alloc::{AllocError, Global};
 use sysmem_counts::Field;
-use sysmem_formats::{
-    Modifier, Offer, PixelFormat, bytes_per_pixel, own_alignment, own_row_divisor,
-};
+use sysmem_formats::{Modifier, Offer, Sampling, bytes_per_pixel, own_alignment, own_row_divisor};
 use sysmem_image::entry_for;
 
 /// A number, and where it comes from.
@@ -40,8 +38,8 @@ fn has_half_plane(offer: &Offer) -> bool {
     match offer {
         Offer::NoImage => false,
         Offer::Image(pair, _) => matches!(
-            pair.format,
-            PixelFormat::I420 | PixelFormat::YV12 | PixelFormat::NV12 | PixelFormat::P010
+            pair.format.sampling(),
+            Sampling::TwoPlanes | Sampling::ThreePlanes
         ),
     }
 }

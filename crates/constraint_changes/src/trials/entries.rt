@@ -2,6 +2,7 @@
 
 use negotiation_inputs::Platform;
 use serde_json::Value;
+use settings_reasons::is_taken;
 use std::alloc::{AllocError, Global};
 use sysmem_counts::Field;
 use sysmem_formats::Pair;
@@ -65,19 +66,6 @@ fn pairs_of(entry: &Value) -> usize {
     }
 }
 
-/// Whether an entry takes a pair.
-pub fn takes(entry: &Entry, pair: Pair) -> bool {
-    let has_format = match entry.format {
-        Some(format) => format == pair.format,
-        None => true,
-    };
-    let has_modifier = match entry.modifier {
-        Some(modifier) => modifier == pair.modifier,
-        None => true,
-    };
-    has_format && has_modifier
-}
-
 /// The entries of a participant's record, from 0, each of which takes a pair of a platform that an
 /// earlier one takes too.
 pub fn entries_behind(
@@ -112,7 +100,7 @@ fn is_behind(pairs: &[Pair], entries: &[Entry], items: &[usize], index: usize) -
     };
     for pair in pairs {
         for (other, place) in entries.iter().zip(items) {
-            if *place < *item && takes(other, *pair) && takes(entry, *pair) {
+            if *place < *item && is_taken(other, *pair) && is_taken(entry, *pair) {
                 return true;
             }
         }

@@ -2,16 +2,11 @@
 //! selected.
 
 use crate::trials::group::Group;
+use settings_reasons::DOMAINS;
 use std::alloc::{AllocError, Global};
 use sysmem_counts::BUFFER_COUNT_LIMIT;
 use sysmem_memory::{CoherencyDomain, HeapInfo, refuses};
 use value_sources::Asked;
-
-const DOMAINS: [CoherencyDomain; 3] = [
-    CoherencyDomain::Cpu,
-    CoherencyDomain::Ram,
-    CoherencyDomain::Inaccessible,
-];
 
 /// How many buffers participants need at least, and how many they take at most.
 #[derive(Clone, Copy)]
@@ -97,8 +92,8 @@ pub(crate) fn need_too_many(
     }
     for heap in group.scenario.platform.heaps() {
         for coherency in DOMAINS {
-            if heap.domains.has(coherency)
-                && !need_in(alloc, group, people, Some((heap, coherency)))?.is_too_great()
+            if heap.domains.has(*coherency)
+                && !need_in(alloc, group, people, Some((heap, *coherency)))?.is_too_great()
             {
                 return Ok(false);
             }

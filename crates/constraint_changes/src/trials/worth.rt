@@ -1,7 +1,7 @@
 //! Which changes of a participant's formats and colour spaces are worth a try.
 
-use crate::trials::entries::takes;
 use constraint_edits::Edit;
+use settings_reasons::is_taken;
 use sysmem_formats::{ColourSpace, Pair};
 use sysmem_image::Entry;
 use value_sources::Asked;
@@ -77,7 +77,7 @@ fn is_sized(entry: &Entry) -> bool {
 fn lacks_pair(one: &Asked<'_>, pair: Pair) -> bool {
     let entries = one.asked.entries();
     for entry in entries {
-        if takes(entry, pair) {
+        if is_taken(entry, pair) {
             return false;
         }
     }

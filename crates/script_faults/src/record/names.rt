@@ -9,38 +9,15 @@ pub(crate) const USAGES: &[&str] = &["none", "cpu", "vulkan", "display", "video"
 
 pub(crate) const DOMAINS: &[&str] = &["cpu", "ram", "inaccessible"];
 
+/// What constraints name where any will do; no platform does.
+const ANY: &str = "DO_NOT_CARE";
+
 const FORMATS: &[&str] = &[
     "R8G8B8A8", "B8G8R8A8", "R8G8B8X8", "B8G8R8X8", "R8G8B8", "B8G8R8", "R5G6B5", "R8G8", "YUY2",
-    "R8", "L8", "I420", "YV12", "NV12", "P010",
+    "R8", "L8", "I420", "YV12", "NV12", "P010", ANY,
 ];
 
-const FORMATS_OR_ANY: &[&str] = &[
-    "R8G8B8A8",
-    "B8G8R8A8",
-    "R8G8B8X8",
-    "B8G8R8X8",
-    "R8G8B8",
-    "B8G8R8",
-    "R5G6B5",
-    "R8G8",
-    "YUY2",
-    "R8",
-    "L8",
-    "I420",
-    "YV12",
-    "NV12",
-    "P010",
-    "DO_NOT_CARE",
-];
-
-pub(crate) const MODIFIERS: &[&str] = &["LINEAR", "INTEL_I915_X_TILED", "INTEL_I915_Y_TILED"];
-
-pub(crate) const MODIFIERS_OR_ANY: &[&str] = &[
-    "LINEAR",
-    "INTEL_I915_X_TILED",
-    "INTEL_I915_Y_TILED",
-    "DO_NOT_CARE",
-];
+pub(crate) const MODIFIERS: &[&str] = &["LINEAR", "INTEL_I915_X_TILED", "INTEL_I915_Y_TILED", ANY];
 
 const COLOURS: &[&str] = &[
     "SRGB",
@@ -51,32 +28,24 @@ const COLOURS: &[&str] = &[
     "REC709",
     "REC2020",
     "REC2100",
-];
-
-const COLOURS_OR_ANY: &[&str] = &[
-    "SRGB",
-    "REC601_NTSC",
-    "REC601_NTSC_FULL_RANGE",
-    "REC601_PAL",
-    "REC601_PAL_FULL_RANGE",
-    "REC709",
-    "REC2020",
-    "REC2100",
-    "DO_NOT_CARE",
+    ANY,
 ];
 
 /// The names that a field takes, in a platform or in constraints; none where it takes no names.
 pub(crate) fn names_for(field: &str, is_platform: bool) -> &'static [&'static str] {
+    match names_of(field) {
+        [names @ .., ANY] if is_platform => names,
+        names => names,
+    }
+}
+
+fn names_of(field: &str) -> &'static [&'static str] {
     match field {
         "usage" => USAGES,
         "domains" => DOMAINS,
-        "color_spaces" => if is_platform { COLOURS } else { COLOURS_OR_ANY },
-        "pixel_format" => if is_platform { FORMATS } else { FORMATS_OR_ANY },
-        "pixel_format_modifier" => if is_platform {
-            MODIFIERS
-        } else {
-            MODIFIERS_OR_ANY
-        },
+        "color_spaces" => COLOURS,
+        "pixel_format" => FORMATS,
+        "pixel_format_modifier" => MODIFIERS,
         _ => &[],
     }
 }
@@ -193,7 +162,7 @@ fn hint_of_format(alloc: Global, name: &str, known: &[&str]) -> Words {
         words.put(drm).put(" is ").put(format).put(" here");
         return words;
     }
-    if is_one_of(drm, FORMATS) {
+    if is_one_of(drm, names_for("pixel_format", true)) {
         let mut words = Words::of(alloc, "it is written ");
         words.put(drm);
         return words;

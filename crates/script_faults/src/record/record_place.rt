@@ -2,7 +2,7 @@
 
 use crate::record::cutting::Narrowing;
 use crate::record::keys::{ENTRY, HEAP_NAME, MEMORY, PAIR, PLATFORM_HEAP, is_one_of};
-use crate::record::names::MODIFIERS_OR_ANY;
+use crate::record::names::MODIFIERS;
 use crate::record::paths::{Path, joined, with};
 use explanation_text::{Step, value_at};
 use record_reading::Fault;
@@ -180,7 +180,7 @@ fn has_wrong_modifier(entry: Option<&Value>) -> bool {
     match entry.and_then(|entry| entry.get("pixel_format_modifier")) {
         None => false,
         Some(modifier) => match modifier.as_str() {
-            Some(name) => !is_one_of(name, MODIFIERS_OR_ANY),
+            Some(name) => !is_one_of(name, MODIFIERS),
             None => true,
         },
     }

@@ -14,15 +14,6 @@ use sysmem_tree::NodeKind;
 /// How many formats are named.
 const MOST_FORMATS: usize = 3;
 
-/// What participants use buffers for, in the order of the fields.
-const FAMILIES: [(&str, Usage); 5] = [
-    ("none", Usage::NONE),
-    ("cpu", Usage::CPU),
-    ("vulkan", Usage::VULKAN),
-    ("display", Usage::DISPLAY),
-    ("video", Usage::VIDEO),
-];
-
 /// How a node stands with its domain's decision, with a word for it.
 pub(crate) fn standing_of<'b>(
     story: &'b Story<'_>,
@@ -119,10 +110,8 @@ fn put_counts(text: &mut Words, asked: &Constraints) {
 
 /// Puts what a participant uses the buffers for after a text.
 fn put_usage(text: &mut Words, usage: Usage) {
-    for (name, family) in FAMILIES {
-        if usage.contains(family) {
-            text.put(" ").put(name);
-        }
+    for (name, _) in usage.iter_names() {
+        text.put(" ").put(name);
     }
 }
 
