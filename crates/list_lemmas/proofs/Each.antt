@@ -13,6 +13,10 @@ find_filter p (y ∷ xs) ys x e = at (p y) refl e (find_filter p xs ys x) where
   at true t e rest = cc
   at false t e rest = rest e
 
+-- each is found by its own name
+pub found_own : {X : Type 0} (name_of : X → List ℕ) (xs : List X) → ListsEach name_of xs → (x : X) → find (λ y. bytes_eq (name_of y) (name_of x)) xs ≡ Some x
+found_own name_of xs each x = find_filter (λ y. bytes_eq (name_of y) (name_of x)) xs [] x (each x)
+
 -- what is found has the name
 of_name : {X : Type 0} (name_of : X → List ℕ) (name : List ℕ) (x : X) (r : Option X) → r ≡ Some x → IfSome r (λ y. bytes_eq (name_of y) name ≡ true) → name ≡ name_of x
 of_name name_of name x None is passes = absurd (cc)
@@ -22,5 +26,5 @@ of_name name_of name x (Some y) is passes = let e : y ≡ x = cc in sym ((bytes_
 pub found_each : {X : Type 0} (name_of : X → List ℕ) (xs : List X) → ListsEach name_of xs → (name : List ℕ) (r : Option X) → r ≡ find (λ y. bytes_eq (name_of y) name) xs → (x : X) → (r ≡ Some x) ↔ (name ≡ name_of x)
 found_each name_of xs each name r found x = (
   λ is. of_name name_of name x (find (λ y. bytes_eq (name_of y) name) xs) (sym found ∙ is) (find_passes (λ y. bytes_eq (name_of y) name) xs),
-  λ e. found ∙ ap (λ n. find (λ y. bytes_eq (name_of y) n) xs) e ∙ find_filter (λ y. bytes_eq (name_of y) (name_of x)) xs [] x (each x),
+  λ e. found ∙ ap (λ n. find (λ y. bytes_eq (name_of y) n) xs) e ∙ found_own name_of xs each x,
 )

@@ -3,8 +3,6 @@
 ghost use Rattle.std.specs.Prelude.{◌≡◌, ◌↔◌, ◌<◌, ◌≤◌};
 ghost use Rattle.sysmem_formats.specs.declared.pixel_format.TheConstants.{FORMATS};
 
-use crate::laws::all_formats;
-
 /// How the pixels of an image are stored.
 #[derive(Clone, Copy, Debug, PartialEq, Eq)]
 pub enum PixelFormat {
@@ -92,8 +90,6 @@ impl PixelFormat {
         ensures { (format : PixelFormat) → (result ≡ Some format)
             ↔ (name.now ≡ format_name format) }
     {
-        // For the proof: the list leaves no format out.
-        all_formats();
         PixelFormat::ALL
             .iter()
             .find(|one| one.name() == name)

@@ -4,8 +4,6 @@ ghost use Rattle.std.specs.Prelude.{◌≡◌, ◌↔◌, Some, false, IfSome, I
 ghost use Rattle.sysmem_memory.specs.Domain.{domain_name, has_domain, IsFirstDomain};
 ghost use Rattle.sysmem_memory.specs.declared.domain.CoherencyDomain.{CoherencyDomain as Domain};
 
-use crate::laws::all_domains;
-
 /// How the CPU sees a buffer's memory: through its caches, in main memory, or not at all.
 #[derive(Clone, Copy, Debug, PartialEq, Eq)]
 pub enum CoherencyDomain {
@@ -37,8 +35,6 @@ impl CoherencyDomain {
     pub fn from_name(name: &str) -> Option<CoherencyDomain>
         ensures { (d : Domain) → (result ≡ Some d) ↔ (name.now ≡ domain_name d) }
     {
-        // For the proof: the list leaves no domain out.
-        all_domains();
         CoherencyDomain::ALL
             .iter()
             .find(|one| one.name() == name)

@@ -1,3 +1,4 @@
+pub mod Kinds
 pub mod LeavingOut
 pub mod Leading
 pub mod Acting

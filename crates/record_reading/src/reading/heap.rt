@@ -8,6 +8,7 @@ ghost use Rattle.record_reading.specs.Reading.Heaps.{heap_type_of, heap_name_of,
 use super::field::{add, expect_object, list_of, number_or, stated, text_of};
 use super::list::{Listed, list_in};
 use crate::fault::{Code, Fault, FaultPlace};
+use crate::keys::HEAP_NAME_FIELDS;
 use negotiation_inputs::{has_permitted, is_heap_type};
 use serde_json::Value;
 use std::alloc::Global;
@@ -40,8 +41,11 @@ pub(super) fn heap_name_of(alloc: Global, object: &Value) -> Result<Heap, Fault>
 fn permitted_heap(alloc: Global, object: &Value) -> Result<Heap, Fault>
     ensures { Reads (λ lack. permitted_heap lack (view object.now)) result }
 {
-    let fields = [Field::HeapType, Field::Id];
-    expect_object(object, FaultPlace::At(Field::PermittedHeaps), &fields)?;
+    expect_object(
+        object,
+        FaultPlace::At(Field::PermittedHeaps),
+        &HEAP_NAME_FIELDS,
+    )?;
     heap_name_of(alloc, object)
 }
 

@@ -11,6 +11,7 @@ use super::heap::heap_name_of;
 use super::list::{Listed, list_in};
 use super::name::name_of;
 use crate::fault::{Code, Fault, FaultPlace};
+use crate::keys::HEAP_FIELDS;
 use negotiation_inputs::{has_domains, has_heap};
 use serde_json::Value;
 use std::alloc::Global;
@@ -69,14 +70,7 @@ fn domains_at(object: &Value) -> Result<CoherencyDomains, Fault>
 fn heap_of(alloc: Global, object: &Value) -> Result<HeapInfo, Fault>
     ensures { Reads (λ lack. heap_of lack (view object.now)) result }
 {
-    let fields = [
-        Field::HeapType,
-        Field::Id,
-        Field::Contiguous,
-        Field::Secure,
-        Field::Domains,
-    ];
-    expect_object(object, FaultPlace::At(Field::Heaps), &fields)?;
+    expect_object(object, FaultPlace::At(Field::Heaps), &HEAP_FIELDS)?;
     let heap = heap_name_of(alloc, object)?;
     let contiguous = flag_or(object, Field::Contiguous, false)?;
     let secure = flag_or(object, Field::Secure, false)?;

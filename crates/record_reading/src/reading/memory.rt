@@ -11,6 +11,7 @@ ghost use Rattle.record_reading.specs.Reading.Fields.{optional, seen_by, Reads};
 use super::field::{expect_object, flag_or, number_or};
 use super::heap::permitted_of;
 use crate::fault::{Fault, FaultPlace};
+use crate::keys::MEMORY_FIELDS;
 use serde_json::Value;
 use std::alloc::Global;
 use sysmem_counts::Field;
@@ -29,20 +30,10 @@ fn permitted_in(alloc: Global, object: &Value) -> Result<Vec<Heap>, Fault>
 fn memory_of(alloc: Global, object: &Value) -> Result<MemoryConstraints, Fault>
     ensures { Reads (λ lack. memory_of lack (view object.now)) result }
 {
-    let fields = [
-        Field::MinSizeBytes,
-        Field::MaxSizeBytes,
-        Field::PhysicallyContiguousRequired,
-        Field::SecureRequired,
-        Field::CpuDomainSupported,
-        Field::RamDomainSupported,
-        Field::InaccessibleDomainSupported,
-        Field::PermittedHeaps,
-    ];
     expect_object(
         object,
         FaultPlace::At(Field::BufferMemoryConstraints),
-        &fields,
+        &MEMORY_FIELDS,
     )?;
     Ok(MemoryConstraints {
         min_size_bytes: number_or(object, Field::MinSizeBytes, 0, u64::MAX)?,

@@ -12,6 +12,7 @@ use super::field::{add, expect_object, list_of, stated};
 use super::list::{Listed, list_in};
 use super::name::name_of;
 use crate::fault::{Code, Fault, FaultPlace};
+use crate::keys::PAIR_FIELDS;
 use negotiation_inputs::{has_pair, is_tiled_misfit, lists_colour};
 use serde_json::Value;
 use std::alloc::Global;
@@ -32,11 +33,7 @@ fn modifier_in(object: &Value) -> Result<Modifier, Fault>
 fn pair_of(object: &Value) -> Result<Pair, Fault>
     ensures { result ≡ pair_of (view object.now) }
 {
-    expect_object(
-        object,
-        FaultPlace::At(Field::Pairs),
-        &[Field::PixelFormat, Field::PixelFormatModifier],
-    )?;
+    expect_object(object, FaultPlace::At(Field::Pairs), &PAIR_FIELDS)?;
     let format = stated(object, Code::WrongKind, Field::PixelFormat)?;
     Ok(Pair {
         format: name_of(format, Field::PixelFormat)?,

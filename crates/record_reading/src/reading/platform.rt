@@ -13,6 +13,7 @@ use super::field::{expect_object, stated};
 use super::heap_info::heaps_of;
 use super::pair::{colours_of, pairs_of};
 use crate::fault::{Code, Fault, FaultPlace};
+use crate::keys::PLATFORM_FIELDS;
 use negotiation_inputs::Platform;
 use serde_json::Value;
 use std::alloc::Global;
@@ -45,11 +46,7 @@ fn colours_in(alloc: Global, object: &Value) -> Result<Vec<ColourSpace>, Fault>
 fn platform_of(alloc: Global, object: &Value) -> Result<Platform, Fault>
     ensures { Reads (λ lack. platform_with lack (view object.now)) result }
 {
-    expect_object(
-        object,
-        FaultPlace::Whole,
-        &[Field::Heaps, Field::Pairs, Field::ColorSpaces],
-    )?;
+    expect_object(object, FaultPlace::Whole, &PLATFORM_FIELDS)?;
     let heaps = heaps_in(alloc, object)?;
     let pairs = pairs_in(alloc, object)?;
     let colours = colours_in(alloc, object)?;
