@@ -13,20 +13,6 @@ use serde_json::Value;
 use std::alloc::{AllocError, Global};
 use sysmem_tree::{ActionKind, NodeId, Tree};
 
-fn word_of(kind: ActionKind) -> &'static str {
-    match kind {
-        ActionKind::Duplicate => "duplicate",
-        ActionKind::CreateGroup => "create_group",
-        ActionKind::Bind => "bind",
-        ActionKind::CreateChild => "create_child",
-        ActionKind::AllChildrenPresent => "all_children_present",
-        ActionKind::SetConstraints => "set_constraints",
-        ActionKind::AttachToken => "attach_token",
-        ActionKind::Release => "release",
-        ActionKind::Close => "close",
-    }
-}
-
 fn put_value(alloc: Global, text: &mut String, value: &Value) -> Result<(), AllocError> {
     let written = value.to_string(alloc)?;
     text.push_str(&written)
@@ -76,7 +62,7 @@ fn put_call(
     nodes: u32,
 ) -> Result<u32, AllocError> {
     text.push_str("{\"call\":\"")?;
-    text.push_str(word_of(kind))?;
+    text.push_str(kind.name())?;
     text.push_str("\",\"on\":\"")?;
     snapshot.names().put(text, number)?;
     text.push_str("\"")?;

@@ -105,8 +105,10 @@ pub enum Kind {
     Sides,
     /// A name.
     Name,
-    /// A list of names or objects.
-    List,
+    /// A list of names.
+    Names,
+    /// A list of objects.
+    Objects,
     /// An object.
     Object,
     /// Nothing: it is the name of a limit.
@@ -249,14 +251,12 @@ impl Field {
             | Field::RequiredMinSize
             | Field::RequiredMaxSize => Kind::Sides,
             Field::PixelFormat | Field::PixelFormatModifier | Field::HeapType => Kind::Name,
-            Field::Usage
-            | Field::ImageFormatConstraints
+            Field::Usage | Field::ColorSpaces | Field::Domains => Kind::Names,
+            Field::ImageFormatConstraints
             | Field::PermittedHeaps
             | Field::PixelFormatAndModifiers
-            | Field::ColorSpaces
             | Field::Heaps
-            | Field::Pairs
-            | Field::Domains => Kind::List,
+            | Field::Pairs => Kind::Objects,
             Field::BufferMemoryConstraints => Kind::Object,
             Field::BufferCountLimit
             | Field::UnnamedPixelFormat
