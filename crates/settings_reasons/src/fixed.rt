@@ -157,7 +157,7 @@ pub fn failing(
         All (λ field. FailsOn field platform.now settings.now asked.now) fields.items) }
 {
     let mut fields = Vec::new(alloc);
-    for field in FIELDS.iter().chain(&PLACE_FIELDS) {
+    for field in FIELDS.iter().chain(PLACE_FIELDS.iter()) {
         if fails_in(*field, platform, settings, asked) {
             fields.push(*field)?;
         }

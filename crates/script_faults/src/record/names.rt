@@ -19,7 +19,7 @@ pub(crate) fn names_for(
     field: Field,
     is_platform: bool,
 ) -> Result<Vec<&'static str>, AllocError> {
-    let mut names = match field {
+    let mut names: Vec<&'static str> = match field {
         Field::Usage => return Usage::flags().iter().map(|flag| flag.name).collect(alloc),
         Field::Domains => {
             return CoherencyDomain::ALL
@@ -157,7 +157,8 @@ fn format_of_drm(name: &str) -> Option<&'static str> {
     }
     let format = PixelFormat::ALL
         .iter()
-        .find(|one| letters_of(**one) == Some(name))?;
+        .find(|one| letters_of(**one) == Some(name))
+        .copied()?;
     if format.name() == name {
         return None;
     }
