@@ -125,6 +125,17 @@ def uncounted(count):
     return Script().alternatives("root", count, 2, 0, all_of(PAIRS, first, {"max_buffer_count": 11}), all_of(PAIRS, 1, one), all_of(PAIRS, last, one))
 
 
+def late(count, repeats):
+    """So many who come late, whom nothing suits that was decided, and who take a colour space again and again."""
+    made = Script()
+    made.state("root", all_of(ENTRY_PAIRS, 1, {"min_buffer_count": 64}))
+    stated = all_of(ENTRY_PAIRS, permitted_heaps=[{"heap_type": "ram", "id": 1}], min_size_bytes=2**30)
+    stated["image_format_constraints"][0]["color_spaces"] = COLOURS + COLOURS[:1] * repeats
+    for _ in range(count):
+        made.state(made.makes("attach_token", "root"), stated)
+    return made
+
+
 def hostile(kind):
     """A camera, an encoder and a display, and one who is hostile: not at all, with each entry, with groups that fail, with groups to the limit of nodes."""
     made = Script()
@@ -153,6 +164,8 @@ def scripts():
     yield "proof_12x2_89", failing(PAIRS[::-1], 12, 89)
     yield "check_5x2_80", failing(ENTRY_PAIRS, 5, 80)
     yield "run_12x2_fib", uncounted(12)
+    yield "late_126", late(126, 0)
+    yield "late_colours", late(1, 400000)
     for kind in (0, 1, 2, 4):
         yield f"hostile_{kind}", hostile(kind)
 

@@ -5,6 +5,7 @@
 uint32_t mezulobu_rt_live_platform(const struct mezulobu_platform *, struct held *, struct mezulobu_refusal *);
 uint32_t mezulobu_rt_live_platform_record(const uint8_t *, size_t, struct held *, uint32_t *);
 uint32_t mezulobu_rt_live_open(struct held *, struct held *);
+uint32_t mezulobu_rt_live_open_within(struct held *, uint32_t, struct held *);
 uint32_t mezulobu_rt_live_asked(const struct mezulobu_participant *, struct held *, struct mezulobu_refusal *);
 uint32_t mezulobu_rt_live_asked_record(const uint8_t *, size_t, struct held *, uint32_t *);
 
@@ -68,7 +69,8 @@ void mezulobu_allocator_free(struct mezulobu_allocator *allocator)
     free(allocator);
 }
 
-int mezulobu_allocate_shared(struct mezulobu_allocator *allocator, struct mezulobu_token **token)
+/* most may be null: there is no limit. */
+static int allocate(struct mezulobu_allocator *allocator, const uint32_t *most, struct mezulobu_token **token)
 {
     if (!allocator || allocator->mark != ALLOCATOR || !token)
         return MEZULOBU_MISUSED;
@@ -76,13 +78,24 @@ int mezulobu_allocate_shared(struct mezulobu_allocator *allocator, struct mezulo
     if (!r)
         return MEZULOBU_NO_MEMORY;
     pthread_mutex_lock(&allocator->lock);
-    int status = (int)mezulobu_rt_live_open(&allocator->platform, &r->book);
+    int status = most ? (int)mezulobu_rt_live_open_within(&allocator->platform, *most, &r->book)
+                      : (int)mezulobu_rt_live_open(&allocator->platform, &r->book);
     pthread_mutex_unlock(&allocator->lock);
     if (status == MEZULOBU_DONE)
         *token = (struct mezulobu_token *)&r->handles[0];
     else
         room_free(r);
     return status;
+}
+
+int mezulobu_allocate_shared(struct mezulobu_allocator *allocator, struct mezulobu_token **token)
+{
+    return allocate(allocator, NULL, token);
+}
+
+int mezulobu_allocate_shared_limited(struct mezulobu_allocator *allocator, uint32_t most, struct mezulobu_token **token)
+{
+    return allocate(allocator, &most, token);
 }
 
 static int act(void *handle, enum kind kind, enum action action)

@@ -236,7 +236,7 @@ static const struct meaning meanings[] = {
     {MEZULOBU_TOO_SMALL, NULL, "too small: a text is longer than the room for it"},
     {MEZULOBU_NO, NULL, "no"},
     {MEZULOBU_WRONG_STATE, NULL, "E2 WrongState: the handle isn't in a state that allows the call"},
-    {MEZULOBU_TOO_MANY_NODES, NULL, "E3 TooManyNodes: a collection has at most 128, those that are gone included"},
+    {MEZULOBU_TOO_MANY_NODES, NULL, "E3 TooManyNodes: a collection has at most 128, those that are gone included, and its host may allow a client fewer"},
     {MEZULOBU_NO_CHILDREN, NULL, "E4 NoChildren: a group has a child before all_children_present"},
     {MEZULOBU_NOT_SELECTED, NULL, "E5 NotSelected: another alternative was chosen"},
     {MEZULOBU_DOMAIN_FAILED, NULL, "E6 DomainFailed: the domain failed (somebody closed too early, or what it was attached to has no "

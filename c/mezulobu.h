@@ -43,7 +43,7 @@ enum mezulobu_status {
      * NO_MEMORY. */
     MEZULOBU_WRONG_STATE = 18,         /* E2: the handle isn't in a state that allows the call */
     MEZULOBU_TOO_MANY_NODES = 19,      /* E3: more than 128 in one collection, those that are gone
-                                        * included */
+                                        * included; or more than its host allows */
     MEZULOBU_NO_CHILDREN = 20,         /* E4: of all_children_present, of a group without a child */
     MEZULOBU_NOT_SELECTED = 21,        /* E5: another alternative was chosen */
     MEZULOBU_DOMAIN_FAILED = 22,       /* E6: the domain failed (somebody closed too early, or what
@@ -452,6 +452,13 @@ void mezulobu_allocator_free(struct mezulobu_allocator *allocator);
 
 /* A new collection, by the token of its root. DONE, MISUSED, NO_MEMORY. */
 int mezulobu_allocate_shared(struct mezulobu_allocator *allocator, struct mezulobu_token **token);
+
+/* The same for a host that lets strangers in: each child of the root has at most so many nodes
+ * below it, whoever makes them, those that are gone included. A call that would make one more is
+ * refused by TOO_MANY_NODES, if by nothing else. The root has no limit: a host keeps it, and gives
+ * each client a child of it. 128 limits nothing. */
+int mezulobu_allocate_shared_limited(struct mezulobu_allocator *allocator, uint32_t most,
+                                     struct mezulobu_token **token);
 
 /* Of a token: the right to take part. Each call is DONE or changes nothing, and takes no memory.
  * duplicate, create_group and bind are refused by DOMAIN_FAILED, and the two that make a node by

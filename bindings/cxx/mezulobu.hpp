@@ -673,6 +673,17 @@ class Allocator {
         return unexpected{Status{status, "allocate_shared"}};
     }
 
+    /// The same for a host that lets strangers in: each child of the root has at most so many nodes
+    /// below it, whoever makes them, those that are gone included.
+    expected<Token, Status> allocate_shared_limited(std::uint32_t most) const
+    {
+        mezulobu_token *token = nullptr;
+        const int status = mezulobu_allocate_shared_limited(at_.get(), most, &token);
+        if (status == MEZULOBU_DONE)
+            return Token(token);
+        return unexpected{Status{status, "allocate_shared_limited"}};
+    }
+
   private:
     struct Free {
         void operator()(mezulobu_allocator *at) const { mezulobu_allocator_free(at); }

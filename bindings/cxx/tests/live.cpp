@@ -145,6 +145,16 @@ void the_first_alternative_that_can_be_had_is_selected()
     expect(two.selection().value() == std::vector<std::uint8_t>{1} && one.check().error() == Status{MEZULOBU_NOT_SELECTED}, "the second one");
 }
 
+void a_client_makes_no_more_than_its_host_allows()
+{
+    auto root = mezulobu::Allocator::of(platform()).value().allocate_shared_limited(1).value();
+    auto client = root.duplicate().value(), other = root.duplicate().value();
+    auto made = client.duplicate().value();
+    expect(client.duplicate().error() == Status{MEZULOBU_TOO_MANY_NODES}, "a second node below a client");
+    expect(made.create_group().error() == Status{MEZULOBU_TOO_MANY_NODES}, "also by what it made");
+    expect(other.create_group().has_value(), "another client is not bounded by it");
+}
+
 void a_late_participant_accepts_the_settings()
 {
     const char *record = R"({"heaps":[{"heap_type":"ram","domains":["cpu"]}],"pairs":[{"pixel_format":"NV12"}],"color_spaces":["REC709"]})";
@@ -164,6 +174,7 @@ int main()
     who_is_in_the_way_is_told_by_its_node();
     what_cannot_be_meant_is_refused();
     the_first_alternative_that_can_be_had_is_selected();
+    a_client_makes_no_more_than_its_host_allows();
     a_late_participant_accepts_the_settings();
     std::printf("%d passed, %d failed\n", passed, failed);
     return failed != 0;

@@ -214,6 +214,10 @@ CALLS: Dict[str, Tuple[Any, List[Any]]] = {
         ctypes.c_int,
         [ctypes.c_void_p, ctypes.POINTER(ctypes.c_void_p)],
     ),
+    "mezulobu_allocate_shared_limited": (
+        ctypes.c_int,
+        [ctypes.c_void_p, ctypes.c_uint32, ctypes.POINTER(ctypes.c_void_p)],
+    ),
     "mezulobu_token_duplicate": (
         ctypes.c_int,
         [ctypes.c_void_p, ctypes.POINTER(ctypes.c_void_p)],

@@ -27,7 +27,7 @@ decided in that time."""
     """E2: the handle isn't in a state that allows the call."""
     TOO_MANY_NODES = 19
     """E3: more than 128 in one collection, those that are gone
-included."""
+included; or more than its host allows."""
     NO_CHILDREN = 20
     """E4: of all_children_present, of a group without a child."""
     NOT_SELECTED = 21

@@ -411,3 +411,11 @@ class Allocator(_Handle):
         made = ctypes.c_void_p()
         self._done(self._call(library.mezulobu_allocate_shared, ctypes.byref(made)), "allocate_shared")
         return Token(made.value)
+
+    def allocate_shared_limited(self, most: int) -> Token:
+        """The same for a host that lets strangers in: each child of the root has at most so many nodes below it, whoever makes them."""
+        if not 0 <= most < 1 << 32:
+            raise OverflowError(f"allocate_shared_limited: {most} doesn't fit 32 bits")
+        made = ctypes.c_void_p()
+        self._done(self._call(library.mezulobu_allocate_shared_limited, most, ctypes.byref(made)), "allocate_shared_limited")
+        return Token(made.value)

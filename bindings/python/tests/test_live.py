@@ -49,6 +49,7 @@ WORDS = {
     Status.MISUSED: "misused: ",
     Status.REFUSED: "refused: ",
     Status.WRONG_STATE: "E2 WrongState: ",
+    Status.TOO_MANY_NODES: "E3 TooManyNodes: ",
     Status.NO_CHILDREN: "E4 NoChildren: ",
     Status.NOT_SELECTED: "E5 NotSelected: ",
     Status.DOMAIN_FAILED: "E6 DomainFailed: ",
@@ -242,6 +243,14 @@ class Live(unittest.TestCase):
             second.set_constraints(asked(1))
             self.assertEqual((second.wait().count, second.selection()), (1, (1,)))
             self.refused(Status.NOT_SELECTED, first.check)
+
+    def test_a_client_makes_no_more_than_its_host_allows(self) -> None:
+        with live.Allocator(PLATFORM) as allocator, allocator.allocate_shared_limited(1) as root, root.duplicate() as client, root.duplicate() as other:
+            self.assertRaises(OverflowError, allocator.allocate_shared_limited, -1)
+            with client.duplicate() as friend:
+                for maker in (client, friend):
+                    self.refused(Status.TOO_MANY_NODES, maker.create_group)
+                other.create_group().close()
 
     def test_the_token_of_a_group_is_awaited_too(self) -> None:
         for is_bound, stated, count in ((False, None, 2), (True, None, 2), (True, asked(0, min_count=7), 7)):

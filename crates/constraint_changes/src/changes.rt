@@ -225,6 +225,7 @@ fn try_change(
     if known == Some(true) {
         return Ok(());
     }
+    trial.scenario.effort.change(trial.place, 1);
     let Some(change) = edited(alloc, value, edit, heaps)? else {
         return Ok(());
     };

@@ -99,6 +99,9 @@ fn try_exchange(
     let Some(stated) = exchanged(alloc, group.story, one, partner.one)? else {
         return Ok(());
     };
+    for other in &stated {
+        group.scenario.effort.change(other.place, 1);
+    }
     search.tried = search.tried.saturating_add(1);
     match outcome_of(alloc, search, group, partner, &stated)? {
         Some(line) => tell_exchange(search, group, one, partner.one, line),

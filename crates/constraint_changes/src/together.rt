@@ -13,7 +13,7 @@ use crate::trials::{
     Group, MOST_HALVINGS, Party, Read, Stated, are_sized, chosen_with, is_worth, leave_none,
     parties_of, put_choice, put_line, restated,
 };
-use crate::walk::Walk;
+use crate::walk::{Run, Walk};
 use constraint_edits::{Amount, Edit, Halving, changes, is_absurd};
 use domain_reasons::choices_in;
 use explanation_text::{Gathered, Items, Text, Words};
@@ -33,12 +33,26 @@ const TOLD: usize = 6;
 
 /// Tells the fewest changes found with which, made together, the domain at a path would have
 /// settings, and the decision that would come: the line of the report of the changed script. Where
-/// others do that take the use by a CPU away, those are told beside them.
+/// others do that take the use by a CPU away, those are told beside them. Where nothing is found
+/// before nothing more is to be tried, it says so.
 pub fn tell_together(
     items: &mut Items,
     group: Group<'_, '_>,
     edits: &[Edit],
 ) -> Result<(), AllocError> {
+    if group.scenario.effort.is_spent() {
+        return Ok(());
+    }
+    let before = items.len();
+    tell_all(items, group, edits)?;
+    if items.len() == before && group.scenario.effort.is_spent() {
+        items.say_text(1, "change", "to try several together would take long");
+    }
+    Ok(())
+}
+
+/// Tells the same, as far as it is tried.
+fn tell_all(items: &mut Items, group: Group<'_, '_>, edits: &[Edit]) -> Result<(), AllocError> {
     let alloc = items.alloc();
     let parties = parties_of(alloc, group)?;
     let joint = Joint {
@@ -194,7 +208,7 @@ impl Joint<'_, '_> {
         let mut kept = Vec::from_slice(alloc, all)?;
         let mut walk = Walk::over(all.len(), from_last);
         for _step in 0..MOST_STEPS {
-            let Some(run) = walk.next(kept.len()) else {
+            let Some(run) = self.next_run(&walk, kept.len()) else {
                 break;
             };
             let others = all_but(alloc, &kept, run)?;
@@ -206,6 +220,15 @@ impl Joint<'_, '_> {
             }
         }
         Ok(kept)
+    }
+
+    /// The next run of a list of so many parts; `None` where each was tried, or nothing more is to be
+    /// tried.
+    fn next_run(&self, walk: &Walk, many: usize) -> Option<Run> {
+        if self.group.scenario.effort.is_spent() {
+            return None;
+        }
+        walk.next(many)
     }
 
     /// Whether the rest of some parts do once some are taken back: where it is known what
@@ -265,7 +288,7 @@ impl Joint<'_, '_> {
     }
 
     /// What those participants ask after some parts who have one of some others; `None` where that
-    /// has a fault.
+    /// has a fault, or nothing more is to be tried.
     fn known_of(
         &self,
         shelf: &mut Shelf,
@@ -277,6 +300,9 @@ impl Joint<'_, '_> {
         for (person, one) in self.group.people.iter().enumerate() {
             let mut place = None;
             if one.stated.is_some() && has_own(others, person) {
+                if self.group.scenario.effort.is_spent() {
+                    return Ok(None);
+                }
                 place = self.place_after(shelf, alloc, person, one, parts)?;
                 if place.is_none() {
                     return Ok(None);
@@ -301,10 +327,23 @@ impl Joint<'_, '_> {
         if let Some(place) = shelf.place_of(person, &own) {
             return Ok(Some(place));
         }
+        self.add_changes(one, own.len());
         let heaps = self.group.scenario.platform.heaps();
         match asked_with(alloc, one, &own, heaps)? {
             Some(asked) => Ok(Some(shelf.keep(person, own, asked)?)),
             None => Ok(None),
+        }
+    }
+
+    /// Adds that the constraints of a participant are changed so often.
+    fn add_changes(&self, one: &Asked<'_>, times: usize) {
+        let number = self
+            .group
+            .story
+            .milestone(one.node, Milestone::SetConstraints);
+        if let Some(number) = number {
+            let place = number.saturating_sub(1);
+            self.group.scenario.effort.change(place, times);
         }
     }
 
@@ -352,6 +391,9 @@ impl Joint<'_, '_> {
             let Some(amount) = halving.next() else {
                 break;
             };
+            if self.group.scenario.effort.is_spent() {
+                break;
+            }
             set_amount(parts, index, Some(amount));
             let does = match others {
                 Some(known) => self.does_unrun(shelf, alloc, parts, index, known)?,
@@ -401,7 +443,7 @@ impl Joint<'_, '_> {
             (map call_seen self.now.group.scenario.now.calls.now)
             self.now.group.path.now (string_bytes what))) }
     {
-        if self.leave_none_after(alloc, parts)? {
+        if self.leave_none_after(alloc, parts)? || self.group.scenario.effort.is_spent() {
             return Ok(None);
         }
         let stated = self.stated(alloc, parts)?;
@@ -463,7 +505,9 @@ impl Joint<'_, '_> {
             return Ok(());
         };
         let place = number.saturating_sub(1);
-        let heaps = self.group.scenario.platform.heaps();
+        let scenario = self.group.scenario;
+        scenario.effort.change(place, 1);
+        let heaps = scenario.platform.heaps();
         let value = after(stated.alloc(), value, person, parts, heaps)?;
         stated.add(Stated { place, value });
         Ok(())

@@ -12,6 +12,9 @@ use value_sources::Asked;
 /// How many failing selections are told.
 pub(crate) const MOST_TOLD: usize = 12;
 
+/// How often a participant is asked of an offer for what counts as one failing selection more.
+const ASKED: usize = 1_000_000;
+
 /// A group, and the child that is chosen of it.
 #[derive(Clone, Copy)]
 pub(crate) struct Choice {
@@ -129,7 +132,8 @@ pub(crate) fn open_group(
 }
 
 /// Tells why no selection that goes on from these choices has settings; `levels` is more than the
-/// groups that may be left, and `told` counts the failing selections.
+/// groups that may be left, and `told` counts the failing selections, those of many participants for
+/// several.
 #[cycle(tell_empty)]
 pub(crate) fn tell_empty(
     items: &mut Items,
@@ -143,13 +147,24 @@ pub(crate) fn tell_empty(
     let reached = reach(alloc, empty, choices)?;
     let whole = reached.open.is_none();
     if whole || is_unmet(alloc, empty.platform, &reached.people)? {
-        *told = told.saturating_add(1);
+        *told = told.saturating_add(weight_of(empty.platform, reached.people.len()));
         return tell_conflict(items, depth, empty.platform, &reached.people, whole);
     }
     let (Some(group), Some(fewer)) = (reached.open, levels.checked_sub(1)) else {
         return Ok(());
     };
     tell_group(items, depth, empty, choices, told, fewer, group)
+}
+
+/// For how many failing selections one of so many participants counts: to find out who is in the way
+/// each is asked with all others, for each offer.
+fn weight_of(platform: &Platform, people: usize) -> usize {
+    let offers = platform
+        .pairs()
+        .len()
+        .saturating_mul(platform.colours().len());
+    let asked = people.saturating_mul(people).saturating_mul(offers);
+    (asked / ASKED).saturating_add(1)
 }
 
 /// Tells the same for each child of the next group, those with the same reasons together.

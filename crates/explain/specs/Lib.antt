@@ -1,3 +1,4 @@
 pub mod Lines
 pub mod ObjectEndings
 pub mod PageEndings
+pub mod Wanted

@@ -264,7 +264,7 @@ fn tell_script<'a>(
     script: &Script<'a>,
 ) -> Result<(), AllocError> {
     let alloc = items.alloc();
-    let effort = Effort::new();
+    let effort = Effort::new(alloc, &script.platform, &script.calls)?;
     let scenario = Scenario {
         platform: &script.platform,
         calls: &script.calls,

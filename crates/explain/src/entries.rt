@@ -146,6 +146,8 @@ impl Teller<'_, '_> {
             return Ok(());
         };
         let heaps = self.scenario.platform.heaps();
+        let place = self.number.saturating_sub(1);
+        self.scenario.effort.change(place, 1);
         match edited(items.alloc(), value, Edit::EntryFirst(item), heaps)? {
             Some(change) => self.tell_then(items, item, &change.value),
             None => Ok(()),

@@ -1,8 +1,9 @@
 //! What a script's text means.
 
-ghost use Rattle.std.specs.Prelude.{IfOk, IfSome};
+ghost use Rattle.std.specs.Prelude.{IfOk, IfSome, IsSome, IsTrue};
 ghost use Rattle.std.specs.String.{string_bytes};
 ghost use Rattle.explain.specs.Lines.{IsToldBy, item_texts};
+ghost use Rattle.explain.specs.Wanted.{AreThere};
 
 use crate::corrected::{meant_in, tell_corrected};
 use crate::domains::tell_domains;
@@ -64,8 +65,9 @@ pub fn explain(
     bytes: &[u8],
     wanted: Outputs,
 ) -> Result<Explained, AllocError>
-    ensures { IfOk result (λ told. IfSome told.objects
+    ensures objects { IfOk result (λ told. IfSome told.objects
         (λ text. IsToldBy (item_texts told.items.items) (string_bytes text))) }
+    ensures wanted { IfOk result (AreThere wanted) }
 {
     match parse_script(alloc, bytes) {
         Ok(value) => explain_value(alloc, file, bytes, &value, wanted),
@@ -95,8 +97,9 @@ fn refusal(
     items: Items,
     wanted: Outputs,
 ) -> Result<Explained, AllocError>
-    ensures { IfOk result (λ told. IfSome told.objects
+    ensures objects { IfOk result (λ told. IfSome told.objects
         (λ text. IsToldBy (item_texts told.items.items) (string_bytes text))) }
+    ensures wanted { IfOk result (AreThere wanted) }
 {
     let scene = Scene {
         document,
@@ -114,24 +117,13 @@ fn printed(
     items: Vec<Item>,
     wanted: Outputs,
 ) -> Result<Explained, AllocError>
-    ensures { IfOk result (λ told. IfSome told.objects
+    ensures objects { IfOk result (λ told. IfSome told.objects
         (λ text. IsToldBy (item_texts told.items.items) (string_bytes text))) }
+    ensures wanted { IfOk result (AreThere wanted) }
 {
-    let text = if wanted.text {
-        Some(text_of(alloc, &items)?)
-    } else {
-        None
-    };
-    let page = if wanted.page {
-        Some(page_of_scene(alloc, scene, &items)?)
-    } else {
-        None
-    };
-    let objects = if wanted.objects {
-        Some(objects_of(alloc, scene, outcome, &items)?)
-    } else {
-        None
-    };
+    let text = text_if(alloc, &items, wanted.text)?;
+    let page = page_if(alloc, scene, &items, wanted.page)?;
+    let objects = objects_if(alloc, scene, outcome, &items, wanted.objects)?;
     Ok(Explained {
         outcome,
         items,
@@ -139,6 +131,49 @@ fn printed(
         objects,
         page,
     })
+}
+
+/// The text of items, if it is wanted.
+fn text_if(alloc: Global, items: &[Item], is_wanted: bool) -> Result<Option<String>, AllocError>
+    ensures { IfOk result (λ text. IsTrue is_wanted → IsSome text) }
+{
+    if !is_wanted {
+        return Ok(None);
+    }
+    Ok(Some(text_of(alloc, items)?))
+}
+
+/// Their page, if it is wanted.
+fn page_if(
+    alloc: Global,
+    scene: Scene<'_, '_>,
+    items: &[Item],
+    is_wanted: bool,
+) -> Result<Option<String>, AllocError>
+    ensures { IfOk result (λ page. IsTrue is_wanted → IsSome page) }
+{
+    if !is_wanted {
+        return Ok(None);
+    }
+    Ok(Some(page_of_scene(alloc, scene, items)?))
+}
+
+/// Their objects, if they are wanted.
+fn objects_if(
+    alloc: Global,
+    scene: Scene<'_, '_>,
+    outcome: Outcome,
+    items: &[Item],
+    is_wanted: bool,
+) -> Result<Option<String>, AllocError>
+    ensures told { IfOk result (λ objects. IfSome objects
+        (λ text. IsToldBy (item_texts items.now) (string_bytes text))) }
+    ensures there { IfOk result (λ objects. IsTrue is_wanted → IsSome objects) }
+{
+    if !is_wanted {
+        return Ok(None);
+    }
+    Ok(Some(objects_of(alloc, scene, outcome, items)?))
 }
 
 /// Explains the script that a value stands for.
@@ -149,8 +184,9 @@ fn explain_value(
     value: &Value,
     wanted: Outputs,
 ) -> Result<Explained, AllocError>
-    ensures { IfOk result (λ told. IfSome told.objects
+    ensures objects { IfOk result (λ told. IfSome told.objects
         (λ text. IsToldBy (item_texts told.items.items) (string_bytes text))) }
+    ensures wanted { IfOk result (AreThere wanted) }
 {
     let document = Document {
         file,
@@ -217,10 +253,11 @@ fn explain_script<'a>(
     script: &Script<'a>,
     wanted: Outputs,
 ) -> Result<Explained, AllocError>
-    ensures { IfOk result (λ told. IfSome told.objects
+    ensures objects { IfOk result (λ told. IfSome told.objects
         (λ text. IsToldBy (item_texts told.items.items) (string_bytes text))) }
+    ensures wanted { IfOk result (AreThere wanted) }
 {
-    let effort = Effort::new();
+    let effort = Effort::new(alloc, &script.platform, &script.calls)?;
     let scenario = Scenario {
         platform: &script.platform,
         calls: &script.calls,
@@ -235,6 +272,7 @@ fn explain_script<'a>(
     let played = Some(Played {
         story: &story,
         platform: &script.platform,
+        calls: &script.calls,
     });
     let scene = Scene { document, played };
     printed(alloc, scene, outcome_of(&story), items, wanted)
@@ -263,7 +301,21 @@ fn tell_story(
     tell_repeats(items, document)?;
     tell_calls(items, document, story)?;
     tell_moved(items, scenario, document.value, story)?;
-    tell_domains(items, document, scenario, story)
+    tell_domains(items, document, scenario, story)?;
+    tell_untold(items, scenario.effort);
+    Ok(())
+}
+
+/// Tells that not all was tried, where that would take long.
+fn tell_untold(items: &mut Items, effort: &Effort) {
+    if effort.is_spent() {
+        items.title("note: what isn't told");
+        items.say_text(
+            1,
+            "note",
+            "more changes, and more that would be decided otherwise: to try more would take long",
+        );
+    }
 }
 
 /// Tells which calls were refused, and what comes once the texts in them are corrected that nearly

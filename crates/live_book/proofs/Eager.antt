@@ -14,7 +14,7 @@ pub one_more : (s : State) (es : List BookEntry) (e : BookEntry) → ArePrompt s
 one_more s [] e before prompt = (prompt, tt)
 one_more s (f ∷ es) e before prompt = (before.0, one_more (after_entry s f) es e before.1 prompt)
 
-none_waits : (o : Option ℕ) → is_some o ≡ false → o ≡ None
+pub none_waits : (o : Option ℕ) → is_some o ≡ false → o ≡ None
 none_waits None is = refl
 none_waits (Some r) is = absurd (cc is)
 

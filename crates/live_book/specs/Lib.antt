@@ -4,4 +4,5 @@ pub mod Collection
 pub mod Decision
 pub mod Eager
 pub mod Naming
+pub mod Quota
 pub mod Snapshot

@@ -8,6 +8,7 @@ ghost use Rattle.sysmem_alloc.specs.Entry.{Decided};
 ghost use Rattle.sysmem_alloc.specs.Frozen.{IsStill, frozen_of};
 ghost use Rattle.sysmem_alloc.specs.Sound.{MayWait};
 ghost use Rattle.sysmem_alloc.specs.State.{next_ready};
+ghost use Rattle.sysmem_tree.specs.Laws.{AreStill};
 ghost use Rattle.verdict_claims.specs.Base.{IsGivenBase};
 ghost use Rattle.verdict_claims.specs.Claim.{IsTrueClaim};
 ghost use Rattle.live_book.specs.Collection.{with_book};
@@ -82,10 +83,11 @@ fn enter_still(book: &mut Book, frozen: &Frozen, claim: Arc<Claim>)
     requires still { IsStill book.old frozen.now }
     requires right { IsTrueClaim frozen.now.platform frozen.now.tree.nodes frozen.now.domain
         frozen.now.base (arc_value claim) }
-    ensures { book.new ≡ entered book.old (Decided (record {
+    ensures entered { book.new ≡ entered book.old (Decided (record {
       domain = frozen.now.domain;
       claim = Some (arc_value claim);
     })) }
+    ensures still { AreStill book.old.state.tree.nodes book.new.state.tree.nodes }
 {
     book.decide(frozen.domain(), Some(claim));
 }
@@ -99,6 +101,7 @@ fn enter_claim(book: &mut Book, frozen: &Frozen, claim: Arc<Claim>) -> bool
       domain = frozen.now.domain;
       claim = Some (arc_value claim);
     })) }
+    ensures still { IsTrue result → AreStill book.old.state.tree.nodes book.new.state.tree.nodes }
     ensures unchanged { result ≡ false → book.new ≡ book.old }
 {
     let fits = book.fits(frozen);
@@ -118,6 +121,7 @@ fn enter_in(book: &mut Book, decision: Decision) -> bool
     })) }
     ensures stays { result ≡ false
         → (decision.claim ≡ None) ⊎ (¬ IsStill book.old decision.frozen) }
+    ensures still { IsTrue result → AreStill book.old.state.tree.nodes book.new.state.tree.nodes }
     ensures unchanged { result ≡ false → book.new ≡ book.old }
 {
     let (frozen, claim) = decision.into_parts();
@@ -134,6 +138,7 @@ fn give_up_in(book: &mut Book) -> bool
     ensures none { next_ready book.old.state ≡ None → book.new ≡ book.old }
     ensures entered { IfSome (next_ready book.old.state) (λ domain.
         book.new ≡ entered book.old (Decided (record { domain = domain; claim = None }))) }
+    ensures still { IsTrue result → AreStill book.old.state.tree.nodes book.new.state.tree.nodes }
 {
     let Some(domain) = book.next_ready() else {
         return false;

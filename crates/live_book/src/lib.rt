@@ -9,6 +9,7 @@ mod deciding;
 mod decision;
 mod naming;
 mod object;
+mod quota;
 mod snapshot;
 
 pub use acting::{Accepted, Denial, act};

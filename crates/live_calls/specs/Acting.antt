@@ -1,5 +1,7 @@
 -- How calls that act on a collection end.
 use Rattle.std.specs.Prelude.{◌≡◌, ℕ, Bool, Option, Some, None, Ok, is_some}
+use Rattle.node_limits.specs.declared.limits.Limits.{Limits}
+use Rattle.node_limits.specs.Limits.{applied_within}
 use Rattle.live_book.specs.declared.acting.Denial.{Denial}
 use Rattle.live_book.specs.declared.object.Object.{Object}
 use Rattle.live_book.specs.declared.object.Object.TheVariants.{Collection}
@@ -11,15 +13,14 @@ use Rattle.sysmem_alloc.specs.Book.{BookFacts, entered}
 use Rattle.sysmem_alloc.specs.Entry.{Acted}
 use Rattle.sysmem_alloc.specs.State.{next_ready}
 use Rattle.sysmem_tree.specs.ActionKind.{Deed}
-use Rattle.sysmem_tree.specs.Tree.{applied}
 
--- an action on node k is the next step of a book in which no domain waits: made is the node that
--- answers, and ready whether a domain waits then
-pub record Steps (k : ℕ) (deed : Deed) (old new : BookFacts) (made : ℕ)
+-- an action on node k within limits is the next step of a book in which no domain waits: made is the
+-- node that answers, and ready whether a domain waits then
+pub record Steps (limits : Limits) (k : ℕ) (deed : Deed) (old new : BookFacts) (made : ℕ)
     (ready : Bool) : Type 0 where
   pub idle : next_ready old.state ≡ None
   pub entered : new ≡ entered old (Acted k deed)
-  pub applied : applied old.state.tree k deed
+  pub applied : applied_within limits old.state.tree k deed
       ≡ Ok (record { tree = new.state.tree; node = made })
   pub is_ready : ready ≡ is_some (next_ready new.state)
 
@@ -28,9 +29,9 @@ pub record Steps (k : ℕ) (deed : Deed) (old new : BookFacts) (made : ℕ)
 pub data Acts (k : ℕ) (deed : Deed) (before after : Option Object) (made : ℕ)
     (ready : Bool) : ℕ → Type 0 where
   accepts : (c : CollectionFacts) (b : BookFacts) → before ≡ Some (Collection c)
-      → after ≡ Some (Collection (with_book c b)) → Steps k deed c.book b made ready
+      → after ≡ Some (Collection (with_book c b)) → Steps c.limits k deed c.book b made ready
       → Acts k deed before after made ready 0
   denies : (c : CollectionFacts) (denial : Denial) → before ≡ Some (Collection c)
-      → after ≡ before → IsDenied c.book k deed denial
+      → after ≡ before → IsDenied c k deed denial
       → Acts k deed before after made ready (denial_status denial)
   misused : IsNoCollection before → after ≡ before → Acts k deed before after made ready 2

@@ -5,6 +5,7 @@
 //! at a time has it.
 
 ghost use Rattle.std.specs.Prelude.{◌≡◌, ℕ, None, Some, IfSome};
+ghost use Rattle.node_limits.specs.Limits.{no_limits};
 ghost use Rattle.live_calls.specs.Acting.{Acts};
 ghost use Rattle.live_calls.specs.Behind.{constraints_in};
 ghost use Rattle.live_calls.specs.Checking.{Checks, TellsSelection};
@@ -27,6 +28,7 @@ use live_calls::{
 };
 use live_held::Held;
 use live_script::{certificate_on, refusal_on, script_on};
+use node_limits::Limits;
 use std::alloc::Global;
 
 /// Puts the platform of an allocator into a handle.
@@ -58,10 +60,29 @@ pub extern "C" fn mezulobu_rt_live_platform_record(
 /// Puts a new collection for an allocator's platform into a handle.
 #[unsafe(no_mangle)]
 pub extern "C" fn mezulobu_rt_live_open(alloc: Global, allocator: &mut Held, held: &mut Held) -> u32
-    ensures opens { Opens allocator.old.value held.old.value held.new.value result }
+    ensures opens { Opens no_limits allocator.old.value held.old.value held.new.value result }
     ensures unchanged { allocator.new.value ≡ allocator.old.value }
 {
-    open(alloc, allocator, held)
+    let limits = Limits { offspring: None };
+    open(alloc, allocator, limits, held)
+}
+
+/// The same, with at most so many nodes below each child of the root.
+#[unsafe(no_mangle)]
+pub extern "C" fn mezulobu_rt_live_open_within(
+    alloc: Global,
+    allocator: &mut Held,
+    most: u32,
+    held: &mut Held,
+) -> u32
+    ensures opens { Opens (record { offspring = Some most }) allocator.old.value
+        held.old.value held.new.value result }
+    ensures unchanged { allocator.new.value ≡ allocator.old.value }
+{
+    let limits = Limits {
+        offspring: Some(most),
+    };
+    open(alloc, allocator, limits, held)
 }
 
 /// Puts the constraints of a participant into a handle.

@@ -1,8 +1,10 @@
 -- The certificate of a script's decisions.
 use Rattle.std.specs.Prelude.{◌≡◌, ℕ, All, IfSome, List, map, Bool, Result, Ok, Err}
+use Rattle.certificate_pieces.specs.Texts.{pieces_text}
 use Rattle.certificate_text.specs.Certificate.{certificate_text}
 use Rattle.certificate_text.specs.Told.{decision_data}
 use Rattle.serde_json.specs.Data.{Data}
+use Rattle.serde_json.specs.Written.{compact_text}
 use Rattle.sysmem_alloc.specs.Claims.{HasProof}
 use Rattle.negotiation_inputs.specs.Platform.{PlatformFacts}
 use Rattle.script_reading.specs.declared.fault.ScriptFault.{ScriptFault}
@@ -22,7 +24,11 @@ AreProved decisions = All IsProved decisions
 abbrev pub data_of : PlatformFacts → List Certified → List Data
 data_of platform decisions = map (λ c. decision_data platform c.0 c.1) decisions
 
--- their text
+-- the text of each
+abbrev pub texts_of : PlatformFacts → List Certified → List (List ℕ)
+texts_of platform decisions = map (λ c. compact_text (decision_data platform c.0 c.1)) decisions
+
+-- their text as a certificate
 abbrev pub certificate_of : PlatformFacts → List Certified → List ℕ
 certificate_of platform decisions = certificate_text (data_of platform decisions)
 
@@ -43,7 +49,7 @@ abbrev pub certified_seen : CertifiedReport → CertifiedFacts
 certified_seen c =
     record {
       text = string_bytes c.report.text;
-      certificate = c.certificate.items;
+      certificate = pieces_text c.certificate;
       starved = c.report.starved;
     }
 

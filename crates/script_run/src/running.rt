@@ -11,11 +11,13 @@ ghost use Rattle.script_replay.specs.Outcome.{RunsWith, ValueRunsTo, report_seen
 ghost use Rattle.script_replay.specs.Report.{IsReported};
 ghost use Rattle.script_run.specs.Run.{IsCausedBy, Ran, RanWithProof, WritesFronts, both_counts};
 ghost use Rattle.script_run.specs.Certificate.{CertifiesTo, certified_seen};
+ghost use Rattle.certificate_pieces.specs.Texts.{pieces_text};
 ghost use Rattle.negotiation_inputs.specs.Platform.{PlatformFacts};
 
 use crate::certifying::Certifying;
 use crate::fault::RunFault;
 use byte_transfer::{Sink, Source, WriteFault, read_up_to_limit, write_fully};
+use certificate_pieces::CertificatePieces;
 use script_reading::{LONGEST, ParseFault, Script, parse_script, read_script};
 use script_replay::{Decider, Report, Searching, report_of};
 use serde_json::Value;
@@ -82,8 +84,8 @@ pub fn run_leaving<R: Source, W: Sink>(
 ///
 /// Any failure of the reader is the fault `Read`, and any of a writer the fault `Write`; what was
 /// written then is a prefix of the report, or the whole report and a prefix of the certificate. No
-/// other fault is called so. The certificate is made before anything is written: where memory is
-/// refused to it, nothing is, as where the script is refused.
+/// other fault is called so. The certificate is written in pieces, whose room is taken before
+/// anything is written: where memory is refused to it, nothing is, as where the script is refused.
 pub fn run_with_proof<R: Source, W: Sink, P: Sink>(
     alloc: Global,
     reader: &mut R,
@@ -101,9 +103,12 @@ pub fn run_with_proof<R: Source, W: Sink, P: Sink>(
 {
     let bytes = read_up_to_limit(alloc, reader, LONGEST)?;
     let certified = certified_report(alloc, bytes)?;
-    let text = certified.report.text.as_bytes();
-    write_both(writer, text, proof, &certified.certificate)?;
-    if certified.report.starved {
+    let CertifiedReport {
+        report,
+        certificate,
+    } = certified;
+    write_both(writer, report.text.as_bytes(), proof, certificate)?;
+    if report.starved {
         return Ok(Ended::MemoryRefused);
     }
     Ok(Ended::Done)
@@ -113,7 +118,7 @@ pub fn run_with_proof<R: Source, W: Sink, P: Sink>(
 #[derive(Drop)]
 struct CertifiedReport {
     report: Report,
-    certificate: Vec<u8>,
+    certificate: CertificatePieces,
 }
 
 /// The report of a script's bytes with its certificate.
@@ -127,35 +132,32 @@ fn certified_report(alloc: Global, bytes: Vec<u8>) -> Result<CertifiedReport, Pa
         Ok(report) => report,
         Err(fault) => return Err(fault),
     };
-    let Ok(certificate) = certifying.finish() else {
-        return Err(ParseFault::NoMemory);
-    };
     Ok(CertifiedReport {
         report,
-        certificate,
+        certificate: certifying.finish(),
     })
 }
 
-/// Writes a text, and then another.
+/// Writes a text, and then a certificate.
 fn write_both<W: Sink, P: Sink>(
     writer: &mut W,
     text: &[u8],
     other: &mut P,
-    proof: &[u8],
+    proof: CertificatePieces,
 ) -> Result<(), WriteFault>
     ensures first { OnOk result
         (Appends (W.contents writer.old) (W.contents writer.new) text.now) }
     ensures then { OnOk result
-        (Appends (P.contents other.old) (P.contents other.new) proof.now) }
+        (Appends (P.contents other.old) (P.contents other.new) (pieces_text proof)) }
     ensures fronts { OnErr result (WritesFronts (W.contents writer.old) (W.contents writer.new)
-        (P.contents other.old) (P.contents other.new) text.now proof.now) }
+        (P.contents other.old) (P.contents other.new) text.now (pieces_text proof)) }
     ensures worked { OnOk result (both_counts (W.failures writer.new) (P.failures other.new)
         ≡ both_counts (W.failures writer.old) (P.failures other.old)) }
     ensures failed { OnErr result (both_counts (W.failures writer.new) (P.failures other.new)
         ≢ both_counts (W.failures writer.old) (P.failures other.old)) }
 {
     write_fully(writer, text)?;
-    write_fully(other, proof)?;
+    proof.write(other)?;
     Ok(())
 }
 

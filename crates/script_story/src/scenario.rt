@@ -35,7 +35,7 @@ impl<'a> Scenario<'a> {
     {
         let platform = self.platform.copy()?;
         let told = replay(alloc, platform, calls)?;
-        self.effort.spend(told.visits);
+        self.effort.add_run(told.visits);
         Ok(told)
     }
 

@@ -12,8 +12,8 @@ use Rattle.sysmem_tree.specs.declared.state.NodeState.{NodeState}
 use Rattle.sysmem_tree.specs.ActionKind.{Deed, ends_node, kind_of}
 use Rattle.sysmem_room.specs.declared.outcome.Outcome.{Outcome}
 use Rattle.sysmem_room.specs.declared.outcome.Outcome.TheVariants as outcomes
-use Rattle.sysmem_room.specs.Log.{log_refusal}
-use Rattle.sysmem_room.specs.Refusals.{due, first_of, is_member, known_refusal, refusal_by, outcome_refusal, IsUnforeseen, IsAnswer, MayAnswer}
+use Rattle.node_limits.specs.TreeRefusals.{first_of, state_refusal}
+use Rattle.sysmem_room.specs.Refusals.{due, is_member, known_refusal, refusal_by, outcome_refusal, IsUnforeseen, IsAnswer, MayAnswer}
 use Rattle.sysmem_participants.specs.Held.{Answers, Held, MayEnter, state_of}
 
 -- a verdict's refusal is one of two, of an action that doesn't end its node
@@ -101,7 +101,7 @@ pub unknowing : (known seen : Option Outcome) (path : List ℕ) (s : NodeState) 
 unknowing (Some k) seen path s kind r agrees h = knew (due (Some k) path s kind) k kind r (subst (λ x. IsAnswer (due x path s kind) x kind r) agrees h)
 unknowing None None path s kind r agrees h = knew_none (due None path s kind) kind r h
 unknowing None (Some o) path s kind r agrees h =
-    saw_more o (if ends_node kind then None else outcome_refusal o path) (log_refusal s kind) kind r (of_kind o path kind (ends_node kind) refl) h
+    saw_more o (if ends_node kind then None else outcome_refusal o path) (state_refusal s kind) kind r (of_kind o path kind (ends_node kind) refl) h
 
 -- what was read of the cell is what was known, if anything was
 pub read_known : (k new : Option Outcome) (o : Option (Bor Outcome)) → MatchOption o ((k ≡ None) × (new ≡ None)) (λ r. (new ≡ Some r.now) × Agrees k r.now) → IfSome k (λ x. option_map (λ (b : Bor Outcome). b.now) o ≡ Some x)
@@ -127,7 +127,7 @@ first_none (Some q) b is = absurd (cc)
 -- where nothing is due by what was seen in the cell, nothing is by what the handle knew
 unknowing_none : (known seen : Option Outcome) (path : List ℕ) (s : NodeState) (kind : ActionKind) → IfSome known (λ k. seen ≡ Some k) → due seen path s kind ≡ None → due known path s kind ≡ None
 unknowing_none (Some k) seen path s kind agrees is = subst (λ x. due x path s kind ≡ None) agrees is
-unknowing_none None seen path s kind agrees is = first_none (known_refusal seen path kind) (log_refusal s kind) is
+unknowing_none None seen path s kind agrees is = first_none (known_refusal seen path kind) (state_refusal s kind) is
 
 pub none_by_known : (known noted : Option Outcome) (o : Option (Bor Outcome)) (p q : List ℕ) (s t : NodeState) (kind : ActionKind) → noted ≡ known → p ≡ q → s ≡ t
     → IfSome noted (λ x. option_map (λ (b : Bor Outcome). b.now) o ≡ Some x) → due (option_map (λ (b : Bor Outcome). b.now) o) p s kind ≡ None → due known q t kind ≡ None

@@ -13,8 +13,9 @@ use Rattle.sysmem_tree.specs.Path.{Shown}
 use Rattle.sysmem_tree.specs.Step.{shown_after, shown_after_all}
 use Rattle.sysmem_tree.specs.Table.{allows, makes, state_after, wants_child}
 use Rattle.sysmem_room.specs.declared.outcome.Outcome.{Outcome}
-use Rattle.sysmem_room.specs.Log.{LogFacts, log_refusal, shown_by}
-use Rattle.sysmem_room.specs.Refusals.{IsAnswer, IsDisputed, IsUnforeseen, due, first_of, outcome_refusal}
+use Rattle.node_limits.specs.TreeRefusals.{first_of, state_refusal}
+use Rattle.sysmem_room.specs.Log.{LogFacts, shown_by}
+use Rattle.sysmem_room.specs.Refusals.{IsAnswer, IsDisputed, IsUnforeseen, due, outcome_refusal}
 
 -- such an action makes no node
 makes_none : (kind : ActionKind) → ends_node kind ≡ true → is_some (makes kind) ≡ true → ⊥
@@ -40,7 +41,7 @@ wants_none kinds.AttachToken s ends = refl
 wants_none kinds.Release s ends = refl
 wants_none kinds.Close s ends = refl
 
-by_log : (s : NodeState) (kind : ActionKind) (q : Refusal) → wants_child kind s ≡ false → log_refusal s kind ≡ Some q → q ≡ refusals.WrongState
+by_log : (s : NodeState) (kind : ActionKind) (q : Refusal) → wants_child kind s ≡ false → state_refusal s kind ≡ Some q → q ≡ refusals.WrongState
 by_log s kind q none is = by (allows kind s) (wants_child kind s) none is where
   by : (a w : Bool) → w ≡ false → ◌≡◌ {A = Option Refusal} (if not a then Some refusals.WrongState else if w then Some refusals.NoChildren else None) (Some q) → q ≡ refusals.WrongState
   by true true none is = absurd (cc)
@@ -48,10 +49,10 @@ by_log s kind q none is = by (allows kind s) (wants_child kind s) none is where
   by false w none is = sym (same_Some refusals.WrongState q is)
 
 -- by no verdict is it refused
-pub due_by_log : (known : Option Outcome) (path : List ℕ) (s : NodeState) (kind : ActionKind) → ends_node kind ≡ true → due known path s kind ≡ log_refusal s kind
+pub due_by_log : (known : Option Outcome) (path : List ℕ) (s : NodeState) (kind : ActionKind) → ends_node kind ≡ true → due known path s kind ≡ state_refusal s kind
 due_by_log None path s kind ends = refl
 due_by_log (Some o) path s kind ends = by (ends_node kind) ends where
-  by : (b : Bool) → b ≡ true → first_of (if b then None else outcome_refusal o path) (log_refusal s kind) ≡ log_refusal s kind
+  by : (b : Bool) → b ≡ true → first_of (if b then None else outcome_refusal o path) (state_refusal s kind) ≡ state_refusal s kind
   by true is = refl
   by false is = absurd (cc)
 
@@ -72,8 +73,8 @@ all_foreseen known kind refusals.Strange ends late = late
 
 pub for_its_state : (known : Option Outcome) (path : List ℕ) (s : NodeState) (kind : ActionKind) (r : Refusal) → ends_node kind ≡ true → IsAnswer (due known path s kind) known kind r
     → r ≡ refusals.WrongState
-for_its_state known path s kind r ends answers = by (log_refusal s kind) refl (subst (λ q. IsAnswer q known kind r) (due_by_log known path s kind ends) answers) where
-  by : (q : Option Refusal) → log_refusal s kind ≡ q → IsAnswer q known kind r → r ≡ refusals.WrongState
+for_its_state known path s kind r ends answers = by (state_refusal s kind) refl (subst (λ q. IsAnswer q known kind r) (due_by_log known path s kind ends) answers) where
+  by : (q : Option Refusal) → state_refusal s kind ≡ q → IsAnswer q known kind r → r ≡ refusals.WrongState
   by None is late = absurd (all_foreseen known kind r ends late)
   by (Some q) is same = same ∙ by_log s kind q (wants_none kind s ends) is
 

@@ -13,7 +13,8 @@ use Rattle.sysmem_tree.specs.Step.{shown_after_all}
 use Rattle.sysmem_room.specs.declared.outcome.Outcome.{Outcome}
 use Rattle.sysmem_room.specs.Agreeing.{AgreesAt, IsOwn}
 use Rattle.sysmem_room.specs.Entering.{HasEntered}
-use Rattle.sysmem_room.specs.Log.{LogFacts, log_refusal, next_path, shown_by}
+use Rattle.node_limits.specs.TreeRefusals.{state_refusal}
+use Rattle.sysmem_room.specs.Log.{LogFacts, next_path, shown_by}
 use Rattle.sysmem_room.specs.Refusals.{IsDisputed, due}
 use Rattle.sysmem_participants.proofs.Answering.{read_known}
 use Rattle.sysmem_participants.proofs.Ended.{due_by_log}
@@ -123,4 +124,4 @@ next_of (Err r) before h l its is = tt
 pub due_at_end : (h : Held) (l : LogFacts) (seen : Option Outcome) (kind : ActionKind) (q : Option Refusal) → ends_node kind ≡ true → IsLogOf l h → due seen l.path (shown_by l).state kind ≡ q
     → due h.known h.path (state_of h) kind ≡ q
 due_at_end h l seen kind q ends its is =
-    due_by_log h.known h.path (state_of h) kind ends ∙ (sym (ap (λ s. log_refusal s kind) (state_as h l its)) ∙ (sym (due_by_log seen l.path (shown_by l).state kind ends) ∙ is))
+    due_by_log h.known h.path (state_of h) kind ends ∙ (sym (ap (λ s. state_refusal s kind) (state_as h l its)) ∙ (sym (due_by_log seen l.path (shown_by l).state kind ends) ∙ is))

@@ -7,7 +7,7 @@ ghost use Rattle.sysmem_participants.specs.Held.{Answers, Disputes, HasActed, Ha
 ghost use Rattle.sysmem_alloc.specs.Book.{IsBook};
 ghost use Rattle.sysmem_room.specs.Agreeing.{IsOwn};
 ghost use Rattle.sysmem_room.specs.Entering.{HasEntered, IsRefused};
-ghost use Rattle.sysmem_room.specs.Limits.{is_spent};
+ghost use Rattle.node_limits.specs.Limits.{is_spent};
 ghost use Rattle.sysmem_room.specs.Log.{begun_by, next_path, shown_by};
 ghost use Rattle.sysmem_room.specs.Refusals.{IsAnswer, IsDisputed, due};
 ghost use Rattle.sysmem_tree.specs.ActionKind.{attaches_token, binds, creates_child, creates_group, deed_of, duplicates, ends_node, has_all_children, kind_of, sets};

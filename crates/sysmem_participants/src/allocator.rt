@@ -10,11 +10,12 @@ use crate::seat::Seat;
 use crate::shared::{Rules, Shared};
 use crate::token::Token;
 use negotiation_inputs::Platform;
+use node_limits::Limits;
 use std::alloc::{AllocError, Global};
 use std::marker::Model;
 use std::sync::ledger::{Blank, Ledger};
 use std::sync::{Arc, Condvar, Mutex};
-use sysmem_room::{Limits, Room};
+use sysmem_room::Room;
 use sysmem_search::Gate;
 use sysmem_tree::Refusal;
 

@@ -4,16 +4,17 @@ ghost use Rattle.std.specs.Prelude.{◌≡◌, ◌≢◌, ◌≤◌, ◌+◌, �
 ghost use Rattle.sysmem_alloc.specs.Book.{IsBook};
 ghost use Rattle.sysmem_room.specs.Agreeing.{IsOwn};
 ghost use Rattle.sysmem_room.specs.Entering.{HasEntered, IsRefused};
-ghost use Rattle.sysmem_room.specs.Limits.{is_spent};
+ghost use Rattle.node_limits.specs.Limits.{is_spent};
 ghost use Rattle.sysmem_room.specs.Log.{shown_by};
 ghost use Rattle.sysmem_room.specs.Refusals.{IsAnswer, IsDisputed, due};
 ghost use Rattle.sysmem_tree.specs.ActionKind.{deed_of, ends_node, kind_of};
 ghost use Rattle.sysmem_tree.specs.Table.{makes_root};
 
 use crate::shared::Shared;
+use node_limits::Limits;
 use std::sync::Wait;
 use std::sync::ledger::Ledger;
-use sysmem_room::{Entered, FreshCell, Limits, Log, Outcome, Seen, Turn};
+use sysmem_room::{Entered, FreshCell, Log, Outcome, Seen, Turn};
 use sysmem_tree::{Action, Refusal};
 
 /// The book as an action found it in a hold, and as it left it; for clauses alone: it takes no

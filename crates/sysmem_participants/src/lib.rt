@@ -51,6 +51,5 @@ pub use gathering::audit;
 pub use group::Group;
 pub use reading::{Reader, Reading};
 pub use stub::Stub;
-pub use sysmem_room::Limits;
 pub use token::Token;
 pub use view::View;

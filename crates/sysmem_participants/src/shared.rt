@@ -5,10 +5,11 @@ ghost use Rattle.std.specs.Option.{ForSome};
 ghost use Rattle.sysmem_search.specs.declared.wide.TheConstants.{MOST_WORKERS};
 
 use negotiation_inputs::Platform;
+use node_limits::Limits;
 use std::alloc::Global;
 use std::sync::ledger::Ledger;
 use std::sync::{Condvar, Mutex};
-use sysmem_room::{Limits, Room};
+use sysmem_room::Room;
 use sysmem_search::Gate;
 
 /// A collection's book under its lock, where one waits for a verdict, and the platform for which

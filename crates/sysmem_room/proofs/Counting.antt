@@ -1,50 +1,27 @@
 -- What an action adds to the history and to the nodes.
-use Rattle.std.proofs.Common.{◌≡◌, ℕ, suc, ◌+◌, List, [], ◌∷◌, ◌++◌, length, Option, Some, None, Ok, slice_set, refl, sym, ◌∙◌, ap, arith, length-append}
-use Rattle.std.specs.Prelude.{is_some, if◌then◌else◌}
-use Rattle.std.proofs.lemmas.List.{length-set, length-map}
+use Rattle.std.proofs.Common.{◌≡◌, ℕ, ◌+◌, List, [], ◌∷◌, ◌++◌, length, Option, Ok, refl, sym, ◌∙◌, ap, arith, length-append}
+use Rattle.std.specs.Prelude.{if◌then◌else◌}
+use Rattle.std.proofs.lemmas.List.{length-map}
 use Rattle.sysmem_tree.specs.declared.action.ActionKind.{ActionKind}
 use Rattle.sysmem_tree.specs.declared.action.ActionKind.TheVariants as kinds
 use Rattle.sysmem_tree.specs.declared.domain.Domain.{Domain}
-use Rattle.sysmem_tree.specs.declared.state.NodeState.{NodeState}
 use Rattle.sysmem_tree.specs.ActionKind.{Deed, kind_of}
 use Rattle.sysmem_tree.specs.Domain.{TreeFacts}
-use Rattle.sysmem_tree.specs.Node.{NodeFacts}
-use Rattle.sysmem_tree.specs.Table.{makes, makes_root}
-use Rattle.sysmem_tree.specs.Tree.{Applied, applied, node_after, nodes_made, nodes_after, domains_after, left_out_but, decided}
+use Rattle.sysmem_tree.specs.Table.{makes_root}
+use Rattle.sysmem_tree.specs.Tree.{Applied, applied, domains_after, decided}
 use Rattle.sysmem_tree.proofs.CallerLemmas.{accepted}
 use Rattle.sysmem_alloc.specs.Book.{BookFacts, entered}
 use Rattle.sysmem_alloc.specs.Decision.{Claimed, answer_of, choices_of}
 use Rattle.sysmem_alloc.specs.Entry.{BookEntry, Decided}
 use Rattle.sysmem_alloc.specs.Sound.{roots_of}
 use Rattle.sysmem_alloc.proofs.CallerLemmas.{acted_roots, added, decided_roots}
-use Rattle.sysmem_tree.specs.Shape.{members_of}
-use Rattle.sysmem_room.specs.Counting.{actions_in, weight, nodes_by}
+use Rattle.node_limits.proofs.CallerLemmas.{decided_many}
+use Rattle.sysmem_room.specs.Counting.{actions_in, weight}
 
 -- one more entry
 pub actions_push : (es : List BookEntry) (e : BookEntry) → actions_in (es ++ e ∷ []) ≡ actions_in es + weight e
 actions_push [] e = omega arith
 actions_push (x ∷ es) e = let h : actions_in (es ++ e ∷ []) ≡ actions_in es + weight e = actions_push es e in omega (arith, h)
-
-made_many : (number i : ℕ) (n : NodeFacts) (k : ActionKind) (s : Option NodeState) → length (nodes_made number i n k s) ≡ (if is_some s then 1 else 0)
-made_many number i n k None = refl
-made_many number i n k (Some s) = refl
-
--- an accepted action makes as many nodes as its kind says
-pub grows : (t : TreeFacts) (i : ℕ) (deed : Deed) (after : Applied) → applied t i deed ≡ Ok after → length after.tree.nodes ≡ length t.nodes + nodes_by (kind_of deed)
-grows t i deed after is =
-    let (n, a) = accepted t i deed after is in
-    let made = made_many (length t.nodes) i n (kind_of deed) (makes (kind_of deed)) in
-    let set : length (slice_set t.nodes i (node_after deed n)) ≡ length t.nodes = length-set t.nodes i (node_after deed n) in
-    let both : length (nodes_after t.nodes i n deed) ≡ length (slice_set t.nodes i (node_after deed n)) + length (nodes_made (length t.nodes) i n (kind_of deed) (makes (kind_of deed))) = length-append (slice_set t.nodes i (node_after deed n)) (nodes_made (length t.nodes) i n (kind_of deed) (makes (kind_of deed))) in
-    sym (ap (λ (u : TreeFacts). length u.nodes) a.tree) ∙ omega (arith, both, set, made)
-
-left_many : (ms : List ℕ) (r i : ℕ) (ns : List NodeFacts) → length (left_out_but ms r i ns) ≡ length ns
-left_many ms r i [] = refl
-left_many ms r i (n ∷ ns) = ap suc (left_many ms r (i + 1) ns)
-
-pub decided_many : (t : TreeFacts) (r : ℕ) (choices : Option (List ℕ)) → length (decided t r choices).nodes ≡ length t.nodes
-decided_many t r None = refl
-decided_many t r (Some cs) = left_many (members_of t.nodes r cs) r 0 t.nodes
 
 decided_domains : (t : TreeFacts) (r : ℕ) (choices : Option (List ℕ)) → length (decided t r choices).domains ≡ length t.domains
 decided_domains t r choices = sym (length-map (decided t r choices).domains (λ (d : Domain). d.root)) ∙ (ap length (decided_roots t r choices) ∙ length-map t.domains (λ (d : Domain). d.root))

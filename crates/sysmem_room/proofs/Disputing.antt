@@ -28,10 +28,10 @@ use Rattle.sysmem_alloc.specs.State.{State, verdict_of}
 use Rattle.sysmem_room.specs.declared.outcome.Outcome.{Outcome}
 use Rattle.sysmem_room.specs.declared.outcome.Outcome.TheVariants as outcomes
 use Rattle.sysmem_room.specs.Agreeing.{IsKnown, verdict_by}
-use Rattle.sysmem_room.specs.Log.{log_refusal}
-use Rattle.sysmem_room.specs.Refusals.{IsDisputed, IsUnforeseen, due, first_of, is_member, known_refusal, outcome_refusal, refusal_by}
+use Rattle.node_limits.specs.TreeRefusals.{first_of, state_refusal}
+use Rattle.sysmem_room.specs.Refusals.{IsDisputed, IsUnforeseen, due, is_member, known_refusal, outcome_refusal, refusal_by}
 use Rattle.sysmem_room.proofs.Foreseeing.{log_allows, makes_one, refused_unforeseen}
-use Rattle.sysmem_room.proofs.Owning.{not_past}
+use Rattle.node_limits.proofs.CallerLemmas.{not_past}
 
 -- what was entered for a domain whose verdict chose settings
 chose : (v : Option Verdict) (chosen : ChosenFacts) → Some (unwrap_or v verdicts.NoMemory) ≡ Some (verdicts.Chosen chosen)
@@ -67,8 +67,8 @@ both_none None b is = (refl, is)
 both_none (Some q) b is = absurd (cc)
 
 -- where nothing is due, nothing is by the log
-pub none_logged : (known : Option Outcome) (path : List ℕ) (s : NodeState) (kind : ActionKind) → due known path s kind ≡ None → log_refusal s kind ≡ None
-none_logged known path s kind none = (both_none (known_refusal known path kind) (log_refusal s kind) none).1
+pub none_logged : (known : Option Outcome) (path : List ℕ) (s : NodeState) (kind : ActionKind) → due known path s kind ≡ None → state_refusal s kind ≡ None
+none_logged known path s kind none = (both_none (known_refusal known path kind) (state_refusal s kind) none).1
 
 -- which of its refusals a tree answers, where neither the domain's failure nor the node's state brings any
 held_back : {A : Type 0} (kind : ActionKind) (o : Outcome) (barred out allowed wants full : Bool) (x : A) (r : Refusal) → barred ≡ false → allowed ≡ true → wants ≡ false
@@ -99,8 +99,8 @@ refused_at : (b : BookFacts) (i : ℕ) (deed : Deed) (r : Refusal) (s : NodeStat
     → ((ends_node (kind_of deed) ≡ false) × IfSome found (λ n. n.is_left_out ≡ true)) ⊎ IsUnforeseen (Some o) (kind_of deed) r
 refused_at b i deed r s o path None agrees here there same known none is = absurd (not_past b.state.tree.nodes i there here)
 refused_at b i deed r s o path (Some n) agrees here there same known none is =
-    let (unknown, unlogged) = both_none (if ends_node (kind_of deed) then None else outcome_refusal o path) (log_refusal s (kind_of deed)) none in
-    let (allowed, content) = log_allows n.state (kind_of deed) (ap (λ x. log_refusal x (kind_of deed)) same ∙ unlogged) in
+    let (unknown, unlogged) = both_none (if ends_node (kind_of deed) then None else outcome_refusal o path) (state_refusal s (kind_of deed)) none in
+    let (allowed, content) = log_allows n.state (kind_of deed) (ap (λ x. state_refusal x (kind_of deed)) same ∙ unlogged) in
     let free = open_to (is_barred b.state.tree n.domain) (ends_node (kind_of deed)) (outcome_refusal o path) unknown
     (λ nothing. unrefused b.platform b.state n.domain o path agrees nothing known) in
     elim (held_back (kind_of deed) o (is_barred b.state.tree n.domain && not (ends_node (kind_of deed))) (n.is_left_out && not (ends_node (kind_of deed))) (allows (kind_of deed) n.state)
@@ -130,7 +130,7 @@ strange_disputes b path s deed r answer (Some o) i j agrees there same known at 
       | inr late ↦ absurd (subst (IsUnforeseen (Some o) (kind_of deed)) (sym (answers late) ∙ strange) late)
     ]
 
-log_never : (s : NodeState) (kind : ActionKind) → log_refusal s kind ≡ Some Strange → ⊥
+log_never : (s : NodeState) (kind : ActionKind) → state_refusal s kind ≡ Some Strange → ⊥
 log_never s kind is = by (allows kind s) (wants_child kind s) is where
   by : (a w : Bool) → ◌≡◌ {A = Option Refusal} (if not a then Some WrongState else if w then Some NoChildren else None) (Some Strange) → ⊥
   by true false e = absurd (cc)
@@ -159,7 +159,7 @@ first_never (Some q) b one two is = one is
 -- nothing that is due is that the two disagree
 pub never_due : (known : Option Outcome) (path : List ℕ) (s : NodeState) (kind : ActionKind) → due known path s kind ≡ Some Strange → ⊥
 never_due None path s kind is = log_never s kind is
-never_due (Some o) path s kind is = first_never (if ends_node kind then None else outcome_refusal o path) (log_refusal s kind) (by (ends_node kind)) (log_never s kind) is where
+never_due (Some o) path s kind is = first_never (if ends_node kind then None else outcome_refusal o path) (state_refusal s kind) (by (ends_node kind)) (log_never s kind) is where
   by : (b : Bool) → ◌≡◌ {A = Option Refusal} (if b then None else outcome_refusal o path) (Some Strange) → ⊥
   by true e = absurd (cc)
   by false e = outcome_never o path e

@@ -11,9 +11,9 @@ use Rattle.sysmem_tree.specs.Node.{NodeFacts}
 use Rattle.sysmem_tree.specs.Nodes.{HasNode}
 use Rattle.sysmem_tree.specs.Table.{allows, makes, wants_child}
 use Rattle.sysmem_tree.specs.Tree.{applied, applied_at, is_barred, has_room}
-use Rattle.sysmem_room.specs.Log.{log_refusal}
+use Rattle.node_limits.specs.TreeRefusals.{state_refusal}
 use Rattle.sysmem_room.specs.Refusals.{IsUnforeseen}
-use Rattle.sysmem_room.proofs.Owning.{not_past}
+use Rattle.node_limits.proofs.CallerLemmas.{not_past}
 
 -- which of its refusals a tree answers, where the node's state brings none
 held_back : {A : Type 0} (kind : ActionKind) (barred out allowed wants full : Bool) (x : A) (r : Refusal) → (barred ≡ true → ends_node kind ≡ false) → (out ≡ true → ends_node kind ≡ false)
@@ -37,7 +37,7 @@ makes_one true room is = refl
 makes_one false room is = absurd (cc)
 
 -- a log's state brings no refusal
-pub log_allows : (s : NodeState) (kind : ActionKind) → log_refusal s kind ≡ None → (allows kind s ≡ true) × (wants_child kind s ≡ false)
+pub log_allows : (s : NodeState) (kind : ActionKind) → state_refusal s kind ≡ None → (allows kind s ≡ true) × (wants_child kind s ≡ false)
 log_allows s kind none = by (allows kind s) (wants_child kind s) none where
   by : (a w : Bool) → ◌≡◌ {A = Option Refusal} (if not a then Some WrongState else if w then Some NoChildren else None) None → (a ≡ true) × (w ≡ false)
   by true false is = (refl, refl)
@@ -45,15 +45,15 @@ log_allows s kind none = by (allows kind s) (wants_child kind s) none where
   by false w is = absurd (cc)
 
 refused_at : (t : TreeFacts) (i : ℕ) (deed : Deed) (r : Refusal) (s : NodeState) (o : Option NodeFacts) → slice_get t.nodes i ≡ o → HasNode t.nodes i → IfSome o (λ n. n.state ≡ s)
-    → log_refusal s (kind_of deed) ≡ None → applied_at t i deed o ≡ Err r → IsUnforeseen None (kind_of deed) r
+    → state_refusal s (kind_of deed) ≡ None → applied_at t i deed o ≡ Err r → IsUnforeseen None (kind_of deed) r
 refused_at t i deed r s None here there same none is = absurd (not_past t.nodes i there here)
 refused_at t i deed r s (Some n) here there same none is =
-    let (allowed, content) = log_allows n.state (kind_of deed) (ap (λ x. log_refusal x (kind_of deed)) same ∙ none) in
+    let (allowed, content) = log_allows n.state (kind_of deed) (ap (λ x. state_refusal x (kind_of deed)) same ∙ none) in
     held_back (kind_of deed) (is_barred t n.domain && not (ends_node (kind_of deed))) (n.is_left_out && not (ends_node (kind_of deed))) (allows (kind_of deed) n.state)
     (wants_child (kind_of deed) n.state) (not (has_room t.nodes (kind_of deed))) _ r (stays (is_barred t n.domain) (ends_node (kind_of deed))) (stays n.is_left_out (ends_node (kind_of deed)))
     allowed content (makes_one (is_some (makes (kind_of deed))) (nat_le (length t.nodes + 1) 128)) is
 
 -- what the tree refuses an action on a node for that stands as a log says, which brings no refusal itself
 pub refused_unforeseen : (t : TreeFacts) (i : ℕ) (deed : Deed) (r : Refusal) (s : NodeState) → HasNode t.nodes i → IfSome (slice_get t.nodes i) (λ n. n.state ≡ s)
-    → log_refusal s (kind_of deed) ≡ None → applied t i deed ≡ Err r → IsUnforeseen None (kind_of deed) r
+    → state_refusal s (kind_of deed) ≡ None → applied t i deed ≡ Err r → IsUnforeseen None (kind_of deed) r
 refused_unforeseen t i deed r s there same none is = refused_at t i deed r s (slice_get t.nodes i) refl there same none is

@@ -1,9 +1,10 @@
 -- What was compared of a node and a log.
-use Rattle.std.proofs.Common.{◌≡◌, ◌==◌, ◌<◌, ℕ, zero, suc, Bool, List, [], ◌∷◌, Option, None, Some, length, slice_get, refl, sym, ◌∙◌, ap, subst, arith}
+use Rattle.std.proofs.Common.{◌≡◌, ◌==◌, ℕ, Bool, List, Option, None, Some, slice_get, refl, sym, ◌∙◌, ap, subst}
 use Rattle.std.specs.Prelude.{IfSome}
 use Rattle.sysmem_tree.specs.declared.state.NodeState.{NodeState}
 use Rattle.sysmem_tree.specs.Node.{NodeFacts}
 use Rattle.sysmem_tree.specs.Nodes.{HasNode}
+use Rattle.node_limits.proofs.CallerLemmas.{not_past}
 use Rattle.sysmem_room.specs.Agreeing.{StandsAs}
 use Rattle.sysmem_room.specs.Log.{LogFacts}
 
@@ -16,12 +17,6 @@ as_logged (Some n) s t of is = sym of ∙ is
 pub as_rooted : (o : Option NodeFacts) (domain i : ℕ) (root : Bool) → IfSome o (λ n. domain ≡ n.domain) → (domain == i) ≡ root → IfSome o (λ n. (n.domain == i) ≡ root)
 as_rooted None domain i root of is = tt
 as_rooted (Some n) domain i root of is = subst (λ d. (d == i) ≡ root) of is
-
--- a node that is there isn't none
-pub not_past : {X : Type 0} (xs : List X) (i : ℕ) → i < length xs → slice_get xs i ≡ None → ⊥
-not_past [] i less none = absurd (omega (arith, less))
-not_past (x ∷ xs) zero less none = absurd (cc)
-not_past (x ∷ xs) (suc i) less none = not_past xs i (omega (arith, less)) none
 
 -- where a node stands as the log says, it roots its domain where the log says so
 pub rooted_as : (nodes : List NodeFacts) (log : LogFacts) (i domain : ℕ) → HasNode nodes i → IfSome (slice_get nodes i) (λ n. domain ≡ n.domain) → StandsAs nodes log i

@@ -21,7 +21,7 @@ use Rattle.sysmem_tree.proofs.CallerLemmas.{accepted}
 use Rattle.sysmem_room.specs.declared.places.Places.{Places}
 use Rattle.sysmem_room.specs.Agreeing.{book_log, own_deeds}
 use Rattle.sysmem_room.specs.Places.{ArePlaces, EndsWith, HasAllOf}
-use Rattle.sysmem_room.proofs.Counting.{grows}
+use Rattle.node_limits.proofs.CallerLemmas.{grows}
 use Rattle.sysmem_room.proofs.Logs.{again_or_other}
 use Rattle.sysmem_room.proofs.Reading.{log_cons}
 
@@ -260,11 +260,6 @@ acted_there t i deed after is =
     let less = slice_get_within t.nodes i n a.there in
     let more = grows t i deed after is in
     omega (arith, less, more)
-
-pub none_yet : (many k : ℕ) → get_or {A = ℕ} (replicate many 0) k 0 ≡ 0
-none_yet zero k = refl
-none_yet (suc many) zero = refl
-none_yet (suc many) (suc k) = none_yet many k
 
 -- one action read back, where there was a place for the one before it
 pub stepped : (nodes : List NodeFacts) (raw : List Entry) (es : List BookEntry) (places : Places) (i j p : ℕ) (asked : ActionKind) (e : Entry) (d : Deed) (o : Option ℕ)

@@ -7,10 +7,10 @@ use Rattle.sysmem_tree.specs.declared.refusal.Refusal.{Refusal}
 use Rattle.sysmem_tree.specs.declared.refusal.Refusal.TheVariants.{TooManyNodes}
 use Rattle.sysmem_tree.specs.ActionKind.{Deed, kind_of}
 use Rattle.sysmem_tree.specs.Tree.{applied}
-use Rattle.sysmem_room.specs.declared.limits.Limits.{Limits}
+use Rattle.node_limits.specs.declared.limits.Limits.{Limits}
+use Rattle.node_limits.specs.Limits.{is_spent}
 use Rattle.sysmem_room.specs.declared.outcome.Outcome.{Outcome}
 use Rattle.sysmem_room.specs.Agreeing.{IsOwn}
-use Rattle.sysmem_room.specs.Limits.{is_spent}
 use Rattle.sysmem_room.specs.Log.{LogFacts}
 
 -- a book has on a handle's own node one action more than before, and nothing else

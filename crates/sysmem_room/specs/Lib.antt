@@ -3,9 +3,7 @@ pub mod Counting
 pub mod Entering
 pub mod Lacking
 pub mod Laws
-pub mod Limits
 pub mod Log
 pub mod Places
 pub mod Refusals
 pub mod Ruling
-pub mod TreeRefusals

@@ -14,9 +14,9 @@ use Rattle.sysmem_tree.specs.ActionKind.{ends_node}
 use Rattle.sysmem_tree.specs.Path.{node_at}
 use Rattle.sysmem_tree.specs.Shape.{members_of}
 use Rattle.sysmem_tree.specs.Table.{makes}
+use Rattle.node_limits.specs.TreeRefusals.{first_of, state_refusal}
 use Rattle.sysmem_room.specs.declared.outcome.Outcome.{Outcome}
 use Rattle.sysmem_room.specs.declared.outcome.Outcome.TheVariants as outcomes
-use Rattle.sysmem_room.specs.Log.{log_refusal}
 
 -- node i is a member of the selection
 abbrev pub is_among : FrozenFacts → List ℕ → ℕ → Bool
@@ -43,14 +43,10 @@ abbrev pub known_refusal : Option Outcome → List ℕ → ActionKind → Option
 known_refusal None path a = None
 known_refusal (Some o) path a = if ends_node a then None else outcome_refusal o path
 
-abbrev pub first_of : Option Refusal → Option Refusal → Option Refusal
-first_of None b = b
-first_of (Some a) b = Some a
-
 -- the refusal that is due by what a handle knows: by the verdict, then by what its log makes of its
 -- node
 abbrev pub due : Option Outcome → List ℕ → NodeState → ActionKind → Option Refusal
-due known path state kind = first_of (known_refusal known path kind) (log_refusal state kind)
+due known path state kind = first_of (known_refusal known path kind) (state_refusal state kind)
 
 -- a refusal that a handle can't foresee: too many nodes, of an action that makes one; and by a
 -- verdict that it doesn't know, of an action that doesn't end its node

@@ -1,19 +1,9 @@
 //! What limits keep, whoever acts.
 
-ghost use Rattle.sysmem_room.specs.Laws.{LimitGoesOn, LimitIsKept};
+ghost use Rattle.sysmem_room.specs.Laws.{LimitGoesOn};
 
-use sysmem_alloc::laws::{legal_is_sound, numbers_stay};
+use sysmem_alloc::laws::legal_is_sound;
 use sysmem_tree::laws::one_path;
-
-/// Where each action was within the limits as it was entered, no child of the root ever has more
-/// nodes below it than they allow.
-pub fn limit_is_kept()
-    ensures { LimitIsKept }
-{
-    legal_is_sound();
-    numbers_stay();
-    one_path();
-}
 
 /// A history whose actions were within the limits goes on so, with each action that `Room::act`
 /// accepts and with each decision.

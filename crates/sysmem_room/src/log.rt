@@ -34,8 +34,8 @@ impl<L: Ledger> Drop for Log<L> {
 }
 
 impl<L: Ledger> Model for Log<L> {
-    ghost use Rattle.std.specs.Prelude.{◌≡◌, length, []};
-    ghost use Rattle.sysmem_room.specs.Log.{LogFacts, EnteredFacts};
+    ghost use Rattle.std.specs.Prelude.{◌≡◌, length};
+    ghost use Rattle.sysmem_room.specs.Log.{LogFacts};
 
     ghost Value = { LogFacts };
 
@@ -56,6 +56,9 @@ impl Drop for FreshLog {
 }
 
 impl Model for FreshLog {
+    ghost use Rattle.std.specs.Prelude.{◌≡◌, []};
+    ghost use Rattle.sysmem_room.specs.Log.{LogFacts};
+
     ghost Value = { LogFacts };
 
     ghost view = { λ f. f.account };
@@ -85,7 +88,9 @@ pub struct Entered<L: Ledger> {
 }
 
 impl<L: Ledger> Model for Entered<L> {
+    ghost use Rattle.std.specs.Prelude.{◌≡◌};
     ghost use Rattle.sysmem_room.specs.Counting.{nodes_by};
+    ghost use Rattle.sysmem_room.specs.Log.{EnteredFacts};
 
     ghost Value = { EnteredFacts };
 
@@ -200,6 +205,8 @@ impl<L: Ledger> Drop for SpentLog<L> {
 }
 
 impl<L: Ledger> Model for SpentLog<L> {
+    ghost use Rattle.sysmem_room.specs.Log.{LogFacts};
+
     ghost Value = { LogFacts };
 
     ghost view = { λ s. s.log };

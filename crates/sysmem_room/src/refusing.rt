@@ -1,10 +1,10 @@
 //! What a handle's action is refused for, by what the handle knows.
 
 ghost use Rattle.std.specs.Prelude.{◌≡◌, ◌≢◌, None, option_map};
-ghost use Rattle.sysmem_room.specs.Log.{log_refusal};
 ghost use Rattle.sysmem_room.specs.Refusals.{IsAnswer, IsUnforeseen, due, is_member, known_refusal, outcome_refusal};
 
 use crate::outcome::Outcome;
+use node_limits::state_refusal;
 use sysmem_alloc::Frozen;
 use sysmem_tree::{ActionKind, NodeState, Prefix, Refusal};
 use verdict_claims::Verdict;
@@ -51,19 +51,6 @@ fn known_refusal(known: Option<&Outcome>, path: &[u32], kind: ActionKind) -> Opt
     outcome_refusal(outcome, path)
 }
 
-/// By the state of a node, as a log makes it or a tree has it.
-pub(crate) fn log_refusal(state: NodeState, kind: ActionKind) -> Option<Refusal>
-    ensures { result ≡ log_refusal state kind }
-{
-    if !state.allows(kind) {
-        return Some(Refusal::WrongState);
-    }
-    if state.wants_child(kind) {
-        return Some(Refusal::NoChildren);
-    }
-    None
-}
-
 /// The refusal that is due by what a handle knows: by the verdict, if it knows one, and then by
 /// what its log makes of its node.
 pub fn due(
@@ -76,7 +63,7 @@ pub fn due(
 {
     match known_refusal(known, path, kind) {
         Some(refusal) => Some(refusal),
-        None => log_refusal(state, kind),
+        None => state_refusal(state, kind),
     }
 }
 

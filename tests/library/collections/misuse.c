@@ -302,6 +302,9 @@ static void misuse_allocators(void)
     judge(&g, mezulobu_allocate_shared(NULL, &t), "allocate_shared");
     judge(&g, mezulobu_allocate_shared(all[1].at, NULL), "allocate_shared");
     judge(&g, mezulobu_allocate_shared(all[2].at, &t), "allocate_shared");
+    judge(&g, mezulobu_allocate_shared_limited(NULL, 8, &t), "allocate_shared_limited");
+    judge(&g, mezulobu_allocate_shared_limited(all[1].at, 8, NULL), "allocate_shared_limited");
+    judge(&g, mezulobu_allocate_shared_limited(all[2].at, 8, &t), "allocate_shared_limited");
     mezulobu_allocator_free(NULL);
 }
 

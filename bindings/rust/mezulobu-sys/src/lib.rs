@@ -27,7 +27,7 @@ pub const MEZULOBU_NO: c_int = 6;
 /// E2: the handle isn't in a state that allows the call
 pub const MEZULOBU_WRONG_STATE: c_int = 18;
 /// E3: more than 128 in one collection, those that are gone
-/// included
+/// included; or more than its host allows
 pub const MEZULOBU_TOO_MANY_NODES: c_int = 19;
 /// E4: of all_children_present, of a group without a child
 pub const MEZULOBU_NO_CHILDREN: c_int = 20;
@@ -507,6 +507,15 @@ extern "C" {
     /// A new collection, by the token of its root. DONE, MISUSED, NO_MEMORY.
     pub fn mezulobu_allocate_shared(
         allocator: *mut mezulobu_allocator,
+        token: *mut *mut mezulobu_token,
+    ) -> c_int;
+    /// The same for a host that lets strangers in: each child of the root has at most so many nodes
+    /// below it, whoever makes them, those that are gone included. A call that would make one more is
+    /// refused by TOO_MANY_NODES, if by nothing else. The root has no limit: a host keeps it, and gives
+    /// each client a child of it. 128 limits nothing.
+    pub fn mezulobu_allocate_shared_limited(
+        allocator: *mut mezulobu_allocator,
+        most: u32,
         token: *mut *mut mezulobu_token,
     ) -> c_int;
     /// Of a token: the right to take part. Each call is DONE or changes nothing, and takes no memory.

@@ -26,7 +26,7 @@ codes! {
         /// E2: the handle isn't in a state that allows the call
         WRONG_STATE = sys::MEZULOBU_WRONG_STATE,
         /// E3: more than 128 in one collection, those that are gone
-        /// included
+        /// included; or more than its host allows
         TOO_MANY_NODES = sys::MEZULOBU_TOO_MANY_NODES,
         /// E4: of all_children_present, of a group without a child
         NO_CHILDREN = sys::MEZULOBU_NO_CHILDREN,

@@ -220,6 +220,16 @@ impl Allocator {
             .map_err(|why| of_allocator("allocate_shared", why))?;
         Ok(Token(made))
     }
+
+    /// The same for a host that lets strangers in: each child of the root has at most so many nodes
+    /// below it, whoever makes them, those that are gone included.
+    pub fn allocate_shared_limited(&self, most: u32) -> Result<Token, CallRefused> {
+        let mut made = null_mut();
+        // Safety: the allocator lives.
+        done(unsafe { sys::mezulobu_allocate_shared_limited(self.0, most, &mut made) })
+            .map_err(|why| of_allocator("allocate_shared_limited", why))?;
+        Ok(Token(made))
+    }
 }
 
 impl Drop for Allocator {

@@ -230,6 +230,21 @@ fn the_first_alternative_that_can_be_had_is_selected() {
 }
 
 #[test]
+fn a_client_makes_no_more_than_its_host_allows() {
+    let root = Allocator::new(&platform())
+        .unwrap()
+        .allocate_shared_limited(1)
+        .unwrap();
+    let [client, other] = [(); 2].map(|()| root.duplicate().unwrap());
+    let friend = client.duplicate().unwrap();
+    for maker in [&client, &friend] {
+        let refused = maker.duplicate().unwrap_err();
+        assert_eq!(refused.status(), Status::TOO_MANY_NODES);
+    }
+    other.create_group().unwrap();
+}
+
+#[test]
 fn a_late_participant_accepts_the_settings() {
     let record = "{\"heaps\":[{\"heap_type\":\"ram\",\"domains\":[\"cpu\"]}],\"pairs\":[{\"pixel_format\":\"NV12\"}],\"color_spaces\":[\"REC709\"]}";
     let allocator = Allocator::from_record(record.as_bytes()).unwrap();

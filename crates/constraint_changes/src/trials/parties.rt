@@ -57,7 +57,7 @@ pub fn can_help(parties: &[Party<'_>], node: usize) -> bool {
 
 /// Parties of those of a group, of which one is asked whatever is selected, and each of which
 /// leaves no settings; none where that isn't so, or they would be too many, or where the count of
-/// buffers tells it. Without groups of tokens it is one of all.
+/// buffers tells it, or nothing more is to be tried. Without groups of tokens it is one of all.
 pub fn parties_of<'a>(alloc: Global, group: Group<'a, '_>) -> Result<Vec<Party<'a>>, AllocError> {
     let mut parties = Vec::new(alloc);
     if has_groups(group.story) && need_in(alloc, group, group.people, None)?.is_too_great() {
@@ -65,12 +65,29 @@ pub fn parties_of<'a>(alloc: Global, group: Group<'a, '_>) -> Result<Vec<Party<'
     }
     for chosen in selections(alloc, group)? {
         let people = asked_with(alloc, group, &chosen)?;
-        let Some(needed) = in_the_way(alloc, group.scenario.platform, &people)? else {
+        let Some(needed) = hindering(alloc, group, &people)? else {
             return Ok(Vec::new(alloc));
         };
         parties.push(Party { people, needed })?;
     }
     Ok(parties)
+}
+
+/// Those of some participants who leave no settings by themselves; `None` where all together leave
+/// some, or nothing more is to be tried.
+fn hindering<'a>(
+    alloc: Global,
+    group: Group<'_, '_>,
+    people: &[Asked<'a>],
+) -> Result<Option<Vec<Asked<'a>>>, AllocError> {
+    let scenario = group.scenario;
+    if scenario.effort.is_spent() {
+        return Ok(None);
+    }
+    scenario
+        .effort
+        .ask(people.len().saturating_mul(people.len()));
+    in_the_way(alloc, scenario.platform, people)
 }
 
 /// Children of groups that are selected, so that whatever is selected has one of these lists; none
@@ -108,14 +125,15 @@ fn next_group(
     group: Group<'_, '_>,
     chosen: &[usize],
 ) -> Result<Option<usize>, AllocError> {
-    let platform = group.scenario.platform;
+    let scenario = group.scenario;
     let people = asked_with(alloc, group, chosen)?;
-    if is_unmet(alloc, platform, &people)? {
+    scenario.effort.ask(people.len());
+    if is_unmet(alloc, scenario.platform, &people)? {
         return Ok(None);
     }
     let longer = with_firsts(alloc, group, chosen)?;
     let people = asked_with(alloc, group, &longer)?;
-    if let Some(few) = in_the_way(alloc, platform, &people)? {
+    if let Some(few) = hindering(alloc, group, &people)? {
         for one in &few {
             if let Some(open) = open_above(group, chosen, one.node) {
                 return Ok(Some(open));

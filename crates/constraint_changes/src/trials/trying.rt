@@ -10,7 +10,7 @@ ghost use Rattle.constraint_changes.specs.Edited.{IsPromised, stating};
 use crate::trials::group::Group;
 use crate::trials::parties::Party;
 use crate::trials::unmet::least_met;
-use constraint_edits::{Changed, Edit, Halving, is_absurd};
+use constraint_edits::{Amount, Changed, Edit, Halving, is_absurd};
 use explanation_text::Text;
 use script_reading::{Act, Call};
 use script_story::Scenario;
@@ -122,7 +122,7 @@ impl Trial<'_, '_> {
             return Ok(best);
         };
         for _halving in 0..MOST_HALVINGS {
-            let Some(amount) = halving.next() else {
+            let Some(amount) = self.next(&halving) else {
                 break;
             };
             let change = halving.changed(alloc, value, amount)?;
@@ -133,6 +133,16 @@ impl Trial<'_, '_> {
             }
         }
         Ok(best)
+    }
+
+    /// The value that is to be tried next; `None` where none is left, or nothing more is to be tried.
+    fn next(&self, halving: &Halving) -> Option<Amount> {
+        let effort = self.scenario.effort;
+        effort.change(self.place, 1);
+        if effort.is_spent() {
+            return None;
+        }
+        halving.next()
     }
 
     /// A change with the decision that comes then, if one is chosen that may be meant.

@@ -47,6 +47,9 @@ pub fn leaves_none(
 ) -> Result<bool, AllocError> {
     let mut asked = Vec::new(alloc);
     for one in stated {
+        if group.scenario.effort.is_spent() {
+            return Ok(false);
+        }
         match read_asked(alloc, &one.value)? {
             Some(constraints) => asked.push(constraints)?,
             None => return Ok(false),
@@ -76,15 +79,20 @@ pub fn read_asked(alloc: Global, value: &Value) -> Result<Option<Constraints>, A
 
 /// Whether those of a group, whose parties these are, have no settings, of whom some ask what was
 /// read: whatever is selected one party of them is asked, each of which leaves none, or, where
-/// there are no parties, they need too many buffers in each place. Only a yes says something.
+/// there are no parties, they need too many buffers in each place. Only a yes says something: there
+/// is none where nothing more is to be tried.
 pub fn leave_none(
     alloc: Global,
     group: Group<'_, '_>,
     parties: &[Party<'_>],
     read: &[Read<'_>],
 ) -> Result<bool, AllocError> {
+    if group.scenario.effort.is_spent() {
+        return Ok(false);
+    }
     if parties.is_empty() && has_groups(group.story) {
         let people = all_with(alloc, group.people, read)?;
+        group.scenario.effort.ask(people.len());
         if need_too_many(alloc, group, &people)? {
             return Ok(true);
         }
@@ -106,10 +114,13 @@ fn leaves_none_with(
     read: &[Read<'_>],
 ) -> Result<bool, AllocError> {
     let platform = group.scenario.platform;
+    let effort = group.scenario.effort;
+    effort.ask(party.needed.len());
     let few = all_with(alloc, &party.needed, read)?;
     if together_need_too_many(&few) || is_unmet(alloc, platform, &few)? {
         return Ok(true);
     }
+    effort.ask(party.people.len());
     let people = all_with(alloc, &party.people, read)?;
     is_unmet(alloc, platform, &people)
 }
@@ -174,6 +185,9 @@ pub(crate) fn least_met(
         let Some(amount) = halving.next() else {
             break;
         };
+        if group.scenario.effort.is_spent() {
+            break;
+        }
         let tried = Tried {
             place,
             value,
@@ -219,6 +233,7 @@ impl Tried<'_> {
                 return Ok(!none);
             }
         }
+        group.scenario.effort.change(self.place, 1);
         let stated = Stated {
             place: self.place,
             value: halving

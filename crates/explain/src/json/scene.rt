@@ -4,15 +4,17 @@ use crate::json::object::Object;
 use explanation_text::Gathered;
 use negotiation_inputs::Platform;
 use script_faults::Document;
+use script_reading::Call;
 use script_story::{Domain, Story, refused_calls};
 use serde_json::Value;
 use std::alloc::{AllocError, Global};
 
-/// What a script's calls did, on its platform.
+/// A script's calls, and what they did on its platform.
 #[derive(Clone, Copy)]
 pub(crate) struct Played<'a, 'b> {
     pub(crate) story: &'b Story<'a>,
     pub(crate) platform: &'b Platform,
+    pub(crate) calls: &'b [Call<'a>],
 }
 
 /// A script's text, and what its calls did, if it isn't refused.

@@ -16,6 +16,6 @@ pub(crate) fn page_of_scene(
         return page_of(alloc, items, None);
     };
     let mut drawing = drawing_of(alloc, played.platform, played.story)?;
-    drawing.proofs = proofs_of(alloc, scene.document.bytes, played.story)?;
+    drawing.proofs = proofs_of(alloc, played)?;
     page_of(alloc, items, Some(&drawing))
 }

@@ -1,12 +1,17 @@
-//! What proves each decision, counted in the certificate that a run of the script writes.
+//! What proves each decision, counted where a second replay makes the proofs.
 
-use byte_transfer::Counted;
+ghost use Rattle.std.specs.Prelude.{[], ⊤};
+
+use crate::json::Played;
 use explanation_text::wording::put_count;
 use explanation_text::{Gathered, Words};
-use script_run::{Ended, run_with_proof};
+use script_replay::{Decider, Stop, proved_claim_for, report_of};
 use script_story::{Story, put_domain};
-use serde_json::Value;
 use std::alloc::{AllocError, Global};
+use std::sync::Arc;
+use sysmem_alloc::Book;
+use sysmem_tree::DomainId;
+use verdict_claims::{Certificate, Claim, Conflict, EarlierChoices, Item, Proof, Refutation};
 
 /// How many conflicts there are, and lines in them.
 #[derive(Clone, Copy, Default)]
@@ -16,104 +21,94 @@ struct Tally {
 }
 
 impl Tally {
-    /// Counts the items of a list, the splits left out.
-    fn add(&mut self, items: &[Value]) {
-        for item in items {
-            if item.get("split").is_some() {
-                continue;
+    /// Counts the conflicts of a refutation, its splits left out.
+    fn add(&mut self, refutation: &Refutation) {
+        for item in refutation.items() {
+            if let Item::Leaf(conflict) = item {
+                self.lines = self.lines.saturating_add(lines_of(conflict));
+                self.conflicts = self.conflicts.saturating_add(1);
             }
-            let lines = length_of(item, "places").saturating_add(length_of(item, "offers"));
-            self.conflicts = self.conflicts.saturating_add(1);
-            self.lines = self.lines.saturating_add(lines.max(1));
+        }
+    }
+
+    /// Counts those of the choices before a chosen one.
+    fn add_all(&mut self, choices: &EarlierChoices) {
+        for refutation in choices.refutations() {
+            self.add(refutation);
         }
     }
 }
 
-/// How long the list at a key is; 0 where there is none.
-fn length_of(value: &Value, key: &str) -> usize {
-    list_at(value, key).len()
-}
-
-/// The list at a key; an empty one where there is none.
-fn list_at<'b>(value: &'b Value, key: &str) -> &'b [Value] {
-    match value.get(key) {
-        Some(found) => items_of(found),
-        None => &[],
+/// How many lines a conflict has.
+fn lines_of(conflict: &Conflict) -> usize {
+    match conflict {
+        Conflict::Places(lines) | Conflict::Offers(lines) => lines.as_slice().len().max(1),
+        Conflict::Count(_) | Conflict::Fixed(_, _) => 1,
     }
 }
 
-/// The items of a list; none of what is no list.
-fn items_of(value: &Value) -> &[Value] {
-    match value.as_array() {
-        Some(list) => list.as_slice(),
-        None => &[],
-    }
+/// Searches for each verdict and proves it, and tells what proves it.
+#[derive(Drop)]
+struct Telling<'a, 'b> {
+    story: &'b Story<'a>,
+    proofs: Gathered<String>,
 }
 
-/// The text at a key; an empty one where there is none.
-fn text_at<'b>(value: &'b Value, key: &str) -> &'b str {
-    match value.get(key) {
-        Some(found) => found.as_str().unwrap_or(""),
-        None => "",
+impl Decider for Telling<'_, '_> {
+    ghost gave = { λ _ platform decisions. ⊤ };
+
+    ghost objects = { λ _ platform book domain objection. ⊥ };
+
+    ghost given = { λ _. [] };
+
+    fn decide(
+        &mut self,
+        alloc: Global,
+        book: &Book,
+        domain: DomainId,
+    ) -> Result<Option<Arc<Claim>>, Stop> {
+        let claim = proved_claim_for(alloc, book, domain);
+        if let Some(shared) = &claim {
+            let tree = book.tree();
+            let root = tree.number_of(tree.root_of(domain)) as usize;
+            let words = proof_of(alloc, self.story, root, &**shared);
+            self.proofs.add_words(words);
+        }
+        Ok(claim)
     }
 }
 
 /// A sentence for each decision of a script. `AllocError` also where memory was refused to one.
-pub(crate) fn proofs_of(
-    alloc: Global,
-    bytes: &[u8],
-    story: &Story<'_>,
-) -> Result<Vec<String>, AllocError> {
-    let certificate = certificate_of(alloc, bytes)?;
-    let Ok(decisions) = Value::from_slice(alloc, &certificate) else {
-        return Err(AllocError);
+pub(crate) fn proofs_of(alloc: Global, played: Played<'_, '_>) -> Result<Vec<String>, AllocError> {
+    let mut telling = Telling {
+        story: played.story,
+        proofs: Gathered::new(alloc),
     };
-    let mut proofs = Gathered::new(alloc);
-    for decision in items_of(&decisions) {
-        proofs.add_words(proof_of(alloc, story, decision));
-    }
-    proofs.done()
-}
-
-/// The certificate of a script.
-fn certificate_of(alloc: Global, bytes: &[u8]) -> Result<Vec<u8>, AllocError> {
-    let mut reader = Counted::new(bytes);
-    let mut report = Counted::new(Vec::new(alloc));
-    let mut certificate = Counted::new(Vec::new(alloc));
-    match run_with_proof(alloc, &mut reader, &mut report, &mut certificate) {
-        Ok(Ended::Done) => Ok(certificate.inner),
+    let platform = played.platform.copy()?;
+    match report_of(alloc, platform, played.calls, &mut telling) {
+        Ok(report) if !report.starved => telling.proofs.done(),
         _ => Err(AllocError),
     }
 }
 
-/// What proves a decision, in words.
-fn proof_of(alloc: Global, story: &Story<'_>, decision: &Value) -> Words {
-    let path = text_at(decision, "domain");
+/// What proves a claim about the domain of a root, in words.
+fn proof_of(alloc: Global, story: &Story<'_>, root: usize, claim: &Claim) -> Words {
     let mut words = Words::new(alloc);
-    put_domain_at(&mut words, story, path);
-    match text_at(decision, "verdict") {
-        "empty" => put_empty(&mut words, decision),
-        "chosen" => put_chosen(&mut words, story, path, decision),
-        _ => {
+    put_domain(&mut words, story, root);
+    words.put(": ");
+    match &claim.proof {
+        Proof::Empty(refutation) => put_empty(&mut words, refutation),
+        Proof::Choice(certificate) => put_chosen(&mut words, story, root, certificate),
+        Proof::Nothing => {
             words.put("more than 4096 selections, which nothing has to prove");
         }
     }
     words
 }
 
-/// Puts which domain it is after a text.
-fn put_domain_at(text: &mut Words, story: &Story<'_>, path: &str) {
-    for domain in &story.domains {
-        if story.path(domain.root) == path {
-            put_domain(text, story, domain.root);
-        }
-    }
-    text.put(": ");
-}
-
-fn put_empty(text: &mut Words, decision: &Value) {
+fn put_empty(text: &mut Words, refutation: &Refutation) {
     let mut tally = Tally::default();
-    tally.add(list_at(decision, "refutation"));
+    tally.add(refutation);
     put_tally(text, tally);
     text.put(if tally.conflicts == 1 {
         " leaves no settings to any selection"
@@ -129,37 +124,34 @@ fn put_tally(text: &mut Words, tally: Tally) {
 }
 
 /// Puts what proves settings after a text: of an attached domain they were decided before.
-fn put_chosen(text: &mut Words, story: &Story<'_>, path: &str, decision: &Value) {
-    if is_attached(story, path) {
+fn put_chosen(text: &mut Words, story: &Story<'_>, root: usize, certificate: &Certificate) {
+    if is_attached(story, root) {
         text.put("the settings decided before suit all");
     } else {
-        put_count(text, length_of(decision, "offers"), "line", "lines");
+        let (offers, places) = (certificate.offers(), certificate.places());
+        put_count(text, offers.as_slice().len(), "line", "lines");
         text.put(" for the offers and ");
-        put_count(text, length_of(decision, "places"), "line", "lines");
+        put_count(text, places.as_slice().len(), "line", "lines");
         text.put(" for the places before the chosen ones");
     }
-    put_earlier(text, decision)
+    put_earlier(text, certificate.earlier())
 }
 
-/// Whether the domain at a path is an attached one.
-fn is_attached(story: &Story<'_>, path: &str) -> bool {
-    for domain in &story.domains {
-        if domain.host.is_some() && story.path(domain.root) == path {
-            return true;
-        }
+/// Whether the domain of a root is an attached one.
+fn is_attached(story: &Story<'_>, root: usize) -> bool {
+    match story.domain_of(root) {
+        Some(domain) => domain.host.is_some(),
+        None => false,
     }
-    false
 }
 
 /// Puts what refutes the children before the chosen ones after a text.
-fn put_earlier(text: &mut Words, decision: &Value) {
+fn put_earlier(text: &mut Words, earlier: &[EarlierChoices]) {
     let mut tally = Tally::default();
     let mut children = 0usize;
-    for group in list_at(decision, "earlier") {
-        for child in items_of(group) {
-            children = children.saturating_add(1);
-            tally.add(items_of(child));
-        }
+    for choices in earlier {
+        children = children.saturating_add(choices.refutations().len());
+        tally.add_all(choices);
     }
     if children == 0 {
         return;

@@ -9,6 +9,7 @@ use super::handling::{
 use crate::equal::is_equal;
 use crate::steps::{asked, platform};
 use negotiation_inputs::Constraints;
+use node_limits::Limits;
 use std::alloc::Global;
 use std::marker::Brand;
 use std::process::Abort;
@@ -17,7 +18,6 @@ use std::sync::{Arc, Wait};
 use std::test::Fail;
 use std::thread::Threads;
 use sysmem_participants::{Allocator, Audit, AuditFault, Stub, Token};
-use sysmem_room::Limits;
 use sysmem_search::{Gate, NoGate};
 use sysmem_tree::Refusal;
 

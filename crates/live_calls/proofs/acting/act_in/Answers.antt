@@ -5,7 +5,7 @@ use Rattle.sysmem_alloc.specs.Book.{entered}
 use Rattle.sysmem_alloc.specs.Entry.{Acted}
 use Rattle.sysmem_alloc.specs.State.{next_ready}
 use Rattle.sysmem_tree.specs.ActionKind.{deed_of}
-use Rattle.sysmem_tree.specs.Tree.{applied}
+use Rattle.node_limits.specs.Limits.{applied_within}
 use Rattle.live_book.specs.declared.object.Object.TheVariants.{Collection}
 use Rattle.live_book.specs.Collection.{CollectionFacts}
 use Rattle.live_calls.specs.Acting.{Acts, accepts, denies, misused}
@@ -21,7 +21,7 @@ returns-in-Ok c =
     (record {
       idle = c.in-Ok.ensures.idle;
       entered = refl;
-      applied = subst (λ (x : CollectionFacts). applied c.in-Collection.collection.book.state.tree c.args.node (deed_of c.args.action) ≡ Ok (record { tree = x.book.state.tree; node = c.in-Ok.accepted.node }))
+      applied = subst (λ (x : CollectionFacts). applied_within c.in-Collection.collection.limits c.in-Collection.collection.book.state.tree c.args.node (deed_of c.args.action) ≡ Ok (record { tree = x.book.state.tree; node = c.in-Ok.accepted.node }))
           c.in-Ok.ensures.entered c.in-Ok.ensures.accepted;
       is_ready = subst (λ (x : CollectionFacts). c.in-Ok.accepted.is_ready ≡ is_some (next_ready x.book.state)) c.in-Ok.ensures.entered c.in-Ok.ensures.ready;
     })

@@ -1,7 +1,8 @@
 -- No action has a place yet.
 use Rattle.std.proofs.Common.{ℕ}
 use Rattle.std.proofs.lemmas.List.{length-replicate}
-use Rattle.sysmem_room.proofs.Placing.{none_placed, none_yet}
+use Rattle.node_limits.proofs.CallerLemmas.{none_yet}
+use Rattle.sysmem_room.proofs.Placing.{none_placed}
 use Rattle.sysmem_room.proofs.places.Places.new.Goals as goal
 
 pub returns : goal.returns

@@ -7,11 +7,11 @@ use Rattle.sysmem_tree.specs.ActionKind.{deed_of, kind_of}
 use Rattle.sysmem_tree.specs.Nodes.{IsTree}
 use Rattle.sysmem_tree.specs.Tree.{applied}
 use Rattle.sysmem_room.specs.Agreeing.{IsOwn}
-use Rattle.sysmem_room.specs.Limits.{is_spent}
+use Rattle.node_limits.specs.Limits.{is_spent}
 use Rattle.sysmem_room.specs.Log.{LogFacts, shown_by}
 use Rattle.sysmem_room.specs.Refusals.{IsUnforeseen, due}
 use Rattle.sysmem_room.proofs.Disputing.{agrees_of, never_due, none_logged, strange_disputes}
-use Rattle.sysmem_room.proofs.Fewer.{few_logged}
+use Rattle.node_limits.proofs.CallerLemmas.{few_logged}
 use Rattle.sysmem_room.proofs.Logs.{open_for}
 use Rattle.sysmem_room.proofs.room.Room.act.Goals as goal
 

@@ -8,10 +8,10 @@ use Rattle.sysmem_alloc.specs.Entry.{Acted}
 use Rattle.sysmem_room.specs.Counting.{actions_in, nodes_by}
 use Rattle.sysmem_tree.specs.Nodes.{IsTree}
 use Rattle.sysmem_tree.specs.Path.{node_at}
-use Rattle.sysmem_room.specs.Limits.{AreCounted, counts_after}
+use Rattle.node_limits.specs.Limits.{AreCounted, counts_after}
 use Rattle.sysmem_room.specs.Places.{ArePlaces}
-use Rattle.sysmem_room.proofs.Counting.{actions_push, grows, roots_grow}
-use Rattle.sysmem_room.proofs.Offspring.{acted_counted, few_tops, room_for}
+use Rattle.node_limits.proofs.CallerLemmas.{grows, acted_counted, few_tops, room_for}
+use Rattle.sysmem_room.proofs.Counting.{actions_push, roots_grow}
 use Rattle.sysmem_room.proofs.Placing.{acted_there, action_stays, as_many}
 use Rattle.sysmem_room.proofs.room.Room.enter.Goals as goal
 

@@ -4,7 +4,7 @@ use Rattle.sysmem_alloc.specs.Book.{BookFacts}
 use Rattle.sysmem_tree.specs.Domain.{TreeFacts}
 use Rattle.sysmem_room.specs.Places.{ArePlaces}
 use Rattle.sysmem_room.proofs.Counting.{decides}
-use Rattle.sysmem_room.proofs.Offspring.{still_counted}
+use Rattle.node_limits.proofs.CallerLemmas.{still_counted}
 use Rattle.sysmem_room.proofs.Placing.{decision_stays}
 use Rattle.sysmem_room.proofs.room.Room.give_up.Goals as goal
 

@@ -4,8 +4,8 @@ use Rattle.std.specs.Prelude.{IfSome, is_some}
 use Rattle.sysmem_alloc.specs.Book.{BookFacts}
 use Rattle.sysmem_tree.specs.Nodes.{IsTree}
 use Rattle.sysmem_tree.specs.Table.{makes}
-use Rattle.sysmem_room.specs.Limits.{is_spent}
-use Rattle.sysmem_room.proofs.Offspring.{few_tops, spent_by_count}
+use Rattle.node_limits.specs.Limits.{is_spent}
+use Rattle.node_limits.proofs.CallerLemmas.{few_tops, spent_by_count}
 use Rattle.sysmem_room.proofs.room.Room.is_spent.Goals as goal
 
 pub below-requires : goal.below-requires

@@ -1,8 +1,8 @@
 -- A root alone has no node below a child.
 use Rattle.std.proofs.Common.{◌≡◌, replicate, rules, subst, sym}
 use Rattle.sysmem_alloc.specs.Book.{BookFacts, new_book}
-use Rattle.sysmem_room.specs.Limits.{AreCounted}
-use Rattle.sysmem_room.proofs.Offspring.{first_counted}
+use Rattle.node_limits.specs.Limits.{AreCounted}
+use Rattle.node_limits.proofs.CallerLemmas.{first_counted}
 use Rattle.sysmem_room.proofs.room.Room.open.Goals as goal
 
 pub invariant_of-room : goal.invariant_of-room

@@ -1,0 +1,4 @@
+pub mod CallerLemmas
+pub mod OneLine
+pub mod Spelled
+pub mod ToldLemmas

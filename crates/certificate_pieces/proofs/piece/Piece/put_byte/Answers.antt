@@ -1,0 +1,6 @@
+use Rattle.std.proofs.Common.{◌∷◌, []}
+use Rattle.certificate_pieces.proofs.ToldLemmas.{told_failed}
+use Rattle.certificate_pieces.proofs.piece.Piece.put_byte.Goals as goal
+
+pub returns-then-self : goal.returns-then-self
+returns-then-self g c = told_failed _ _ _ c.if-self.true (c.args.byte ∷ [])

@@ -1,0 +1,4 @@
+pub mod Telling
+pub mod Texts
+pub mod Keeping
+pub mod KeptText

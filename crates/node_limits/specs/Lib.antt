@@ -1,0 +1,3 @@
+pub mod Laws
+pub mod Limits
+pub mod TreeRefusals

@@ -1,6 +1,0 @@
--- See Bounding.antt.
-use Rattle.sysmem_room.proofs.Bounding.{limit_is_kept as lemma}
-use Rattle.sysmem_room.proofs.laws.limit_is_kept.Goals as goal
-
-pub returns : goal.returns
-returns c = lemma c.one_path.ensures c.legal_is_sound.ensures c.numbers_stay.ensures
