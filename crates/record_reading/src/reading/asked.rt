@@ -8,8 +8,8 @@ ghost use Rattle.record_reading.specs.Reading.Fields.{Reads, read_each, seen_by}
 
 use super::field::{add, expect_object, list_of, stated};
 use super::name::choice_of;
+use super::pair::PAIR_FIELDS;
 use crate::fault::{Code, Fault, FaultPlace};
-use crate::keys::PAIR_FIELDS;
 use negotiation_inputs::{AskedPair, MOST_ENTRIES, asks_misfit, is_asked_already, is_same_asked};
 use serde_json::Value;
 use std::alloc::Global;

@@ -12,12 +12,11 @@ use super::colour_set::colour_set_of;
 use super::field::{add, expect_object, list_of, stated};
 use super::list::{Listed, list_in};
 use crate::fault::{Code, Fault, FaultPlace};
-use crate::keys::ENTRY_FIELDS;
 use negotiation_inputs::AskedPair;
 use serde_json::Value;
 use std::alloc::Global;
 use sysmem_counts::Field;
-use sysmem_image::{ColourSet, Entry, EntryBounds};
+use sysmem_image::{ColourSet, Entry, EntryBounds, bounds_table};
 
 fn entry_with(colours: ColourSet, bounds: EntryBounds, pair: AskedPair) -> Entry
     ensures { result ≡ entry_with colours bounds pair }
@@ -49,6 +48,22 @@ fn add_entries(
     }
     Ok(())
 }
+
+macro_rules! entry_fields {
+    (() $($name:ident: $shape:ident $rule:ident $field:ident $absent:ident $range:ident,)*) => {
+        [
+            Field::PixelFormat,
+            Field::PixelFormatModifier,
+            Field::PixelFormatAndModifiers,
+            Field::ColorSpaces,
+            $(Field::$field,)*
+            Field::RequireBytesPerRowAtPixelBoundary,
+        ]
+    };
+}
+
+/// The fields of an entry.
+pub const ENTRY_FIELDS: [Field; 16] = bounds_table!(entry_fields!());
 
 fn expect_entry(object: &Value) -> Result<(), Fault>
     ensures { seen_by (λ _. view object.now) result ≡ entry_object (view object.now) }

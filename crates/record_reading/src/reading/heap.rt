@@ -8,7 +8,6 @@ ghost use Rattle.record_reading.specs.Reading.Heaps.{heap_type_of, heap_name_of,
 use super::field::{add, expect_object, list_of, number_or, stated, text_of};
 use super::list::{Listed, list_in};
 use crate::fault::{Code, Fault, FaultPlace};
-use crate::keys::HEAP_NAME_FIELDS;
 use negotiation_inputs::{has_permitted, is_heap_type};
 use serde_json::Value;
 use std::alloc::Global;
@@ -37,6 +36,9 @@ pub(super) fn heap_name_of(alloc: Global, object: &Value) -> Result<Heap, Fault>
     let id = number_or(object, Field::Id, 0, u64::MAX)?;
     Ok(Heap { heap_type, id })
 }
+
+/// The fields of a permitted heap.
+pub const HEAP_NAME_FIELDS: [Field; 2] = [Field::HeapType, Field::Id];
 
 fn permitted_heap(alloc: Global, object: &Value) -> Result<Heap, Fault>
     ensures { Reads (λ lack. permitted_heap lack (view object.now)) result }

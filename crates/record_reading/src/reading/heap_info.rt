@@ -11,7 +11,6 @@ use super::heap::heap_name_of;
 use super::list::{Listed, list_in};
 use super::name::name_of;
 use crate::fault::{Code, Fault, FaultPlace};
-use crate::keys::HEAP_FIELDS;
 use negotiation_inputs::{has_domains, has_heap};
 use serde_json::Value;
 use std::alloc::Global;
@@ -66,6 +65,15 @@ fn domains_at(object: &Value) -> Result<CoherencyDomains, Fault>
 {
     domains_of(stated(object, Code::WrongKind, Field::Domains)?)
 }
+
+/// The fields of a platform's heap.
+pub const HEAP_FIELDS: [Field; 5] = [
+    Field::HeapType,
+    Field::Id,
+    Field::Contiguous,
+    Field::Secure,
+    Field::Domains,
+];
 
 fn heap_of(alloc: Global, object: &Value) -> Result<HeapInfo, Fault>
     ensures { Reads (λ lack. heap_of lack (view object.now)) result }

@@ -11,7 +11,6 @@ ghost use Rattle.record_reading.specs.Reading.Fields.{optional, seen_by, Reads};
 use super::field::{expect_object, flag_or, number_or};
 use super::heap::permitted_of;
 use crate::fault::{Fault, FaultPlace};
-use crate::keys::MEMORY_FIELDS;
 use serde_json::Value;
 use std::alloc::Global;
 use sysmem_counts::Field;
@@ -26,6 +25,18 @@ fn permitted_in(alloc: Global, object: &Value) -> Result<Vec<Heap>, Fault>
         Some(value) => permitted_of(alloc, value),
     }
 }
+
+/// The fields of memory constraints.
+pub const MEMORY_FIELDS: [Field; 8] = [
+    Field::MinSizeBytes,
+    Field::MaxSizeBytes,
+    Field::PhysicallyContiguousRequired,
+    Field::SecureRequired,
+    Field::CpuDomainSupported,
+    Field::RamDomainSupported,
+    Field::InaccessibleDomainSupported,
+    Field::PermittedHeaps,
+];
 
 fn memory_of(alloc: Global, object: &Value) -> Result<MemoryConstraints, Fault>
     ensures { Reads (λ lack. memory_of lack (view object.now)) result }

@@ -12,7 +12,6 @@ use super::field::{add, expect_object, list_of, stated};
 use super::list::{Listed, list_in};
 use super::name::name_of;
 use crate::fault::{Code, Fault, FaultPlace};
-use crate::keys::PAIR_FIELDS;
 use negotiation_inputs::{has_pair, is_tiled_misfit, lists_colour};
 use serde_json::Value;
 use std::alloc::Global;
@@ -29,6 +28,9 @@ fn modifier_in(object: &Value) -> Result<Modifier, Fault>
         Some(value) => name_of(value, Field::PixelFormatModifier),
     }
 }
+
+/// The fields of a pair of a format and a modifier.
+pub const PAIR_FIELDS: [Field; 2] = [Field::PixelFormat, Field::PixelFormatModifier];
 
 fn pair_of(object: &Value) -> Result<Pair, Fault>
     ensures { result ≡ pair_of (view object.now) }

@@ -13,13 +13,15 @@ use super::field::{expect_object, stated};
 use super::heap_info::heaps_of;
 use super::pair::{colours_of, pairs_of};
 use crate::fault::{Code, Fault, FaultPlace};
-use crate::keys::PLATFORM_FIELDS;
 use negotiation_inputs::Platform;
 use serde_json::Value;
 use std::alloc::Global;
 use sysmem_counts::Field;
 use sysmem_formats::{ColourSpace, Pair};
 use sysmem_memory::HeapInfo;
+
+/// The fields of a platform.
+pub const PLATFORM_FIELDS: [Field; 3] = [Field::Heaps, Field::Pairs, Field::ColorSpaces];
 
 /// The heaps of a record, which has to have them; so of its pairs and its colour spaces.
 fn heaps_in(alloc: Global, object: &Value) -> Result<Vec<HeapInfo>, Fault>
