@@ -6,7 +6,7 @@ ghost use Rattle.sysmem_tree.specs.ActionKind.{deed_of};
 
 use live_book::Denial;
 use record_reading::Code;
-use sysmem_tree::{Action, ActionKind, Refusal};
+use sysmem_tree::{Action, Refusal};
 
 /// The call did what it is for.
 pub const DONE: u32 = 0;
@@ -57,13 +57,22 @@ pub(crate) fn denial_status(denial: Denial) -> u32
 }
 
 /// The action of a number, 1 to 9; the sixth sets no constraints. `None` of another number.
-#[tactic(auto, using(crate::proofs::OtherNumbers::by_kind))]
+#[tactic(auto, using(crate::proofs::OtherNumbers::other_number))]
 pub fn action_of(number: u32) -> Option<Action>
     ensures { option_map (λ action. deed_of action) result ≡ action_at number }
 {
-    let index = number.checked_sub(1)?;
-    let kind = ActionKind::ALL.get(index as usize)?;
-    Some(Action::plain(*kind))
+    match number {
+        1 => Some(Action::Duplicate),
+        2 => Some(Action::CreateGroup),
+        3 => Some(Action::Bind),
+        4 => Some(Action::CreateChild),
+        5 => Some(Action::AllChildrenPresent),
+        6 => Some(Action::SetConstraints(None)),
+        7 => Some(Action::AttachToken),
+        8 => Some(Action::Release),
+        9 => Some(Action::Close),
+        _ => None,
+    }
 }
 
 /// The number of a fault's code: 1 for S1 and so on.
