@@ -26,6 +26,17 @@ pub record IsSettled (platform : PlatformFacts) (es : List BookEntry) : Type 0 w
   pub eager : IsEager es
   pub idle : next_ready (replay es) ≡ None
 
+-- a tree is that to which a history has led, with what was entered later
+pub record HasLedTo (platform : PlatformFacts) (es : List BookEntry) (t : TreeFacts) : Type 0 where
+  pub later : List BookEntry
+  pub legal : IsLegal platform (es ++ later)
+  pub is : t ≡ (replay (es ++ later)).tree
+
+-- what is true of each copy of a collection
+pub record IsSnapshot (platform : PlatformFacts) (t : TreeFacts) (es : List BookEntry) : Type 0 where
+  pub settled : IsSettled platform es
+  pub led : HasLedTo platform es t
+
 abbrev pub IsDecision : BookEntry → Type 0
 IsDecision (Acted k deed) = ⊥
 IsDecision (Decided c) = Unit {0}

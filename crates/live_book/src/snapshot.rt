@@ -6,7 +6,7 @@ ghost use Rattle.sysmem_tree.specs.Node.{NodeFacts};
 ghost use Rattle.sysmem_alloc.specs.Entry.{entry_in};
 ghost use Rattle.sysmem_alloc.specs.State.{next_ready};
 ghost use Rattle.live_book.specs.Eager.{IsEager};
-ghost use Rattle.live_book.specs.Snapshot.{IsCopyOf, IsKeptAction, IsKeptDecision, IsOneCall, IsSettled, IsSettledPart};
+ghost use Rattle.live_book.specs.Snapshot.{HasLedTo, IsCopyOf, IsKeptAction, IsKeptDecision, IsOneCall, IsSettled, IsSettledPart};
 
 use crate::acting::is_waited_for;
 use crate::collection::Collection;
@@ -43,7 +43,7 @@ impl Drop for Snapshot {
 impl Model for Snapshot {
     ghost use Rattle.std.specs.Prelude.{map};
     ghost use Rattle.sysmem_alloc.specs.Entry.{entry_in};
-    ghost use Rattle.live_book.specs.Snapshot.{IsSettled, SnapshotFacts};
+    ghost use Rattle.live_book.specs.Snapshot.{IsSnapshot, SnapshotFacts};
 
     ghost Value = { SnapshotFacts };
 
@@ -54,7 +54,8 @@ impl Model for Snapshot {
       names = s.names;
     } };
 
-    ghost invariant = { λ s. IsSettled s.platform (map (entry_in s.tree.nodes) s.history.items) };
+    ghost invariant = { λ s. IsSnapshot s.platform s.tree
+        (map (entry_in s.tree.nodes) s.history.items) };
 }
 
 /// One more owner of a claim, if there is one.
@@ -176,10 +177,11 @@ impl Snapshot {
         &self.tree
     }
 
-    /// Recalls, for a proof, that no domain waits behind the history, as behind each. It does
-    /// nothing.
+    /// Recalls, for a proof, that no domain waits behind the history, as behind each, and that the
+    /// tree is what it has led to. It does nothing.
     pub fn recall_settled(&self)
-        ensures { IsSettled self.now.platform self.now.history }
+        ensures settled { IsSettled self.now.platform self.now.history }
+        ensures led { HasLedTo self.now.platform self.now.history self.now.tree }
     {
         let _ = &self.history;
     }

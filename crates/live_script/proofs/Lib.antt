@@ -1,8 +1,12 @@
+pub mod Called
+pub mod Entries
+pub mod Growing
 pub mod Homes
 pub mod Named
-pub mod ReadingBack
 pub mod Recurring
 pub mod Refusing
 pub mod Telling
 pub mod Texts
+pub mod There
+pub mod Told
 pub mod Unmet

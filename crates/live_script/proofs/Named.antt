@@ -1,5 +1,5 @@
 -- The names of a script's nodes, in the order in which they are made: the k-th stands for node k.
-use Rattle.std.proofs.Common.{◌≡◌, ◌<◌, ℕ, zero, suc, ◌+◌, List, [], ◌∷◌, ◌++◌, length, length-append, append-nil, Bool, Option, Some, None, Result, Ok, Err, slice_get, slice_set, refl, sym, ◌∙◌, ap, subst, arith, inl, inr}
+use Rattle.std.proofs.Common.{◌≡◌, ◌<◌, ℕ, zero, suc, ◌+◌, List, [], ◌∷◌, ◌++◌, length, length-append, append-nil, Option, Some, None, Result, Ok, Err, slice_get, slice_set, refl, sym, ◌∙◌, ap, subst, arith, inl, inr}
 use Rattle.std.specs.Prelude.{IsOk, is_some, unwrap_or, if◌then◌else◌}
 use Rattle.std.proofs.lemmas.Bool.{cases_lt}
 use Rattle.std.proofs.lemmas.Option.{slice_get_within}
@@ -12,7 +12,7 @@ use Rattle.sysmem_alloc.specs.Decision.{DomainVerdict, choices_of}
 use Rattle.sysmem_alloc.specs.Entry.{Acted}
 use Rattle.sysmem_alloc.specs.History.{after_answer}
 use Rattle.negotiation_inputs.specs.Platform.{PlatformFacts}
-use Rattle.sysmem_tree.proofs.CallerLemmas.{accepted, IsAccepted}
+use Rattle.sysmem_tree.proofs.CallerLemmas.{accepted}
 use Rattle.sysmem_tree.specs.ActionKind.{Deed, kind_of}
 use Rattle.sysmem_tree.specs.Domain.{TreeFacts}
 use Rattle.sysmem_tree.specs.Node.{NodeFacts}
@@ -34,12 +34,12 @@ first_named platform = record { many = refl; each = by } where
   by zero less = refl
   by (suc k) less = absurd (omega (arith, less))
 
-get_first : {A : Type 0} (xs ys : List A) (k : ℕ) → k < length xs → slice_get (xs ++ ys) k ≡ slice_get xs k
+pub get_first : {A : Type 0} (xs ys : List A) (k : ℕ) → k < length xs → slice_get (xs ++ ys) k ≡ slice_get xs k
 get_first [] ys k less = absurd (omega (arith, less))
 get_first (x ∷ xs) ys zero less = refl
 get_first (x ∷ xs) ys (suc k) less = get_first xs ys k (omega (arith, less))
 
-get_last : {A : Type 0} (xs : List A) (y : A) (k : ℕ) → k ≡ length xs → slice_get (xs ++ y ∷ []) k ≡ Some y
+pub get_last : {A : Type 0} (xs : List A) (y : A) (k : ℕ) → k ≡ length xs → slice_get (xs ++ y ∷ []) k ≡ Some y
 get_last [] y zero is = refl
 get_last [] y (suc k) is = absurd (omega (arith, is))
 get_last (x ∷ xs) y zero is = absurd (omega (arith, is))
@@ -72,7 +72,7 @@ given_as _ _ made (to_attach_token name) = refl
 given_as _ _ made to_release = refl
 given_as _ _ made to_close = refl
 
-set_long : (xs : List NodeFacts) (k : ℕ) (n : NodeFacts) → length (slice_set xs k n) ≡ length xs
+pub set_long : (xs : List NodeFacts) (k : ℕ) (n : NodeFacts) → length (slice_set xs k n) ≡ length xs
 set_long [] k n = refl
 set_long (x ∷ xs) zero n = refl
 set_long (x ∷ xs) (suc k) n = ap suc (set_long xs k n)
@@ -115,7 +115,7 @@ left_long : (ms : List ℕ) (r i : ℕ) (xs : List NodeFacts) → length (left_o
 left_long ms r i [] = refl
 left_long ms r i (x ∷ xs) = ap suc (left_long ms r (i + 1) xs)
 
-decided_long : (t : TreeFacts) (r : ℕ) (choices : Option (List ℕ)) → length (decided t r choices).nodes ≡ length t.nodes
+pub decided_long : (t : TreeFacts) (r : ℕ) (choices : Option (List ℕ)) → length (decided t r choices).nodes ≡ length t.nodes
 decided_long t r None = refl
 decided_long t r (Some cs) = left_long (members_of t.nodes r cs) r 0 t.nodes
 

@@ -11,7 +11,7 @@ use Rattle.std.proofs.lemmas.List.{length-map, take_more}
 use Rattle.std.proofs.lemmas.Option.{same_Some}
 use Rattle.sysmem_tree.specs.Node.{NodeFacts}
 use Rattle.live_script.specs.Refusing.{asking_in, asks_in}
-use Rattle.live_script.proofs.ReadingBack.{mapped_more}
+use Rattle.live_script.proofs.Entries.{mapped_more}
 
 -- one more entry isn't of the kind
 pub none_more : {A B : Type 0} (p : B → Bool) (f : A → B) (xs : List A) (k : ℕ) (x : A) → slice_get xs k ≡ Some x → p (f x) ≡ false → list_any p (map f (take k xs)) ≡ false

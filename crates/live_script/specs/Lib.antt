@@ -1,3 +1,4 @@
+pub mod Calls
 pub mod Laws
 pub mod Recurring
 pub mod Refusing

@@ -6,7 +6,6 @@ use Rattle.certificate_text.specs.Told.{decision_data}
 use Rattle.live_book.specs.Snapshot.{SnapshotFacts}
 use Rattle.live_book.specs.declared.object.Object.{Object}
 use Rattle.live_book.specs.declared.object.Object.TheVariants.{Snapshot}
-use Rattle.live_script.specs.Script.{IsScriptOf}
 use Rattle.serde_json.specs.Data.{Data}
 use Rattle.sysmem_alloc.specs.Entry.{BookEntry, Acted, Decided}
 use Rattle.negotiation_inputs.specs.Platform.{PlatformFacts}
@@ -28,16 +27,20 @@ IsCertificateOf s text =
 abbrev pub IsNoSnapshot : Option Object → Type 0
 IsNoSnapshot object = (s : SnapshotFacts) → object ≢ Some (Snapshot s)
 
+-- each copy of a collection has a certificate
+abbrev pub HasNone : SnapshotFacts → Type 0
+HasNone s = ⊥
+
 -- a text of the copy of a collection that lies behind a handle is handed out, or has no room; or
--- there is none (3), or memory is refused (4), or there is no such copy (2), and then the buffer is
--- as it was
-pub data Writes (IsOf : SnapshotFacts → List ℕ → Type 0) (behind : Option Object)
-    (before after : List ℕ) (old_size size : ℕ) : ℕ → Type 0 where
+-- this copy has none (3), or memory is refused (4), or there is no such copy (2), and then the
+-- buffer is as it was
+pub data Writes (IsOf : SnapshotFacts → List ℕ → Type 0) (LacksOne : SnapshotFacts → Type 0)
+    (behind : Option Object) (before after : List ℕ) (old_size size : ℕ) : ℕ → Type 0 where
   writes : (s : SnapshotFacts) (text : List ℕ) (r : ℕ) → behind ≡ Some (Snapshot s) → IsOf s text
-      → Fits text before after size r → Writes IsOf behind before after old_size size r
-  writes_none : (s : SnapshotFacts) → behind ≡ Some (Snapshot s) → size ≡ 0 → after ≡ before
-      → Writes IsOf behind before after old_size size 3
+      → Fits text before after size r → Writes IsOf LacksOne behind before after old_size size r
+  writes_none : (s : SnapshotFacts) → behind ≡ Some (Snapshot s) → LacksOne s → size ≡ 0
+      → after ≡ before → Writes IsOf LacksOne behind before after old_size size 3
   write_starves : (s : SnapshotFacts) → behind ≡ Some (Snapshot s) → size ≡ 0 → after ≡ before
-      → Writes IsOf behind before after old_size size 4
+      → Writes IsOf LacksOne behind before after old_size size 4
   write_misused : IsNoSnapshot behind → size ≡ old_size → after ≡ before
-      → Writes IsOf behind before after old_size size 2
+      → Writes IsOf LacksOne behind before after old_size size 2

@@ -1,37 +1,20 @@
 //! The certificate of a collection's decisions.
 
-ghost use Rattle.std.specs.Prelude.{◌≡◌, ◌++◌, IfOk, IfSome, List, OnOk, option_map};
+ghost use Rattle.std.specs.Prelude.{◌≡◌, ◌++◌, IfOk, List, OnOk, option_map};
 ghost use Rattle.std.specs.Arc.{arc_value};
 ghost use Rattle.certificate_text.specs.Certificate.{HasTaken};
+ghost use Rattle.live_script.specs.Calls.{HasItsDomain};
 ghost use Rattle.live_script.specs.Texts.{IsCertificateOf, certified_of};
 ghost use Rattle.serde_json.specs.Data.{Data};
 ghost use Rattle.sysmem_alloc.specs.Entry.{entry_in};
-ghost use Rattle.sysmem_tree.specs.Domain.{HasDomain};
 
-use crate::script::Unwritten;
 use book_events::Entry;
 use certificate_text::CertificateWriter;
 use live_book::Snapshot;
-use std::alloc::Global;
+use std::alloc::{AllocError, Global};
 use std::sync::Arc;
-use sysmem_tree::{DomainId, Tree};
+use sysmem_alloc::laws::{legal_is_sound, numbers_stay};
 use verdict_claims::Claim;
-
-/// A domain, where it is one of the tree's.
-fn domain_in(tree: &Tree, domain: DomainId) -> Option<DomainId>
-    ensures same { IfSome result (λ there. there ≡ domain) }
-    ensures there { IfSome result (HasDomain tree.now.nodes) }
-{
-    for index in 0..tree.domain_count() {
-        let Some(there) = tree.domain_at(index) else {
-            return None;
-        };
-        if there == domain {
-            return Some(there);
-        }
-    }
-    None
-}
 
 fn claim_in(claim: &Option<Arc<Claim>>) -> Option<&Claim>
     ensures { option_map (λ one. one.now) result
@@ -48,7 +31,9 @@ fn put_entry(
     writer: &mut CertificateWriter,
     snapshot: &Snapshot,
     entry: &Entry,
-) -> Result<(), Unwritten>
+) -> Result<(), AllocError>
+    requires { HasItsDomain snapshot.now.tree.nodes
+        (entry_in snapshot.now.tree.nodes entry.now) }
     ensures { (decisions : List Data) → HasTaken writer.old decisions → OnOk result
         (HasTaken writer.new (decisions ++ certified_of snapshot.now.platform
         snapshot.now.tree.nodes (entry_in snapshot.now.tree.nodes entry.now))) }
@@ -57,22 +42,21 @@ fn put_entry(
         return Ok(());
     };
     let tree = snapshot.tree();
-    let Some(there) = domain_in(tree, *domain) else {
-        return Err(Unwritten::Differs);
-    };
-    let path = tree.path_of(tree.root_of(there))?;
-    writer.put(snapshot.platform(), &path, claim_in(claim))?;
-    Ok(())
+    let path = tree.path_of(tree.root_of(*domain))?;
+    writer.put(snapshot.platform(), &path, claim_in(claim))
 }
 
 /// The certificate of a collection's decisions.
-pub fn certificate_of(alloc: Global, snapshot: &Snapshot) -> Result<Vec<u8>, Unwritten>
+pub fn certificate_of(alloc: Global, snapshot: &Snapshot) -> Result<Vec<u8>, AllocError>
     ensures { IfOk result (λ text. IsCertificateOf snapshot.now text.items) }
 {
+    legal_is_sound();
+    numbers_stay();
+    snapshot.recall_settled();
     let mut writer = CertificateWriter::new(alloc)?;
     let history = snapshot.history();
     for entry in history {
         put_entry(&mut writer, snapshot, entry)?;
     }
-    Ok(writer.finish()?)
+    writer.finish()
 }

@@ -4,7 +4,6 @@
 mod calls;
 mod certificate;
 pub mod laws;
-mod reading_back;
 mod refusal;
 mod script;
 

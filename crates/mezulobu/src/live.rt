@@ -16,8 +16,8 @@ ghost use Rattle.live_calls.specs.Numbers.{action_at};
 ghost use Rattle.live_calls.specs.Opening.{Copies, Opens};
 ghost use Rattle.live_calls.specs.Reading.{ReadsConstraints, ReadsPlatform};
 ghost use Rattle.live_script.specs.Refusing.{TellsRefusal};
-ghost use Rattle.live_script.specs.Script.{IsScriptOf};
-ghost use Rattle.live_script.specs.Texts.{IsCertificateOf, Writes};
+ghost use Rattle.live_script.specs.Script.{IsScriptOf, IsTooLong};
+ghost use Rattle.live_script.specs.Texts.{HasNone, IsCertificateOf, Writes};
 ghost use Rattle.sysmem_tree.specs.ActionKind.{sets};
 
 use flat_negotiation::{FlatParticipant, FlatPlatform, FlatRefusal, FlatSettings};
@@ -277,7 +277,8 @@ pub extern "C" fn mezulobu_rt_live_script(
     text: &mut [u8],
     size: &mut usize,
 ) -> u32
-    ensures writes { Writes IsScriptOf held.old.value text.old text.new size.old size.new result }
+    ensures writes { Writes IsScriptOf IsTooLong held.old.value text.old text.new
+        size.old size.new result }
     ensures unchanged { held.new.value ≡ held.old.value }
 {
     script_on(alloc, held, text, size)
@@ -291,7 +292,7 @@ pub extern "C" fn mezulobu_rt_live_certificate(
     text: &mut [u8],
     size: &mut usize,
 ) -> u32
-    ensures writes { Writes IsCertificateOf held.old.value text.old text.new
+    ensures writes { Writes IsCertificateOf HasNone held.old.value text.old text.new
         size.old size.new result }
     ensures unchanged { held.new.value ≡ held.old.value }
 {

@@ -3,7 +3,7 @@
 ghost use Rattle.std.specs.Prelude.{◌≡◌, ◌≤◌, ◌==◌, ◌++◌, [], filter, length, not, option_map, true, false, IfErr, IfOk, OnErr, OnOk};
 ghost use Rattle.std.specs.String.{string_bytes};
 ghost use Rattle.std.specs.Vec.{vec_capacity, vec_len};
-ghost use Rattle.node_names.specs.Names.{given_name, is_taken, name_of, with_name};
+ghost use Rattle.node_names.specs.Names.{AreNames, given_name, is_taken, name_of, with_name};
 ghost use Rattle.node_names.specs.Refused.{IsRefused};
 
 use crate::name::{is_name, put_own};
@@ -136,6 +136,13 @@ impl Names {
         }
         put_name(alloc, &mut self.nodes, node, name)?;
         Ok(())
+    }
+
+    /// Recalls, for a proof, that each is a name, and no two nodes have the same. It does nothing.
+    pub fn recall_names(&self)
+        ensures { AreNames self.now }
+    {
+        let _ = &self.nodes;
     }
 
     /// How many nodes have a name.

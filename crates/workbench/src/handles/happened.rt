@@ -45,7 +45,7 @@ pub(crate) fn script_after<R: Threads + Wait + Sync>(
     match script_of(alloc, &snapshot) {
         Ok(text) => Ok(text),
         Err(Unwritten::NoMemory) => Err(Failure::NoMemory),
-        Err(Unwritten::Differs) => Err(Failure::NoScript),
+        Err(Unwritten::TooLong) => Err(Failure::NoScript),
     }
 }
 

@@ -1,8 +1,8 @@
 -- The certificate of a copy is handed out, or there is none.
 use Rattle.std.proofs.Common.{Some, ap, refl, subst}
 use Rattle.caller_buffers.specs.Filled.{Fits}
-use Rattle.live_script.specs.Texts.{IsCertificateOf}
-use Rattle.live_script.specs.Texts.{writes, write_misused}
+use Rattle.live_script.specs.Texts.{HasNone, IsCertificateOf, writes, write_misused}
+use Rattle.live_script.specs.declared.script.Unwritten.TheVariants.{NoMemory}
 use Rattle.live_script.proofs.Texts.{not_written}
 use Rattle.live_script.proofs.calls.certificate_in.Goals as goal
 
@@ -15,6 +15,5 @@ returns-in-Ok c =
     (subst (λ t. Fits t c.args.text.now c.fit.new.text c.fit.new.size c.fit.result) c.deref.ensures.value c.fit.ensures)
 
 pub returns-in-Err : goal.returns-in-Err
-returns-in-Err c =
-    not_written IsCertificateOf (Some c.args.object.now) c.args.text.now c.args.size.now c.unwritten.new.size c.in-Snapshot.copy c.in-Err.why c.unwritten.result (ap Some c.in-Snapshot.is)
+returns-in-Err c = not_written IsCertificateOf HasNone (Some c.args.object.now) c.args.text.now c.args.size.now c.unwritten.new.size c.in-Snapshot.copy NoMemory c.unwritten.result (ap Some c.in-Snapshot.is) (λ e. cc e)
     c.unwritten.ensures.none c.unwritten.ensures.starves c.unwritten.ensures.size

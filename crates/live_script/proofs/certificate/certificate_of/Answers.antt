@@ -6,7 +6,8 @@ use Rattle.std.proofs.lemmas.List.{take_all}
 use Rattle.std.proofs.lemmas.Option.{slice_get-get_or}
 use Rattle.certificate_text.specs.Certificate.{HasTaken, certificate_text}
 use Rattle.live_script.specs.Texts.{certified_of}
-use Rattle.live_script.proofs.ReadingBack.{mapped_more}
+use Rattle.live_script.proofs.Entries.{entry_at, mapped_more}
+use Rattle.live_script.proofs.Growing.{if_ok, its_domain}
 use Rattle.serde_json.specs.Data.{Data}
 use Rattle.sysmem_alloc.specs.Entry.{BookEntry, entry_in}
 use Rattle.live_script.proofs.certificate.certificate_of.Goals as goal
@@ -26,11 +27,20 @@ loop-entry-preserved c =
     let before : HasTaken c.loop-entry.writer (flat_map g (map f (take c.loop-entry.entry-index raw))) = record { tokens = c.loop-entry.invariant.tokens; before = c.loop-entry.invariant.before } in
     subst (HasTaken c.put_entry.new.writer) (sym more) (c.in_ok-put_entry.ensures (flat_map g (map f (take c.loop-entry.entry-index raw))) before)
 
+pub put_entry-requires : goal.put_entry-requires
+put_entry-requires c =
+    let raw = c.history-history.result.now in
+    let f = entry_in c.args.snapshot.now.tree.nodes in
+    its_domain c.legal_is_sound.ensures c.numbers_stay.ensures c.args.snapshot.now.platform c.args.snapshot.now.history c.args.snapshot.now.tree c.loop-entry.entry-index (f c.entry-item.result) c.recall_settled.ensures.led
+    (entry_at f raw c.args.snapshot.now.history c.loop-entry.entry-index c.entry-item.result c.loop-entry-test.true c.entry-item.is c.history-history.ensures)
+
 pub returns : goal.returns
 returns c =
     let raw = c.history-history.result.now in
     let f = entry_in c.args.snapshot.now.tree.nodes in
     let g = certified_of c.args.snapshot.now.platform c.args.snapshot.now.tree.nodes in
-    let before : HasTaken c.loop-entry.writer (flat_map g (map f (take c.loop-entry.entry-index raw))) = record { tokens = c.loop-entry.invariant.tokens; before = c.loop-entry.invariant.before } in
-    c.in_ok-finish.ensures (flat_map g (map f (take c.loop-entry.entry-index raw))) before
-    ∙ ap (λ es. certificate_text (flat_map g es)) (ap (map f) (take_all c.loop-entry.entry-index raw c.loop-entry-test.false) ∙ c.history-history.ensures)
+    let es = map f (take c.loop-entry.entry-index raw) in
+    let before : HasTaken c.loop-entry.writer (flat_map g es) = record { tokens = c.loop-entry.invariant.tokens; before = c.loop-entry.invariant.before } in
+    let whole : certificate_text (flat_map g es) ≡ certificate_text (flat_map g c.args.snapshot.now.history) =
+    ap (λ xs. certificate_text (flat_map g xs)) (ap (map f) (take_all c.loop-entry.entry-index raw c.loop-entry-test.false) ∙ c.history-history.ensures) in
+    if_ok c.finish.result (λ text e. e ∙ whole) (c.finish.ensures (flat_map g es) before)

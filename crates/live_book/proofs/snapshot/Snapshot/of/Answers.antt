@@ -5,7 +5,7 @@ use Rattle.live_book.proofs.snapshot.Snapshot.of.Goals as goal
 
 pub invariant_of-copy : goal.invariant_of-copy
 invariant_of-copy c =
-    settled_copy c.book-book.result.now c.in_ok-copy.field-0 c.in_ok-copy-2.field-0 c.in_ok-history.history.items (c.in_ok-copy.ensures ∙ c.platform.ensures.platform) (c.in_ok-copy-2.ensures ∙ c.tree.ensures) c.in_ok-history.ensures
+    settled_copy c.book-book.result.now c.in_ok-copy.field-0 c.in_ok-copy-2.field-0 c.in_ok-history.history.items c.platform.ensures.book (c.in_ok-copy.ensures ∙ c.platform.ensures.platform) (c.in_ok-copy-2.ensures ∙ c.tree.ensures) c.in_ok-history.ensures
 
 pub returns : goal.returns
 returns c =

@@ -1,0 +1,8 @@
+pub mod CallerLemmas
+pub mod Growing
+pub mod Names
+pub mod Plain
+pub mod Reading
+pub mod Spaced
+pub mod Spelled
+pub mod Texts
