@@ -1,4 +1,4 @@
-pub mod Kinds
+pub mod KindList
 pub mod LeavingOut
 pub mod Leading
 pub mod Acting
