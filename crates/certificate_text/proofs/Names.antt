@@ -1,21 +1,25 @@
 -- The field that a name names.
-use Rattle.std.proofs.Common.{◌≡◌, ℕ, true, List, Option, Some, refl, sym, ap, ◌∙◌, ◌↔◌, bytes_eq}
+use Rattle.std.proofs.Common.{rules, ◌≡◌, ℕ, true, List, Option, Some, refl, sym, ap, ◌∙◌, ◌↔◌, bytes_eq}
 use Rattle.std.proofs.lemmas.Slice.Eq.{bytes_eq-Decides}
 use Rattle.serde_json.specs.Data.{Data}
 use Rattle.serde_json.specs.Find.{as_str}
 use Rattle.sysmem_counts.specs.declared.field.Field.{Field}
 use Rattle.sysmem_counts.specs.declared.field.TheConstants.Field.{ALL as all_fields}
-use Rattle.sysmem_counts.proofs.Fields.{listed_fields}
 use Rattle.list_lemmas.proofs.Each.{found_own}
+use Rattle.list_lemmas.specs.Each.{ListsEach}
 use Rattle.sysmem_counts.specs.Field.{field_name}
 use Rattle.record_reading.specs.Reading.Names.{find_named}
 use Rattle.sysmem_sanitise.proofs.CallerLemmas.{named_by}
 use Rattle.certificate_text.specs.Fields.{field_named}
 use Rattle.certificate_text.specs.Reading.{◌>>=◌, at_key, named_at}
 
+-- each is listed once
+listed_fields : ListsEach field_name all_fields
+listed_fields f = search rules
+
 -- each is found by its own name
 own_field : (f : Field) → find_named field_name all_fields (field_name f) ≡ Some f
-own_field = found_own field_name all_fields listed_fields
+own_field f = found_own field_name all_fields listed_fields f
 
 pub own_name : (f : Field) → field_named (field_name f) ≡ Some f
 unfolding field_named
