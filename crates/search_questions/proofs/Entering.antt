@@ -1,5 +1,5 @@
 -- What a search keeps where it stands, from one choice to the next.
-use Rattle.std.proofs.Common.{◌≡◌, ◌≢◌, ◌<◌, ◌≤◌, ◌+◌, ℕ, zero, suc, List, [], ◌∷◌, ◌++◌, Option, Some, None, length, take, slice_get, slice_set, get_or, is_some, Bool, true, refl, sym, ◌∙◌, ap, subst, arith, inl, inr, length-append}
+use Rattle.std.proofs.Common.{◌≡◌, ◌≢◌, ◌<◌, ◌≤◌, ◌+◌, ℕ, zero, suc, List, [], ◌∷◌, ◌++◌, Option, Some, None, length, take, slice_get, slice_set, get_or, is_some, Bool, true, false, refl, sym, ◌∙◌, ap, subst, arith, inl, inr, length-append}
 use Rattle.std.specs.Prelude.{IfSome, IsSomeAnd, IsPermutation, option_map}
 use Rattle.std.proofs.lemmas.Bool.{cases_eq}
 use Rattle.std.proofs.lemmas.List.{take_all, length-set}
@@ -15,10 +15,11 @@ use Rattle.search_questions.specs.declared.levels.Level.{Level}
 use Rattle.search_questions.specs.Kept.{IsKeptFor, IsPartFor, HaveRoom}
 use Rattle.verdict_claims.specs.Matter.{Matter, forest}
 use Rattle.verdict_claims.specs.Asked.{asks_at, asked_in}
-use Rattle.search_questions.specs.Standing.{IsLevel, AreLevels, AreMade, AreParts, IsSlot, StandsAt, numbers}
+use Rattle.search_questions.specs.Standing.{IsLevel, AreLevels, AreMade, AreParts, AreStacked, IsSlot, StandsAt, asked_of, numbers, settled_by}
 use Rattle.search_questions.proofs.Keeping.{kept_in_order, have_room}
 use Rattle.search_questions.proofs.AskedMembers.{root_there, numbers_left, same_asked, some_of, if_some}
 use Rattle.search_questions.proofs.Shapes.{few_settled}
+use Rattle.search_questions.proofs.Stacking.{AreStillKept, IsNext, some_weaker, stacked_above, stacked_below, stacked_of, stacked_still}
 use Rattle.search_questions.proofs.Taking.{few_asked_of}
 use Rattle.search_questions.proofs.Walking.{few_accepted}
 use Rattle.sysmem_tree.specs.declared.layout.Layout.{Layout}
@@ -76,13 +77,14 @@ module _ (m : Matter) (layout : Layout) where
 
   -- with more parts, and with more levels
   pub more_kept : (parts parts' : List (Option Part)) (levels levels' : List Level) (items cs : List ℕ) → items ≡ cs → StandsAt m layout parts levels cs
-      → AreParts m layout parts' → ((k : ℕ) → k ≤ length items → slice_get levels' k ≡ slice_get levels k) → AreMade m levels' → StandsAt m layout parts' levels' cs
-  more_kept parts parts' levels levels' items cs at keeps are same made = record {
+      → AreParts m layout parts' → AreStillKept parts parts' → ((k : ℕ) → k ≤ length items → slice_get levels' k ≡ slice_get levels k) → AreMade m levels' → StandsAt m layout parts' levels' cs
+  more_kept parts parts' levels levels' items cs at keeps are still same made = record {
     given = keeps.given;
     laid = keeps.laid;
     shares = are;
     made = made;
     fronts = λ k within. subst (λ o. IsSomeAnd o (IsLevel m layout (take k cs))) (sym (same k (subst (λ xs. k ≤ length xs) (sym at) within))) (keeps.fronts k within);
+    stacked = stacked_still m parts parts' still (settled_by m cs) (length cs) levels levels' (λ k within. same k (subst (λ xs. k ≤ length xs) (sym at) within)) keeps.stacked;
   }
 
   -- without the last choice
@@ -94,20 +96,27 @@ module _ (m : Matter) (layout : Layout) where
     made = keeps.made;
     fronts = λ k within. subst (λ xs. IsSomeAnd (slice_get levels k) (IsLevel m layout xs)) (ap (take k) is ∙ front_of cs c k within)
         (keeps.fronts k (subst (λ xs. k ≤ length xs) (sym is) (omega (arith, within, length-append cs (c ∷ [])))));
+    stacked = stacked_of m parts levels (settled_by m longer) (settled_by m cs) (length cs) (λ k within. ap (λ xs. asked_of (after (forest m) xs)) (ap (take k) is ∙ front_of cs c k within))
+        (stacked_above m parts levels (settled_by m longer) (length longer) (length cs) (subst (λ xs. length cs ≤ length xs) (sym is) (omega (arith, length-append cs (c ∷ [])))) keeps.stacked);
   }
 
   -- with one choice more, below whose level nothing changed
   pub entered_keeps : (parts parts' : List (Option Part)) (levels between levels' : List Level) (cs longer : List ℕ) (c : ℕ) → longer ≡ cs ++ c ∷ [] → StandsAt m layout parts levels cs
-      → AreParts m layout parts' → ((k : ℕ) → k ≤ length cs → slice_get between k ≡ slice_get levels k)
+      → AreParts m layout parts' → AreStillKept parts parts' → ((k : ℕ) → k ≤ length cs → slice_get between k ≡ slice_get levels k)
       → AreMade m between → ((k : ℕ) → k ≢ length cs + 1 → slice_get levels' k ≡ slice_get between k)
-      → IsSomeAnd (slice_get levels' (length cs + 1)) (IsLevel m layout longer) → StandsAt m layout parts' levels' longer
-  entered_keeps parts parts' levels between levels' cs longer c is keeps are kept between_made same last = record {
+      → IsSomeAnd (slice_get levels' (length cs + 1)) (λ level. IsLevel m layout longer level × IsNext m parts' (settled_by m cs (length cs)) (settled_by m longer (length cs + 1)) level)
+      → StandsAt m layout parts' levels' longer
+  entered_keeps parts parts' levels between levels' cs longer c is keeps are still kept between_made same both = record {
     given = keeps.given;
     laid = keeps.laid;
     shares = are;
     made = made;
     fronts = each;
+    stacked = subst (λ n. AreStacked m parts' (settled_by m longer) n levels') (sym long_is) deeper;
   } where
+    last : IsSomeAnd (slice_get levels' (length cs + 1)) (IsLevel m layout longer)
+    last = some_weaker _ (IsLevel m layout longer) (slice_get levels' (length cs + 1)) (λ level h. h.0) both
+
     made : AreMade m levels'
     made k level at = elim (cases_eq k (length cs + 1)) [
       | inl here ↦
@@ -131,6 +140,16 @@ module _ (m : Matter) (layout : Layout) where
           (subst (λ xs. IsSomeAnd (slice_get levels k) (IsLevel m layout xs)) (sym (ap (take k) is ∙ front_of cs c k less)) (keeps.fronts k less))
     ]
 
+    fronts_same : (k : ℕ) → k ≤ length cs → settled_by m cs k ≡ settled_by m longer k
+    fronts_same k within = ap (λ xs. asked_of (after (forest m) xs)) (sym (ap (take k) is ∙ front_of cs c k within))
+
+    deeper : AreStacked m parts' (settled_by m longer) (length cs + 1) levels'
+    deeper = stacked_below m parts' levels' (settled_by m longer) (length cs)
+        (stacked_of m parts' levels' (settled_by m cs) (settled_by m longer) (length cs) fronts_same
+        (stacked_still m parts parts' still (settled_by m cs) (length cs) levels levels' (λ k within. same k (λ e. omega (arith, e, within)) ∙ kept k within) keeps.stacked))
+        (subst (λ ps. IsSomeAnd (slice_get levels' (length cs + 1)) (IsNext m parts' ps (settled_by m longer (length cs + 1)))) (fronts_same (length cs) (omega arith))
+        (some_weaker _ _ (slice_get levels' (length cs + 1)) (λ level h. h.1) both))
+
   module _ (cs : List ℕ) (c at : ℕ) (above : Level) (is : IsLevel m layout cs above) (law : ChoiceSettlesShare) (child : IsChildPlace layout (numbers m) cs c at)
       (numbers_left : (e : Forest ℕ) × (after (numbers m) cs ≡ Some e)) where
     -- what one choice more settles asks what was asked before, and what its share asks
@@ -146,58 +165,73 @@ module _ (m : Matter) (layout : Layout) where
         (subst (IsPermutation (asked_in m.nodes (settled e ++ share_of layout at))) (same_asked m.nodes m.domain (cs ++ c ∷ []) s.left d s.leads leads) order)
 
     -- so the level of one choice more is joined
-    pub joined_level : SumsInAnyOrder → (longer : List ℕ) (level : Level) (next : Option ℕ) → longer ≡ cs ++ c ∷ [] → IsPrefix (forest m) (cs ++ c ∷ [])
-        → (level.group ≡ next) × IsKeptFor m level.kept (participants (settled is.left) ++ asked_in m.nodes (share_of layout at))
-        → IsFirstOpen layout (numbers m) (cs ++ c ∷ []) next → IsLevel m layout longer level
-    joined_level sums longer level next long prefix made open' =
+    pub joined_level : SumsInAnyOrder → (longer : List ℕ) (level : Level) (parts : List (Option Part)) (part : Part) (slot : ℕ) (next : Option ℕ) → longer ≡ cs ++ c ∷ [] → IsPrefix (forest m) (cs ++ c ∷ [])
+        → slice_get parts slot ≡ Some (Some part) → IsPartFor m part (asked_in m.nodes (share_of layout at))
+        → (level.group ≡ next) × (level.slot ≡ slot) × IsKeptFor m level.kept (participants (settled is.left) ++ asked_in m.nodes (share_of layout at))
+        → IsFirstOpen layout (numbers m) (cs ++ c ∷ []) next
+        → IsLevel m layout longer level × IsNext m parts (settled_by m cs (length cs)) (settled_by m longer (length cs + 1)) level
+    joined_level sums longer level parts part slot next long prefix here asks made open' =
         let (d, leads) = some_of (after (forest m) (cs ++ c ∷ [])) prefix in
-        subst (λ xs. IsLevel m layout xs level) (sym long) (record {
-          left = d;
-          leads = leads;
-          kept = kept_in_order sums m.platform m.nodes m.base level.kept _ _ (settles_more d leads) made.1;
-          group = subst (IsFirstOpen layout (numbers m) (cs ++ c ∷ [])) (sym made.0) open';
-        })
+        let kept = kept_in_order sums m.platform m.nodes m.base level.kept _ _ (settles_more d leads) made.1.1 in
+        let above_is : participants (settled is.left) ≡ settled_by m cs (length cs) = ap asked_of (sym is.leads ∙ ap (after (forest m)) (sym (take_all (length cs) cs (omega arith)))) in
+        let long_is : length longer ≡ length cs + 1 = ap length long ∙ length-append cs (c ∷ []) in
+        let below_is : participants (settled d) ≡ settled_by m longer (length cs + 1) =
+        ap asked_of (sym leads ∙ ap (after (forest m)) (sym long ∙ sym (take_all (length cs + 1) longer (omega (arith, long_is))))) in (
+          subst (λ xs. IsLevel m layout xs level) (sym long) (record {
+            left = d;
+            leads = leads;
+            kept = kept;
+            group = subst (IsFirstOpen layout (numbers m) (cs ++ c ∷ [])) (sym made.0) open';
+          }),
+          subst (λ qs. IsNext m parts (settled_by m cs (length cs)) qs level) below_is
+              (subst (λ ps. IsNext m parts ps (participants (settled d)) level) above_is (
+            kept,
+            record {
+              part = part;
+              there = subst (λ k. slice_get parts k ≡ Some (Some part)) (sym made.1.0) here;
+              more = asked_in m.nodes (share_of layout at);
+              asks = asks;
+              order = settles_more d leads;
+            },
+          )),
+        )
 
 -- a level of one choice more was joined, from that above it and from a part
-abbrev pub IsJoined : Matter → List Level → List Level → ℕ → Part → Option ℕ → Type 0
-IsJoined m between levels' depth part next = (ps qs : List Participant) (above old : Level)
+abbrev pub IsJoined : Matter → List Level → List Level → ℕ → Part → ℕ → Option ℕ → Type 0
+IsJoined m between levels' depth part slot next = (ps qs : List Participant) (above old : Level)
     → slice_get between depth ≡ Some above → slice_get between (depth + 1) ≡ Some old → IsKeptFor m above.kept ps → IsPartFor m part qs
     → (others : List Participant) → IsKeptFor m old.kept others
-    → IsSomeAnd (slice_get levels' (depth + 1)) (λ level. (level.group ≡ next) × IsKeptFor m level.kept (ps ++ qs))
+    → IsSomeAnd (slice_get levels' (depth + 1)) (λ level. (level.group ≡ next) × (level.slot ≡ slot) × IsKeptFor m level.kept (ps ++ qs))
 
 at_length : {X : Type 0} (xs : List X) (k : ℕ) → k < length xs → (x : X) × (slice_get xs k ≡ Some x)
 at_length [] k less = absurd (omega (arith, less))
 at_length (x ∷ xs) zero less = (x, refl)
 at_length (x ∷ xs) (suc k) less = at_length xs k (omega (arith, less))
 
-some_weaker : {X : Type 0} (P Q : X → Type 0) (o : Option X) → ((x : X) → P x → Q x) → IsSomeAnd o P → IsSomeAnd o Q
-some_weaker P Q None h p = absurd p
-some_weaker P Q (Some x) h p = h x p
-
 module _ (m : Matter) (layout : Layout) (parts parts' : List (Option Part)) (levels between levels' : List Level) (cs longer : List ℕ) (c at slot : ℕ) (part : Part) (next : Option ℕ) where
-  entered_at : longer ≡ cs ++ c ∷ [] → StandsAt m layout parts levels cs → AreParts m layout parts'
+  entered_at : longer ≡ cs ++ c ∷ [] → StandsAt m layout parts levels cs → AreParts m layout parts' → AreStillKept parts parts'
       → ((k : ℕ) → k ≤ length cs → slice_get between k ≡ slice_get levels k) → AreMade m between → length cs + 1 < length between
-      → ((k : ℕ) → k ≢ length cs + 1 → slice_get levels' k ≡ slice_get between k) → IsJoined m between levels' (length cs) part next → IsSlot at slot
+      → ((k : ℕ) → k ≢ length cs + 1 → slice_get levels' k ≡ slice_get between k) → IsJoined m between levels' (length cs) part slot next → IsSlot at slot
       → slice_get parts' slot ≡ Some (Some part) → SumsInAnyOrder → ChoiceSettlesShare → IsChildPlace layout (numbers m) cs c at → (e : Forest ℕ) × (after (numbers m) cs ≡ Some e) → IsPrefix (forest m) (cs ++ c ∷ [])
       → IsFirstOpen layout (numbers m) (cs ++ c ∷ []) next → StandsAt m layout parts' levels' longer
-  entered_at long keeps are kept made room others joined own here sums law child numbers_here prefix open' =
+  entered_at long keeps are still kept made room others joined own here sums law child numbers_here prefix open' =
       let (above, is, level) = there (IsLevel m layout cs) (slice_get levels (length cs)) (level_here m layout cs levels keeps.fronts) in
       let (old, old_is) = at_length between (length cs + 1) room in
       let (ps, old_kept) = made (length cs + 1) old old_is in
-      entered_keeps m layout parts parts' levels between levels' cs longer c long keeps are kept made others
-      (some_weaker _ (IsLevel m layout longer) (slice_get levels' (length cs + 1))
-      (λ l h. joined_level m layout cs c at above level law child numbers_here sums longer l next long prefix h open')
+      entered_keeps m layout parts parts' levels between levels' cs longer c long keeps are still kept made others
+      (some_weaker _ _ (slice_get levels' (length cs + 1))
+      (λ l h. joined_level m layout cs c at above level law child numbers_here sums longer l parts' part slot next long prefix here (are at slot part own here) h open')
       (joined (participants (settled level.left)) (asked_in m.nodes (share_of layout at)) above old (kept (length cs) (omega arith) ∙ is) old_is level.kept (are at slot part own here) ps old_kept))
 
   -- where a search stands after one choice more
-  pub entered : (items : List ℕ) → items ≡ cs → longer ≡ cs ++ c ∷ [] → StandsAt m layout parts levels cs → AreParts m layout parts'
+  pub entered : (items : List ℕ) → items ≡ cs → longer ≡ cs ++ c ∷ [] → StandsAt m layout parts levels cs → AreParts m layout parts' → AreStillKept parts parts'
       → ((k : ℕ) → k ≤ length items → slice_get between k ≡ slice_get levels k) → AreMade m between → length items + 1 < length between
-      → ((k : ℕ) → k ≢ length items + 1 → slice_get levels' k ≡ slice_get between k) → IsJoined m between levels' (length items) part next → IsSlot at slot
+      → ((k : ℕ) → k ≢ length items + 1 → slice_get levels' k ≡ slice_get between k) → IsJoined m between levels' (length items) part slot next → IsSlot at slot
       → slice_get parts' slot ≡ Some (Some part) → SumsInAnyOrder → ChoiceSettlesShare → IsChildPlace layout (numbers m) cs c at → (e : Forest ℕ) × (after (numbers m) cs ≡ Some e) → IsPrefix (forest m) (cs ++ c ∷ [])
       → IsFirstOpen layout (numbers m) (cs ++ c ∷ []) next → StandsAt m layout parts' levels' longer
-  entered items same long keeps are kept made room others joined = entered_at long keeps are
+  entered items same long keeps are still kept made room others joined = entered_at long keeps are still
       (subst (λ xs. (k : ℕ) → k ≤ length xs → slice_get between k ≡ slice_get levels k) same kept) made (subst (λ xs. length xs + 1 < length between) same room)
-      (subst (λ xs. (k : ℕ) → k ≢ length xs + 1 → slice_get levels' k ≡ slice_get between k) same others) (subst (λ xs. IsJoined m between levels' (length xs) part next) same joined)
+      (subst (λ xs. (k : ℕ) → k ≢ length xs + 1 → slice_get levels' k ≡ slice_get between k) same others) (subst (λ xs. IsJoined m between levels' (length xs) part slot next) same joined)
 
 -- what is kept beside a slot for nothing more was kept before
 pub kept_before : (xs : List (Option Part)) (at : ℕ) (part : Part) → slice_get (xs ++ None ∷ []) at ≡ Some (Some part) → slice_get xs at ≡ Some (Some part)
@@ -237,6 +271,20 @@ pub part_there : (parts : List (Option Part)) (place : ℕ) (part : Part) → pl
 part_there [] place part less = absurd (omega (arith, less))
 part_there (x ∷ xs) zero part less = refl
 part_there (x ∷ xs) (suc k) part less = part_there xs k part (omega (arith, less))
+
+-- what stands elsewhere stands there still
+pub set_elsewhere : {X : Type 0} (xs : List X) (k at : ℕ) (a x : X) → at ≢ k → slice_get xs at ≡ Some x → slice_get (slice_set xs k a) at ≡ Some x
+set_elsewhere [] k at a x other here = here
+set_elsewhere (y ∷ xs) zero zero a x other here = absurd (other refl)
+set_elsewhere (y ∷ xs) zero (suc at) a x other here = here
+set_elsewhere (y ∷ xs) (suc k) zero a x other here = here
+set_elsewhere (y ∷ xs) (suc k) (suc at) a x other here = set_elsewhere xs k at a x (λ e. other (ap suc e)) here
+
+-- what is there isn't where a test says that nothing is
+pub not_there : {X : Type 0} (parts : List (Option X)) (slot at : ℕ) (found : Option X) (x : X) (b : Bool) → slice_get parts slot ≡ Some found → b ≡ is_some found → b ≡ false
+    → slice_get parts at ≡ Some (Some x) → at ≢ slot
+not_there parts slot at None x b here is no' there' same = absurd (cc (same_Some None (Some x) (sym here ∙ (ap (slice_get parts) (sym same) ∙ there'))))
+not_there parts slot at (Some y) x b here is no' there' same = absurd (cc (is, no'))
 
 -- what is set again is what it was set to last
 pub set_again : {X : Type 0} (xs : List X) (k : ℕ) (a b : X) → slice_set (slice_set xs k a) k b ≡ slice_set xs k b

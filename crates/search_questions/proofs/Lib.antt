@@ -7,6 +7,7 @@ pub mod Walking
 pub mod Taking
 pub mod Accepting
 pub mod Keeping
+pub mod Stacking
 pub mod Entering
 pub mod Unmet
 pub mod CallerLemmas

@@ -1,12 +1,12 @@
 -- Where a search stands, and what it keeps there.
-use Rattle.std.specs.Prelude.{◌≡◌, ◌≤◌, ◌+◌, ℕ, List, [], Option, Some, IsSomeAnd}
-use Rattle.std.specs.Prelude.{length, slice_get, take}
+use Rattle.std.specs.Prelude.{◌≡◌, ◌<◌, ◌≤◌, ◌+◌, ◌++◌, ℕ, List, [], Option, Some, None}
+use Rattle.std.specs.Prelude.{IsPermutation, IsSomeAnd, length, slice_get, take}
 use Rattle.conflict_finding.specs.Subject.{IsSubject}
 use Rattle.verdict_claims.specs.Members.{participants}
 use Rattle.negotiation_inputs.specs.Participant.{Participant}
 use Rattle.search_questions.specs.declared.kept.Part.{Part}
 use Rattle.search_questions.specs.declared.levels.Level.{Level}
-use Rattle.search_questions.specs.Kept.{IsKeptFor, IsPartFor}
+use Rattle.search_questions.specs.Kept.{HasJoined, IsKeptFor, IsPartFor}
 use Rattle.verdict_claims.specs.Matter.{Matter, forest}
 use Rattle.verdict_claims.specs.Asked.{asked_in}
 use Rattle.sysmem_tree.specs.declared.layout.Layout.{Layout}
@@ -59,6 +59,35 @@ AreParts m layout parts = (place slot : ℕ) (part : Part) → IsSlot place slot
     → slice_get parts slot ≡ Some (Some part)
     → IsPartFor m part (asked_in m.nodes (share_of layout place))
 
+-- below participants stand those above and those of the part in a slot, in some order
+pub record StandsOn (m : Matter) (parts : List (Option Part)) (slot : ℕ)
+    (above below : List Participant) : Type 0 where
+  pub part : Part
+  pub there : slice_get parts slot ≡ Some (Some part)
+  pub more : List Participant
+  pub asks : IsPartFor m part more
+  pub order : IsPermutation (above ++ more) below
+
+-- each level down to a depth is kept for the participants at it, and stands on that above; at no
+-- choice each pair is joined
+pub record AreStacked (m : Matter) (parts : List (Option Part)) (at : ℕ → List Participant)
+    (depth : ℕ) (levels : List Level) : Type 0 where
+  pub first : IsSomeAnd (slice_get levels 0)
+      (λ level. HasJoined (length m.platform.pairs) level.kept)
+  pub kept : (k : ℕ) → k ≤ depth
+      → IsSomeAnd (slice_get levels k) (λ level. IsKeptFor m level.kept (at k))
+  pub next : (k : ℕ) → k < depth → IsSomeAnd (slice_get levels (k + 1))
+      (λ level. StandsOn m parts level.slot (at k) (at (k + 1)))
+
+-- the participants of a forest that is there
+abbrev pub asked_of : Option (Forest Member) → List Participant
+asked_of None = []
+asked_of (Some d) = participants (settled d)
+
+-- those that a front of choices settles
+abbrev pub settled_by : Matter → List ℕ → ℕ → List Participant
+settled_by m cs k = asked_of (after (forest m) (take k cs))
+
 -- what a search keeps where it stands
 pub record StandsAt (m : Matter) (layout : Layout) (parts : List (Option Part))
     (levels : List Level) (cs : List ℕ) : Type 0 where
@@ -67,3 +96,4 @@ pub record StandsAt (m : Matter) (layout : Layout) (parts : List (Option Part))
   pub shares : AreParts m layout parts
   pub made : AreMade m levels
   pub fronts : AreLevels m layout cs levels
+  pub stacked : AreStacked m parts (settled_by m cs) (length cs) levels

@@ -1,13 +1,13 @@
 //! What a search keeps of participants, so that each is read once and not again at each prefix that
 //! settles it.
 
-ghost use Rattle.std.specs.Prelude.{◌≡◌, ◌↔◌, ◌++◌, List, [], ◌∷◌, IfOk, IsTrue, MatchOption, Option, is_some};
+ghost use Rattle.std.specs.Prelude.{◌≤◌, ◌↔◌, ◌++◌, List, [], ◌∷◌, IfOk, IfSome, IfNone, IsTrue, MatchOption, length};
 ghost use Rattle.sysmem_merge.specs.declared.settings.Settings.{Settings as Settled};
 ghost use Rattle.verdict_claims.specs.Matter.{Matter};
 ghost use Rattle.verdict_claims.specs.Members.{participants};
 ghost use Rattle.negotiation_inputs.specs.Participant.{Participant};
-ghost use Rattle.search_questions.specs.Kept.{IsKeptFor, IsPartFor, HasRoom, HaveRoom};
-ghost use Rattle.search_questions.specs.Question.{MeetsOf, MeetsSoFar, IsBestOf};
+ghost use Rattle.search_questions.specs.Kept.{IsKeptFor, IsPartFor, HasJoined, HasRoom, HaveRoom};
+ghost use Rattle.search_questions.specs.Question.{IsAnswered, MeetsOf, IsBestOf};
 ghost use Rattle.search_questions.specs.declared.kept.Kept.TheVariants as kept_as;
 ghost use Rattle.sysmem_tree.specs.Shape.{Member};
 
@@ -68,7 +68,8 @@ impl Kept {
     // In line, what is made isn't copied to its caller.
     #[inline]
     pub(crate) fn new(subject: &Subject<'_>) -> Result<Kept, AllocError>
-        ensures { IfOk result (λ made. IsKeptFor subject.now made []) }
+        ensures kept { IfOk result (λ made. IsKeptFor subject.now made []) }
+        ensures joined { IfOk result (HasJoined (length subject.now.platform.pairs)) }
     {
         subject.recall();
         match subject.base() {
@@ -91,33 +92,63 @@ impl Kept {
         }
     }
 
-    /// Whether some settings meet the participants, as long as more may come. It takes no memory.
-    pub(crate) fn is_met(&self, subject: &Subject<'_>) -> bool
-        ensures { (ms : List Member) → IsKeptFor subject.now self.now (participants ms)
-            → IsTrue result ↔ ((t : Settled) × MeetsSoFar subject.now ms t) }
+    /// Has the first pairs, so many, joined where those above have, whose participants, then those
+    /// of the part, are these. It takes no memory.
+    pub(crate) fn join_pairs(&mut self, above: &Kept, part: &Part, many: usize)
+        ensures kept { (m : Matter) (ps qs : List Participant) → IsKeptFor m self.old (ps ++ qs)
+            → IsKeptFor m above.now ps → IsPartFor m part.now qs
+            → IsKeptFor m self.new (ps ++ qs) }
+        ensures joined { (m : Matter) (ps qs : List Participant) → IsKeptFor m self.old (ps ++ qs)
+            → IsKeptFor m above.now ps → IsPartFor m part.now qs
+            → HasJoined many above.now → HasJoined many self.new }
     {
         match self {
-            Kept::Sum(sum) => sum.ask(subject.platform(), false).is_ok(),
+            Kept::Sum(sum) => join_sum_pairs(sum, above, part, many),
+            Kept::OnBase(_) => {}
+        }
+    }
+
+    /// Whether the first pairs, so many, are joined.
+    pub(crate) fn has_joined(&self, many: usize) -> bool
+        ensures { IsTrue result ↔ HasJoined many self.now }
+    {
+        match self {
+            Kept::Sum(sum) => many <= sum.joined(),
+            Kept::OnBase(_) => true,
+        }
+    }
+
+    /// Whether some settings meet the participants, who are all that there are where they are
+    /// whole; `None` where more pairs need to be joined to tell. It takes no memory.
+    // In line, a caller that asks only whether there are any copies no settings.
+    #[inline(always)]
+    pub(crate) fn has_best(&self, subject: &Subject<'_>, whole: bool) -> Option<bool>
+        ensures answered { (ms : List Member) → IsKeptFor subject.now self.now (participants ms)
+            → IfSome result (IsAnswered whole subject.now ms) }
+        ensures more { (ps : List Participant) → IsKeptFor subject.now self.now ps
+            → HasJoined (length subject.now.platform.pairs) self.now → IfNone result ⊥ }
+    {
+        match self {
+            Kept::Sum(sum) => Some(sum.best_settings(subject.platform(), whole)?.is_ok()),
             Kept::OnBase(kept) => {
                 match subject.base() {
-                    Some(base) => kept.suits(&base.settings()),
-                    None => false,
+                    Some(base) => Some(kept.suits(&base.settings())),
+                    None => Some(false),
                 }
             }
         }
     }
 
     /// The best settings for the participants, who are all that there are; `None` where none meet
-    /// them. It takes no memory.
-    // In line, a caller that asks only whether there are any copies no settings.
-    #[inline(always)]
+    /// them, or where not all pairs are joined. It takes no memory.
     pub(crate) fn best(&self, subject: &Subject<'_>) -> Option<Settings>
         ensures { (ms : List Member) → IsKeptFor subject.now self.now (participants ms)
+            → HasJoined (length subject.now.platform.pairs) self.now
             → MatchOption result ((t : Settled) → ¬ (MeetsOf subject.now ms t))
             (IsBestOf subject.now ms) }
     {
         match self {
-            Kept::Sum(sum) => sum.best_settings(subject.platform(), true).ok(),
+            Kept::Sum(sum) => sum.best_settings(subject.platform(), true)?.ok(),
             Kept::OnBase(kept) => {
                 let settings = subject.base()?.settings();
                 if kept.suits(&settings) {
@@ -128,16 +159,23 @@ impl Kept {
             }
         }
     }
+}
 
-    /// Whether there are best settings for the participants, who are all that there are. It takes
-    /// no memory.
-    pub(crate) fn has_best(&self, subject: &Subject<'_>) -> bool
-        ensures { (best : Option Settled) × (result ≡ is_some best)
-            × ((ms : List Member) → IsKeptFor subject.now self.now (participants ms)
-            → MatchOption best ((t : Settled) → ¬ (MeetsOf subject.now ms t))
-            (IsBestOf subject.now ms)) }
-    {
-        self.best(subject).is_some()
+/// Has the first pairs of a sum joined, of which those above have them joined.
+fn join_sum_pairs(sum: &mut Sum, above: &Kept, part: &Part, many: usize)
+    ensures kept { (m : Matter) (ps qs : List Participant)
+        → IsKeptFor m (kept_as.Sum sum.old) (ps ++ qs)
+        → IsKeptFor m above.now ps → IsPartFor m part.now qs
+        → IsKeptFor m (kept_as.Sum sum.new) (ps ++ qs) }
+    ensures joined { (m : Matter) (ps qs : List Participant)
+        → IsKeptFor m (kept_as.Sum sum.old) (ps ++ qs)
+        → IsKeptFor m above.now ps → IsPartFor m part.now qs
+        → HasJoined many above.now → many ≤ sum.new.joined }
+{
+    if let Kept::Sum(above) = above {
+        if let Part::Share(share) = part {
+            sum.join_pairs(above, share, many);
+        }
     }
 }
 

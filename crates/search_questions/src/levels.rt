@@ -1,17 +1,24 @@
 //! What a search keeps at each prefix from no choice on to where it stands.
 
-ghost use Rattle.std.specs.Prelude.{◌≡◌, ◌≢◌, ◌<◌, ◌≤◌, ◌+◌, ◌++◌, ℕ, List, [], Option, Some, IfOk, IsSomeAnd, OnOk, length, slice_get};
+ghost use Rattle.std.specs.Prelude.{◌≡◌, ◌≢◌, ◌<◌, ◌≤◌, ◌+◌, ◌++◌, ℕ, List, [], Option, Some, IfOk, IsSomeAnd, MatchOption, OnOk, length, option_map, slice_get};
 ghost use Rattle.negotiation_inputs.specs.Participant.{Participant};
-ghost use Rattle.search_questions.specs.Kept.{IsKeptFor, IsPartFor, HaveRoom};
-ghost use Rattle.search_questions.specs.Standing.{AreMade, AreParts, IsLevel, IsSlot, LaysOut};
+ghost use Rattle.search_questions.specs.Kept.{IsKeptFor, IsPartFor, HasJoined, HaveRoom};
+ghost use Rattle.search_questions.specs.Question.{IsAnswered, MeetsOf, IsBestOf};
+ghost use Rattle.search_questions.specs.Standing.{AreMade, AreParts, AreStacked, IsLevel, IsSlot, LaysOut};
 ghost use Rattle.search_questions.specs.declared.kept.Part.{Part as APart};
 ghost use Rattle.search_questions.specs.declared.levels.Level.{Level as ALevel};
+ghost use Rattle.sysmem_merge.specs.declared.settings.Settings.{Settings as Settled};
+ghost use Rattle.sysmem_tree.specs.Shape.{Member};
+ghost use Rattle.verdict_claims.specs.Matter.{Matter};
+ghost use Rattle.verdict_claims.specs.Members.{participants};
 ghost use Rattle.sysmem_tree.specs.OpenGroups.{HasChild, HoldsNodes, share_of};
 
 use crate::kept::{Kept, Part};
 use crate::settling::add_settled;
 use conflict_finding::Subject;
 use std::alloc::AllocError;
+use sysmem_merge::Settings;
+use sysmem_merge::laws::sums_in_any_order;
 use sysmem_tree::{ChildPlace, GroupPlace, Layout, MOST_NODES};
 
 /// What is kept at a prefix. Those of longer prefixes are written over, so that a visit takes no
@@ -20,17 +27,20 @@ use sysmem_tree::{ChildPlace, GroupPlace, Layout, MOST_NODES};
 pub(crate) struct Level {
     /// The first group that is open after the choices.
     pub(crate) group: Option<GroupPlace>,
+    /// The slot of the part that the last choice settles.
+    slot: usize,
     /// What is kept of the participants that they settle.
     pub(crate) kept: Kept,
 }
 
-/// Makes the level below this depth that of one choice more, which settles a part and leaves this
-/// group open.
+/// Makes the level below this depth that of one choice more, which settles the part of a slot and
+/// leaves this group open. No pair is joined there yet.
 pub(crate) fn join_level(
     levels: &mut Vec<Level>,
     subject: &Subject<'_>,
     depth: usize,
     part: &Part,
+    slot: usize,
     group: Option<GroupPlace>,
 )
     requires there { depth + 1 < length levels.old.items }
@@ -44,18 +54,111 @@ pub(crate) fn join_level(
         → IsKeptFor subject.now above.kept ps → IsPartFor subject.now part.now qs
         → (others : List Participant) → IsKeptFor subject.now old.kept others
         → IsSomeAnd (slice_get levels.new.items (depth + 1)) (λ level. (level.group ≡ group)
-        × IsKeptFor subject.now level.kept (ps ++ qs)) }
+        × (level.slot ≡ slot) × IsKeptFor subject.now level.kept (ps ++ qs)) }
 {
     let (above, below) = levels.split_at_mut(depth + 1);
     let level = &mut below[0];
     level.kept.join_of(subject, &above[depth].kept, part);
     level.group = group;
+    level.slot = slot;
 }
 
-/// The level of no choice.
+/// Has the first pairs, so many, joined at this depth, from the last level above where they are.
+fn join_pairs_at(levels: &mut [Level], parts: &[Option<Part>], depth: usize, many: usize)
+    requires there { depth < length levels.old }
+    ensures long { length levels.new ≡ length levels.old }
+    ensures below { (k : ℕ) → depth < k → slice_get levels.new k ≡ slice_get levels.old k }
+    ensures groups { (k : ℕ) → option_map (λ l. l.group) (slice_get levels.new k)
+        ≡ option_map (λ l. l.group) (slice_get levels.old k) }
+    ensures stacked { (m : Matter) (at : ℕ → List Participant)
+        → AreStacked m parts.now at depth levels.old
+        → AreStacked m parts.now at depth levels.new }
+    ensures joined { (m : Matter) (at : ℕ → List Participant)
+        → AreStacked m parts.now at depth levels.old → many ≤ length m.platform.pairs
+        → IsSomeAnd (slice_get levels.new depth) (λ level. HasJoined many level.kept) }
+{
+    sums_in_any_order();
+    if depth == 0 || levels[depth].kept.has_joined(many) {
+        return;
+    }
+    join_pairs_at(levels, parts, depth - 1, many);
+    let (above, below) = levels.split_at_mut(depth);
+    let level = &mut below[0];
+    if let Some(Some(part)) = parts.get(level.slot) {
+        level.kept.join_pairs(&above[depth - 1].kept, part, many);
+    }
+}
+
+/// Whether some settings meet the participants at this depth, who are all that there are where they
+/// are whole. Pairs are joined as far as this asks for them: twice as many each time.
+pub(crate) fn has_best_at(
+    levels: &mut Vec<Level>,
+    parts: &[Option<Part>],
+    subject: &Subject<'_>,
+    depth: usize,
+    whole: bool,
+) -> bool
+    requires there { depth < length levels.old.items }
+    requires stacked { (at : ℕ → List Participant)
+        × AreStacked subject.now parts.now at depth levels.old.items }
+    ensures long { length levels.new.items ≡ length levels.old.items }
+    ensures below { (k : ℕ) → depth < k
+        → slice_get levels.new.items k ≡ slice_get levels.old.items k }
+    ensures groups { (k : ℕ) → option_map (λ l. l.group) (slice_get levels.new.items k)
+        ≡ option_map (λ l. l.group) (slice_get levels.old.items k) }
+    ensures stacked { (m : Matter) (at : ℕ → List Participant)
+        → AreStacked m parts.now at depth levels.old.items
+        → AreStacked m parts.now at depth levels.new.items }
+    ensures answered { (at : ℕ → List Participant) (ms : List Member)
+        → AreStacked subject.now parts.now at depth levels.old.items
+        → at depth ≡ participants ms → IsAnswered whole subject.now ms result }
+{
+    let all = subject.platform().pairs().len();
+    let mut many = 1;
+    for _step in 0..=all {
+        if let Some(met) = levels[depth].kept.has_best(subject, whole) {
+            return met;
+        }
+        many = many.min(all);
+        join_pairs_at(levels, parts, depth, many);
+        many = many.saturating_mul(2);
+    }
+    unreachable!()
+}
+
+/// The best settings for the participants at this depth, who are all that there are. Each pair is
+/// joined.
+pub(crate) fn best_at(
+    levels: &mut Vec<Level>,
+    parts: &[Option<Part>],
+    subject: &Subject<'_>,
+    depth: usize,
+) -> Option<Settings>
+    requires there { depth < length levels.old.items }
+    ensures long { length levels.new.items ≡ length levels.old.items }
+    ensures below { (k : ℕ) → depth < k
+        → slice_get levels.new.items k ≡ slice_get levels.old.items k }
+    ensures groups { (k : ℕ) → option_map (λ l. l.group) (slice_get levels.new.items k)
+        ≡ option_map (λ l. l.group) (slice_get levels.old.items k) }
+    ensures stacked { (m : Matter) (at : ℕ → List Participant)
+        → AreStacked m parts.now at depth levels.old.items
+        → AreStacked m parts.now at depth levels.new.items }
+    ensures best { (at : ℕ → List Participant) (ms : List Member)
+        → AreStacked subject.now parts.now at depth levels.old.items
+        → at depth ≡ participants ms
+        → MatchOption result ((t : Settled) → ¬ (MeetsOf subject.now ms t))
+        (IsBestOf subject.now ms) }
+{
+    join_pairs_at(levels, parts, depth, subject.platform().pairs().len());
+    levels[depth].kept.best(subject)
+}
+
+/// The level of no choice, with each pair joined.
 pub(crate) fn first_level(subject: &Subject<'_>, layout: &Layout) -> Result<Level, AllocError>
     requires { LaysOut subject.now layout.now }
-    ensures { IfOk result (λ level. IsLevel subject.now layout.now [] level) }
+    ensures level { IfOk result (λ level. IsLevel subject.now layout.now [] level) }
+    ensures joined { IfOk result
+        (λ level. HasJoined (length subject.now.platform.pairs) level.kept) }
 {
     subject.recall();
     let none = Kept::new(subject)?;
@@ -64,8 +167,13 @@ pub(crate) fn first_level(subject: &Subject<'_>, layout: &Layout) -> Result<Leve
     add_settled(&mut part, subject, layout, walk);
     let mut kept = Kept::new(subject)?;
     kept.join_of(subject, &none, &part);
+    kept.join_pairs(&none, &part, subject.platform().pairs().len());
     let group = layout.first_open();
-    Ok(Level { group, kept })
+    Ok(Level {
+        group,
+        slot: 0,
+        kept,
+    })
 }
 
 /// Has a level below this depth, whatever stands there.
@@ -98,7 +206,11 @@ fn add_level(levels: &mut Vec<Level>, subject: &Subject<'_>) -> Result<(), Alloc
     ensures made { AreMade subject.now levels.old.items → AreMade subject.now levels.new.items }
 {
     let kept = Kept::new(subject)?;
-    levels.push(Level { group: None, kept })?;
+    levels.push(Level {
+        group: None,
+        slot: 0,
+        kept,
+    })?;
     Ok(())
 }
 
@@ -117,6 +229,8 @@ fn reserve_slot(parts: &mut Vec<Option<Part>>, slot: usize) -> Result<(), AllocE
     ensures there { OnOk result (slot < length parts.new.items) }
     ensures kept { (at : ℕ) (part : APart) → slice_get parts.new.items at ≡ Some (Some part)
         → slice_get parts.old.items at ≡ Some (Some part) }
+    ensures still { (at : ℕ) (part : APart) → slice_get parts.old.items at ≡ Some (Some part)
+        → slice_get parts.new.items at ≡ Some (Some part) }
 {
     if slot < parts.len() {
         return Ok(());
@@ -143,6 +257,8 @@ pub(crate) fn keep_part(
         → AreParts subject.now layout.now parts.new.items }
     ensures there { OnOk result ((slot : ℕ) → IsSlot child slot → (part : APart)
         × (slice_get parts.new.items slot ≡ Some (Some part))) }
+    ensures still { (at : ℕ) (part : APart) → slice_get parts.old.items at ≡ Some (Some part)
+        → slice_get parts.new.items at ≡ Some (Some part) }
 {
     let slot = slot_of(child);
     reserve_slot(parts, slot)?;
@@ -173,6 +289,9 @@ fn read_part(
         → AreParts subject.now layout.now parts.new.items }
     ensures there { OnOk result ((own : ℕ) → IsSlot child own → (part : APart)
         × (slice_get parts.new.items own ≡ Some (Some part))) }
+    ensures still { (at : ℕ) (part : APart) → at ≢ slot
+        → slice_get parts.old.items at ≡ Some (Some part)
+        → slice_get parts.new.items at ≡ Some (Some part) }
 {
     parts[slot] = Some(Part::new(subject)?);
     if let Some(part) = &mut parts[slot] {

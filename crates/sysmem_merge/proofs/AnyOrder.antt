@@ -37,8 +37,6 @@ use Rattle.sysmem_merge.specs.Laws.{StandsInAnyOrder}
 use Rattle.sysmem_merge.specs.Offers.{has_format, has_colour, Asks, bounds_asked, names_format, names_modifier, names_colour}
 use Rattle.sysmem_merge.specs.Pairs.{in_colour, IsPairKept}
 use Rattle.sysmem_merge.specs.Sum.{IsPlaced, SumsInAnyOrder}
-use Rattle.list_lemmas.proofs.CallerLemmas.{some_in_order}
-use Rattle.sysmem_merge.proofs.Summing.{has_for_some}
 use Rattle.negotiation_inputs.specs.Participant.{Participant}
 use Rattle.negotiation_inputs.specs.Platform.{PlatformFacts}
 
@@ -194,10 +192,9 @@ sums_in_order sum platform ps qs order sums =
       place = place_in_order platform ps qs order sum.place sums.place;
       no_image = kept_in_order NoImage (offer_demands ps) (offer_demands qs) sum.no_image offered sums.no_image;
       pairs = record {
-        these = λ has. let kept = sums.pairs.these (has_for_some platform ps qs (some_in_order ps qs order) has) in record {
-          many = kept.many;
-          each = λ k pair one here got. pair_in_order pair (offer_demands ps) (offer_demands qs) one offered (kept.each k pair one here got);
-        };
+        many = sums.pairs.many;
+        within = sums.pairs.within;
+        these = λ k pair one less here got. pair_in_order pair (offer_demands ps) (offer_demands qs) one offered (sums.pairs.these k pair one less here got);
         some = sums.pairs.some;
       };
       sizes = sizes_in_order (offer_demands ps) (offer_demands qs) sum.least_size sum.greatest_size offered sums.sizes;

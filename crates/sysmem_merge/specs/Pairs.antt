@@ -1,5 +1,5 @@
 -- What is kept of the offers of a pair, of which there is one for each colour space.
-use Rattle.std.specs.Prelude.{◌≡◌, ◌==◌, ◌++◌, ◌∷◌, [], ℕ, List, length, Bool, true}
+use Rattle.std.specs.Prelude.{◌≡◌, ◌<◌, ◌≤◌, ◌==◌, ◌++◌, ◌∷◌, [], ℕ, List, length, Bool, true}
 use Rattle.std.specs.Prelude.{false, Some, slice_get}
 use Rattle.std.specs.Int.{bit_at}
 use Rattle.sysmem_counts.specs.declared.field.Field.TheVariants.{ColorSpaces}
@@ -90,8 +90,13 @@ pub record ArePairsKept (pairs : List Pair) (ds : List OfferDemand)
   pub each : (k : ℕ) (pair : Pair) (one : KeptPair) → slice_get pairs k ≡ Some pair
       → slice_get kept k ≡ Some one → IsPairKept pair ds one
 
--- it is kept for these participants where C holds, else perhaps for others
-pub record ArePairsKeptWhere (C : Type 0) (pairs : List Pair) (ds : List OfferDemand)
+-- what is kept of each pair of a list: of the first ones, so many, for these participants, of each
+-- other for some
+pub record AreFirstKept (joined : ℕ) (pairs : List Pair) (ds : List OfferDemand)
     (kept : List KeptPair) : Type 0 where
-  pub these : C → ArePairsKept pairs ds kept
-  pub some : (others : List OfferDemand) × ArePairsKept pairs others kept
+  pub many : length kept ≡ length pairs
+  pub within : joined ≤ length pairs
+  pub these : (k : ℕ) (pair : Pair) (one : KeptPair) → k < joined → slice_get pairs k ≡ Some pair
+      → slice_get kept k ≡ Some one → IsPairKept pair ds one
+  pub some : (k : ℕ) (pair : Pair) (one : KeptPair) → slice_get pairs k ≡ Some pair
+      → slice_get kept k ≡ Some one → (others : List OfferDemand) × IsPairKept pair others one

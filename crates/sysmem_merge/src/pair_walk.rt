@@ -1,6 +1,6 @@
 //! The first offer of a platform that participants can share, by what is kept of its pairs.
 
-ghost use Rattle.std.specs.Prelude.{◌≡◌, true, List, map, Some, slice_get, IfSome, IfNone};
+ghost use Rattle.std.specs.Prelude.{◌≡◌, ◌≤◌, true, List, length, map, Some, slice_get, IfSome, IfNone};
 ghost use Rattle.sysmem_formats.specs.declared.offer.Offer.TheVariants.{NoImage, Image};
 ghost use Rattle.sysmem_formats.specs.declared.offer.Pair.{Pair as APair};
 ghost use Rattle.sysmem_merge.specs.Aggregate.{AreSizes, IsKept};
@@ -8,7 +8,7 @@ ghost use Rattle.sysmem_merge.specs.Demands.{OfferDemand};
 ghost use Rattle.sysmem_merge.specs.FirstFit.{IsFirstFit};
 ghost use Rattle.sysmem_merge.specs.Fit.{IsBestFit};
 ghost use Rattle.sysmem_merge.specs.Offers.{is_named};
-ghost use Rattle.sysmem_merge.specs.Pairs.{ArePairsKept, IsPairKept};
+ghost use Rattle.sysmem_merge.specs.Pairs.{AreFirstKept, IsPairKept};
 ghost use Rattle.sysmem_merge.specs.Reasons.{IsOfferRefused, AreOffersRefused};
 ghost use Rattle.negotiation_inputs.specs.Platform.{offers_of};
 
@@ -20,26 +20,33 @@ use negotiation_inputs::Platform;
 use offer_fits::Fit;
 use sysmem_formats::{ColourSpace, Offer, Pair};
 
-/// The first of the platform's offers that suits the participants, with its least size and bounds.
+/// The first of the platform's offers that suits the participants, with its least size and bounds:
+/// that of no image, or one of the first pairs, so many.
 pub(crate) fn first_shared(
     platform: &Platform,
     no_image: &KeptOffer,
     kept: &[KeptPair],
+    joined: usize,
     least_size: u64,
     greatest_size: u64,
     whole: bool,
 ) -> Option<Fit>
     ensures first { (ds : List OfferDemand) → IsKept NoImage ds no_image.now
-        → ArePairsKept platform.now.pairs ds kept.now → AreSizes ds least_size greatest_size
+        → AreFirstKept joined platform.now.pairs ds kept.now
+        → AreSizes ds least_size greatest_size
         → IfSome result (IsFirstFit whole (offers_of platform.now) ds) }
     ensures none { (ds : List OfferDemand) → IsKept NoImage ds no_image.now
-        → ArePairsKept platform.now.pairs ds kept.now → AreSizes ds least_size greatest_size
+        → AreFirstKept joined platform.now.pairs ds kept.now
+        → AreSizes ds least_size greatest_size → length platform.now.pairs ≤ joined
         → IfNone result (AreOffersRefused whole (offers_of platform.now) ds) }
 {
     if let Some(fit) = fit_of(no_image, &Offer::NoImage, least_size, greatest_size, whole) {
         return Some(fit);
     }
     for (index, one) in kept.iter().enumerate() {
+        if index >= joined {
+            return None;
+        }
         if let Some(fit) = fit_at(platform, index, one, least_size, greatest_size, whole) {
             return Some(fit);
         }

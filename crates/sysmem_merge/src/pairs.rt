@@ -1,9 +1,9 @@
 //! What is kept of each pair of a platform.
 
-ghost use Rattle.std.specs.Prelude.{◌≡◌, List, [], ◌∷◌, ◌++◌, IfOk, IsTrue, Some, slice_get};
+ghost use Rattle.std.specs.Prelude.{◌≡◌, ◌≤◌, ℕ, List, [], ◌∷◌, ◌++◌, IfOk, Some, length, slice_get};
 ghost use Rattle.sysmem_formats.specs.declared.offer.Pair.{Pair as APair};
 ghost use Rattle.sysmem_merge.specs.Demands.{OfferDemand};
-ghost use Rattle.sysmem_merge.specs.Pairs.{ArePairsKept, ArePairsKeptWhere, IsPairKept};
+ghost use Rattle.sysmem_merge.specs.Pairs.{AreFirstKept, ArePairsKept, IsPairKept};
 
 use crate::pair::KeptPair;
 use std::alloc::{AllocError, Global};
@@ -23,8 +23,9 @@ pub(crate) fn kept_pairs(alloc: Global, pairs: &[Pair]) -> Result<Vec<KeptPair>,
 
 /// Keeps what one more participant asks of each pair by its entries.
 pub(crate) fn add_to_pairs(kept: &mut [KeptPair], pairs: &[Pair], matches: &FirstMatches)
-    ensures { (ds : List OfferDemand) (d : OfferDemand) → d.entries ≡ matches.now
-        → ArePairsKept pairs.now ds kept.old → ArePairsKept pairs.now (ds ++ d ∷ []) kept.new }
+    ensures { (joined : ℕ) (ds : List OfferDemand) (d : OfferDemand) → d.entries ≡ matches.now
+        → AreFirstKept joined pairs.now ds kept.old
+        → AreFirstKept joined pairs.now (ds ++ d ∷ []) kept.new }
 {
     for (index, one) in kept.iter_mut().enumerate() {
         add_at(one, pairs, index, matches);
@@ -42,33 +43,23 @@ fn add_at(kept: &mut KeptPair, pairs: &[Pair], index: usize, matches: &FirstMatc
     }
 }
 
-/// Keeps of each pair what those above ask, then more participants, whatever was kept of it.
-pub(crate) fn join_pairs(kept: &mut [KeptPair], above: &[KeptPair], more: &[KeptPair])
-    ensures { (pairs : List APair) (others ds es : List OfferDemand)
-        → ArePairsKept pairs others kept.old → ArePairsKept pairs ds above.now
-        → ArePairsKept pairs es more.now → ArePairsKept pairs (ds ++ es) kept.new }
-{
-    if above.len() < kept.len() || more.len() < kept.len() {
-        return;
-    }
-    for (index, one) in kept.iter_mut().enumerate() {
-        one.join_of(&above[index], &more[index]);
-    }
-}
-
-/// The same where this is wished; else what is kept stays that of others.
-pub(crate) fn join_pairs_where(
-    wished: bool,
+/// Keeps of the pairs from one index to another what those above ask, then more participants,
+/// where it is kept for them of those before, whatever was kept of these.
+pub(crate) fn join_pairs(
     kept: &mut [KeptPair],
+    from: usize,
+    to: usize,
     above: &[KeptPair],
     more: &[KeptPair],
 )
-    ensures { (pairs : List APair) (others ds es : List OfferDemand)
-        → ArePairsKept pairs others kept.old
-        → (IsTrue wished → ArePairsKept pairs ds above.now × ArePairsKept pairs es more.now)
-        → ArePairsKeptWhere (IsTrue wished) pairs (ds ++ es) kept.new }
+    requires there { to ≤ length kept.old }
+    requires above { to ≤ length above.now }
+    requires more { to ≤ length more.now }
+    ensures { (pairs : List APair) (ds es : List OfferDemand) → from ≤ to
+        → AreFirstKept from pairs (ds ++ es) kept.old → AreFirstKept to pairs ds above.now
+        → AreFirstKept to pairs es more.now → AreFirstKept to pairs (ds ++ es) kept.new }
 {
-    if wished {
-        join_pairs(kept, above, more);
+    for index in from..to {
+        kept[index].join_of(&above[index], &more[index]);
     }
 }

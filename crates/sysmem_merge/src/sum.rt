@@ -1,20 +1,18 @@
 //! What participants ask for together, apart from their platform: what a search
 //! keeps of each prefix of choices.
 
-ghost use Rattle.std.specs.Prelude.{◌≡◌, ◌+◌, ◌<◌, ◌≤◌, ◌↔◌, ◌++◌, List, [], ◌∷◌, IfOk, IfErr, IsTrue, OnOk};
-ghost use Rattle.sysmem_counts.specs.Bounds.{IsTallyOf};
+ghost use Rattle.std.specs.Prelude.{◌≡◌, ◌+◌, ◌<◌, ◌≤◌, ◌++◌, List, [], ◌∷◌, IfOk, IfErr, IfSome, IfNone, OnOk, length};
 ghost use Rattle.sysmem_merge.specs.Best.{IsBest, IsUnmet};
-ghost use Rattle.sysmem_merge.specs.Demands.{counts_asked};
 ghost use Rattle.sysmem_merge.specs.Reasons.{IsFirstReason};
 ghost use Rattle.sysmem_merge.specs.Share.{IsShareOf};
-ghost use Rattle.sysmem_merge.specs.Sum.{HasCountAndPlace, IsPlaced, SumsUp, IsMet};
+ghost use Rattle.sysmem_merge.specs.Sum.{SumsUp, IsMet};
 ghost use Rattle.negotiation_inputs.specs.Participant.{Participant};
 ghost use Rattle.negotiation_inputs.specs.Platform.{PlatformFacts};
 
 use crate::kept::KeptOffer;
 use crate::pair::KeptPair;
 use crate::pair_walk::first_shared;
-use crate::pairs::{add_to_pairs, join_pairs_where, kept_pairs};
+use crate::pairs::{add_to_pairs, join_pairs, kept_pairs};
 use crate::reason::Reason;
 use crate::settings::Settings;
 use crate::share::Share;
@@ -39,6 +37,8 @@ pub struct Sum {
     place: Option<Place>,
     no_image: KeptOffer,
     pairs: Vec<KeptPair>,
+    /// How many pairs, from the first, are kept for these participants; the others for any.
+    joined: usize,
     least_size: u64,
     greatest_size: u64,
     added: u64,
@@ -58,6 +58,7 @@ impl Model for Sum {
       place = s.place;
       no_image = s.no_image;
       pairs = s.pairs.items;
+      joined = s.joined;
       least_size = s.least_size;
       greatest_size = s.greatest_size;
       added = s.added;
@@ -69,7 +70,8 @@ impl Model for Sum {
 impl Sum {
     /// The sum of no participant at all, in memory that later sums on this platform need too.
     pub fn new(alloc: Global, platform: &Platform) -> Result<Sum, AllocError>
-        ensures { IfOk result (λ made. SumsUp made platform.now []) }
+        ensures sums { IfOk result (λ made. SumsUp made platform.now []) }
+        ensures all { IfOk result (λ made. made.joined ≡ length platform.now.pairs) }
     {
         let pairs = kept_pairs(alloc, platform.pairs())?;
         let memory = MemoryBounds::new(platform.heaps());
@@ -78,6 +80,7 @@ impl Sum {
             memory,
             place: memory.first_place(platform.heaps()),
             no_image: KeptOffer::new(&Offer::NoImage),
+            joined: pairs.len(),
             pairs,
             least_size: 0,
             greatest_size: u64::MAX,
@@ -91,6 +94,7 @@ impl Sum {
         ensures sums { (ps : List Participant) → SumsUp self.old platform.now ps
             → SumsUp self.new platform.now (ps ++ asked.now ∷ []) }
         ensures grows { self.new.added ≡ self.old.added + 1 }
+        ensures joined { self.new.joined ≡ self.old.joined }
     {
         let memory = asked.memory();
         self.counts.add(asked.counts());
@@ -107,8 +111,7 @@ impl Sum {
 
     /// Becomes the sum of the participants above, then those of a share, whatever it
     /// was the sum of. All three were made for this platform, and the participants are
-    /// at most 1,024. Where no number of buffers or no place suits them, nothing asks for
-    /// their pairs, which aren't joined then. It takes no memory.
+    /// at most 1,024. No pair is joined yet. It takes no memory.
     pub fn join_of(&mut self, platform: &Platform, above: &Sum, share: &Share)
         requires { above.now.added + share.now.sum.added ≤ MOST_ADDED }
         ensures sums { (others ps qs : List Participant) → SumsUp self.old platform.now others
@@ -123,79 +126,101 @@ impl Sum {
         self.memory.join(platform.heaps(), &more.memory);
         self.place = self.memory.first_place(platform.heaps());
         self.no_image.join_of(&above.no_image, &more.no_image);
-        let left = has_count_and_place(&self.counts, self.place);
-        join_pairs_where(left, &mut self.pairs, &above.pairs, &more.pairs);
+        self.joined = 0;
         self.least_size = above.least_size.max(more.least_size);
         self.greatest_size = above.greatest_size.min(more.greatest_size);
         self.added = above.added + more.added;
     }
 
+    /// Has the first pairs, so many, joined where those above have, whose participants, then those
+    /// of the share, are this sum's. It takes no memory.
+    pub fn join_pairs(&mut self, above: &Sum, share: &Share, many: usize)
+        ensures sums { (platform : PlatformFacts) (ps qs : List Participant)
+            → SumsUp self.old platform (ps ++ qs) → SumsUp above.now platform ps
+            → IsShareOf share.now platform qs → SumsUp self.new platform (ps ++ qs) }
+        ensures joined { (platform : PlatformFacts) (ps qs : List Participant)
+            → SumsUp self.old platform (ps ++ qs) → SumsUp above.now platform ps
+            → IsShareOf share.now platform qs → many ≤ above.now.joined
+            → many ≤ self.new.joined }
+    {
+        let more = share.sum();
+        let joined = above.joined.min(more.joined).min(many);
+        let there = self.pairs.len().min(above.pairs.len()).min(more.pairs.len());
+        let to = joined.min(there);
+        if self.joined < to {
+            join_pairs(&mut self.pairs, self.joined, to, &above.pairs, &more.pairs);
+            self.joined = to;
+        }
+    }
+
+    /// How many pairs, from the first, are joined.
+    pub fn joined(&self) -> usize
+        ensures { result ≡ self.now.joined }
+    {
+        self.joined
+    }
+
     /// The best settings for the participants, or the first reason why none meet them:
-    /// those that an aggregate of the same participants gives. The platform is the one that
-    /// it was made for. It takes no memory.
-    pub fn best_settings(&self, platform: &Platform, whole: bool) -> Result<Settings, Reason>
+    /// those that an aggregate of the same participants gives; `None` where more pairs need to be
+    /// joined to tell. The platform is the one that it was made for. It takes no memory.
+    pub fn best_settings(&self, platform: &Platform, whole: bool) -> Option<Result<Settings, Reason>>
         ensures best { (ps : List Participant) → SumsUp self.now platform.now ps
-            → IfOk result (IsBest whole platform.now ps) }
+            → IfSome result (λ r. IfOk r (IsBest whole platform.now ps)) }
         ensures none { (ps : List Participant) → SumsUp self.now platform.now ps
-            → IfErr result (λ _. IsUnmet whole platform.now ps) }
+            → IfSome result (λ r. IfErr r (λ _. IsUnmet whole platform.now ps)) }
         ensures reason { (ps : List Participant) → SumsUp self.now platform.now ps
-            → IfErr result (IsFirstReason whole platform.now ps) }
+            → IfSome result (λ r. IfErr r (IsFirstReason whole platform.now ps)) }
+        ensures more { (ps : List Participant) → SumsUp self.now platform.now ps
+            → IfNone result (self.now.joined < length platform.now.pairs) }
     {
         let count = match self.counts.least_count() {
             Ok(count) => count,
-            Err(field) => return Err(Reason::Count(field)),
+            Err(field) => return Some(Err(Reason::Count(field))),
         };
         let Some(place) = self.place else {
-            return Err(Reason::NoPlace);
+            return Some(Err(Reason::NoPlace));
         };
         let (least, greatest) = (self.least_size, self.greatest_size);
         let Some(fit) = first_shared(
             platform,
             &self.no_image,
             &self.pairs,
+            self.joined,
             least,
             greatest,
             whole,
         ) else {
-            return Err(Reason::NoOffer);
+            if self.joined < self.pairs.len() {
+                return None;
+            }
+            return Some(Err(Reason::NoOffer));
         };
-        Ok(Settings {
+        Some(Ok(Settings {
             offer: fit.offer,
             place,
             count,
             size_bytes: fit.size_bytes,
             bounds: fit.bounds,
-        })
+        }))
     }
 
     /// Whether some settings meet the participants; where none do, the first reason that is true of
-    /// them. `whole` says that they are all that a decision has, so that an image's format,
-    /// modifier and colour space must each be named by some of them. The platform is the one that
-    /// it was made for. It takes no memory.
-    pub fn ask(&self, platform: &Platform, whole: bool) -> Result<(), Reason>
+    /// them; `None` where more pairs need to be joined to tell. `whole` says that they are all that a
+    /// decision has, so that an image's format, modifier and colour space must each be named by some
+    /// of them. The platform is the one that it was made for. It takes no memory.
+    pub fn ask(&self, platform: &Platform, whole: bool) -> Option<Result<(), Reason>>
         ensures met { (ps : List Participant) → SumsUp self.now platform.now ps
-            → OnOk result (IsMet whole platform.now ps) }
+            → IfSome result (λ r. OnOk r (IsMet whole platform.now ps)) }
         ensures none { (ps : List Participant) → SumsUp self.now platform.now ps
-            → IfErr result (λ _. IsUnmet whole platform.now ps) }
+            → IfSome result (λ r. IfErr r (λ _. IsUnmet whole platform.now ps)) }
         ensures reason { (ps : List Participant) → SumsUp self.now platform.now ps
-            → IfErr result (IsFirstReason whole platform.now ps) }
+            → IfSome result (λ r. IfErr r (IsFirstReason whole platform.now ps)) }
+        ensures more { (ps : List Participant) → SumsUp self.now platform.now ps
+            → IfNone result (self.now.joined < length platform.now.pairs) }
     {
-        match self.best_settings(platform, whole) {
-            Ok(_) => Ok(()),
-            Err(reason) => Err(reason),
+        match self.best_settings(platform, whole)? {
+            Ok(_) => Some(Ok(())),
+            Err(reason) => Some(Err(reason)),
         }
-    }
-}
-
-/// Whether some number of buffers and some place suit the participants of whom these counts are
-/// kept, and whose first place this is.
-fn has_count_and_place(counts: &CountBounds, place: Option<Place>) -> bool
-    ensures { (platform : PlatformFacts) (ps : List Participant)
-        → IsTallyOf counts.now (counts_asked ps)
-        → IsPlaced platform ps place → IsTrue result ↔ HasCountAndPlace platform ps }
-{
-    match counts.least_count() {
-        Ok(_) => place.is_some(),
-        Err(_) => false,
     }
 }

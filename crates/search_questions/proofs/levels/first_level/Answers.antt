@@ -26,17 +26,26 @@ join_of-requires c =
     let m = c.args.subject.now in
     let d = numbers m in
     let few = few_settled m.nodes m.domain [] d c.recall.ensures.tree (root_there m.nodes m.domain c.recall.ensures.domain) refl in
-    have_room m.platform m.nodes m.base c.in_ok-none.none c.add_settled.new.part [] (asked_in m.nodes (settled d)) c.in_ok-none.ensures
+    have_room m.platform m.nodes m.base c.in_ok-none.none c.add_settled.new.part [] (asked_in m.nodes (settled d)) c.in_ok-none.ensures.kept
     (c.add_settled.ensures (settled d) (c.settled_first-walk.ensures d c.requires.lays)) (few_accepted m.platform m.nodes m.domain m.base c.recall.ensures.tree.few c.recall.ensures.base)
     (omega arith) (omega (arith, few, few_asked_of m.nodes (settled d)))
 
-pub returns : goal.returns
-returns c =
+pub returns-clause-level : goal.returns-clause-level
+returns-clause-level c =
     let m = c.args.subject.now in
     let d = numbers m in record {
       left = forest m;
       leads = refl;
-      kept = subst (IsKeptFor m c.join_of.new.self) (same_asked m.nodes m.domain [] d (forest m) refl refl)
-          (c.join_of.ensures [] [] (asked_in m.nodes (settled d)) c.in_ok-kept.ensures c.in_ok-none.ensures (c.add_settled.ensures (settled d) (c.settled_first-walk.ensures d c.requires.lays)));
+      kept = subst (IsKeptFor m c.join_pairs.new.self) (same_asked m.nodes m.domain [] d (forest m) refl refl)
+          (c.join_pairs.ensures.kept m [] (asked_in m.nodes (settled d)) (c.join_of.ensures [] [] (asked_in m.nodes (settled d)) c.in_ok-kept.ensures.kept c.in_ok-none.ensures.kept (c.add_settled.ensures (settled d) (c.settled_first-walk.ensures d c.requires.lays)))
+          c.in_ok-none.ensures.kept (c.add_settled.ensures (settled d) (c.settled_first-walk.ensures d c.requires.lays)));
       group = c.first_open-group.ensures d c.requires.lays;
     }
+
+pub returns-clause-joined : goal.returns-clause-joined
+returns-clause-joined c =
+    let m = c.args.subject.now in
+    let d = numbers m in
+    let part = c.add_settled.ensures (settled d) (c.settled_first-walk.ensures d c.requires.lays) in
+    c.join_pairs.ensures.joined m [] (asked_in m.nodes (settled d)) (c.join_of.ensures [] [] (asked_in m.nodes (settled d)) c.in_ok-kept.ensures.kept c.in_ok-none.ensures.kept part)
+    c.in_ok-none.ensures.kept part c.in_ok-none.ensures.joined

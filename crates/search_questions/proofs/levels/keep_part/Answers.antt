@@ -1,6 +1,6 @@
 -- The part stands in its child's slot.
 use Rattle.std.proofs.Common.{Some, ◌∙◌, ap}
-use Rattle.search_questions.proofs.Entering.{at_index, only_slot, some_there}
+use Rattle.search_questions.proofs.Entering.{at_index, not_there, only_slot, some_there}
 use Rattle.search_questions.proofs.levels.keep_part.Goals as goal
 
 pub returns-then-is_some-clause-there : goal.returns-then-is_some-clause-there
@@ -11,3 +11,9 @@ returns-then-is_some-clause-there c = λ slot own.
 
 pub returns-clause-parts : goal.returns-clause-parts
 returns-clause-parts c = λ are. c.read_part.ensures.parts (λ place slot part own here. are place slot part own (c.reserve_slot.ensures.kept slot part here))
+
+pub returns-clause-still : goal.returns-clause-still
+returns-clause-still c = λ at part was.
+    let here = at_index c.reserve_slot.new.parts.items c.slot_of-slot.result c.index.result.now c.index.ensures c.in_ok-reserve_slot.ensures.there in
+    let there' = c.reserve_slot.ensures.still at part was in
+    c.read_part.ensures.still at part (not_there c.reserve_slot.new.parts.items c.slot_of-slot.result at c.index.result.now part c.is_some.result here c.is_some.ensures c.if-is_some.false there') there'

@@ -7,4 +7,5 @@ abbrev pub invariant-loop-more : goal.invariant-loop-more
 invariant-loop-more l = record {
   many : length l.parts.items ≡ l._more;
   kept : (at : ℕ) (part : Part) → slice_get l.parts.items at ≡ Some (Some part) → slice_get l.fn.parts.items at ≡ Some (Some part);
+  still : (at : ℕ) (part : Part) → slice_get l.fn.parts.items at ≡ Some (Some part) → slice_get l.parts.items at ≡ Some (Some part);
 }

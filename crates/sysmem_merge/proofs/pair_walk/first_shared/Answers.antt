@@ -18,7 +18,7 @@ returns-in-Some-fit_at-clause-first c ds none kept sizes =
     let i = c.loop-index.index in
     let many = kept.many in
     let pair = slice_get_some pairs i (omega (arith, many)) in
-    let one = kept.each i pair.0 c.index-kept-index.result pair.1 (slice_get_read c.args.kept.now _ i c.index-kept-index.result refl (omega arith) c.index-kept-index.is) in
+    let one = kept.these i pair.0 c.index-kept-index.result (omega arith) pair.1 (slice_get_read c.args.kept.now _ i c.index-kept-index.result refl (omega arith) c.index-kept-index.is) in
     first_with c.args.whole ds pairs colours c.in-Some-fit_at.fit (c.in_default.ensures.none ds none sizes)
     (first_image c.args.whole ds i pairs colours pair.0 c.in-Some-fit_at.fit pair.1 (c.loop-index.invariant ds none kept sizes)
     (c.in-Some-fit_at.ensures.first pair.0 ds pair.1 one sizes))
@@ -29,14 +29,17 @@ loop-index-preserved c ds none kept sizes =
     let i = c.loop-index.index in
     let many = kept.many in
     let pair = slice_get_some pairs i (omega (arith, many)) in
-    let one = kept.each i pair.0 c.index-kept-index.result pair.1 (slice_get_read c.args.kept.now _ i c.index-kept-index.result refl (omega arith) c.index-kept-index.is) in
+    let one = kept.these i pair.0 c.index-kept-index.result (omega arith) pair.1 (slice_get_read c.args.kept.now _ i c.index-kept-index.result refl (omega arith) c.index-kept-index.is) in
     refused_more c.args.whole ds i pairs c.args.platform.now.colours pair.0 pair.1 (c.loop-index.invariant ds none kept sizes)
     (c.in_default-fit_at.ensures.none pair.0 ds pair.1 one sizes)
 
 pub returns-clause-none : goal.returns-clause-none
-returns-clause-none c ds none kept sizes =
+returns-clause-none c ds none kept sizes all =
     let pairs = c.args.platform.now.pairs in
     let colours = c.args.platform.now.colours in
     let many = kept.many in
     all_refused c.args.whole ds pairs colours (c.in_default.ensures.none ds none sizes)
     (subst (λ (ps : List Pair). AreOffersRefused c.args.whole (images ps colours) ds) (take_all c.loop-index.index pairs (omega (arith, many))) (c.loop-index.invariant ds none kept sizes))
+
+pub returns-then-le-clause-none : goal.returns-then-le-clause-none
+returns-then-le-clause-none c ds none kept sizes all = absurd (omega (arith, kept.many, all))

@@ -20,13 +20,13 @@ refute_here-requires-clause-unmet t c =
 pub refute_here-requires-then-not-is_met-clause-unmet : goal.refute_here-requires-then-not-is_met-clause-unmet
 refute_here-requires-then-not-is_met-clause-unmet t c =
     let q = c.args.question.now in
-    unmet_prefix q.matter (after (forest q.matter) q.choices) c.in-Some.children c.is_met.result c.if-not-is_met.true c.in-Some.ensures.number c.is_met.ensures
+    rw c.is_met.ensures.same (unmet_prefix q.matter (after (forest q.matter) q.choices) c.in-Some.children c.is_met.result c.if-not-is_met.true c.in-Some.ensures.number c.is_met.ensures.met)
 
 pub loop-choice-init : goal.loop-choice-init
 loop-choice-init t c =
     let q = c.args.question.now in
     record {
-      same = refl;
+      same = c.is_met.ensures.same;
       added = no_choice_added q.matter (after (forest q.matter) q.choices) c.in-Some.children c.args.items.now.items c.push.new.self.items c.in-Some.ensures.number c.in_ok-push.ensures.items;
     }
 
@@ -99,4 +99,4 @@ returns-clause-refuted t c =
     let q = c.args.question.now in
     all_choices_added q.matter (after (forest q.matter) q.choices) c.loop-choice.choice c.in-Some.children c.args.items.now.items c.loop-choice.items.items
     (omega (arith, c.loop-choice-test.false)) c.loop-choice.auto.choice-end c.in-Some.ensures.number
-    (met_prefix q.matter (after (forest q.matter) q.choices) c.is_met.result c.if-not-is_met.false c.is_met.ensures) c.loop-choice.invariant.added
+    (met_prefix q.matter (after (forest q.matter) q.choices) c.is_met.result c.if-not-is_met.false c.is_met.ensures.met) c.loop-choice.invariant.added

@@ -1,13 +1,13 @@
 -- What a search keeps at no choice.
-use Rattle.std.proofs.Common.{arith, ◌≡◌, ◌≤◌, ℕ, zero, suc, List, [], ◌∷◌, ◌++◌, Option, Some, slice_get, take, ◌∙◌, ap, subst}
+use Rattle.std.proofs.Common.{arith, ◌≡◌, ◌≤◌, ℕ, zero, suc, List, [], ◌∷◌, ◌++◌, Option, Some, length, slice_get, take, sym, ◌∙◌, ap, subst}
 use Rattle.std.specs.Prelude.{IsSomeAnd}
 use Rattle.std.proofs.lemmas.Option.{slice_get_within, same_Some}
 use Rattle.verdict_claims.specs.Members.{participants}
 use Rattle.search_questions.specs.declared.kept.Part.{Part}
 use Rattle.search_questions.specs.declared.levels.Level.{Level}
-use Rattle.search_questions.specs.Kept.{IsKeptFor}
+use Rattle.search_questions.specs.Kept.{HasJoined, IsKeptFor}
 use Rattle.verdict_claims.specs.Matter.{Matter}
-use Rattle.search_questions.specs.Standing.{AreLevels, AreMade, IsLevel}
+use Rattle.search_questions.specs.Standing.{AreLevels, AreMade, AreStacked, IsLevel, asked_of, settled_by}
 use Rattle.sysmem_tree.specs.declared.layout.Layout.{Layout}
 use Rattle.sysmem_tree.specs.Forest.{settled}
 use Rattle.search_questions.proofs.question.Question.new.Goals as goal
@@ -33,6 +33,18 @@ module _ (m : Matter) (layout : Layout) (first : Level) (is : IsLevel m layout [
   one_front : (levels : List Level) (cs : List ℕ) → levels ≡ first ∷ [] → cs ≡ [] → AreLevels m layout cs levels
   one_front levels cs same none = rw (same, none) front
 
+  -- on which nothing stands
+  one_stacked : (parts : List (Option Part)) (levels : List Level) (cs : List ℕ) → HasJoined (length m.platform.pairs) first.kept → levels ≡ first ∷ [] → cs ≡ []
+      → AreStacked m parts (settled_by m cs) (length cs) levels
+  one_stacked parts levels cs joined same none = rw (same, none) (record {
+    first = joined;
+    kept = at_none;
+    next = λ k below. absurd (omega (arith, below));
+  }) where
+    at_none : (k : ℕ) → k ≤ 0 → IsSomeAnd (slice_get (first ∷ []) k) (λ (l : Level). IsKeptFor m l.kept (settled_by m [] k))
+    at_none zero small = subst (IsKeptFor m first.kept) (ap asked_of (sym is.leads)) is.kept
+    at_none (suc k) small = absurd (omega (arith, small))
+
 -- behind nothing it stands alone
 only_one : (first : Level) (none levels : List Level) → none ≡ [] → levels ≡ none ++ first ∷ [] → levels ≡ first ∷ []
 only_one first none levels empty added = added ∙ ap (λ xs. xs ++ first ∷ []) empty
@@ -51,8 +63,10 @@ invariant_of-result c = (
     given = c.recall.ensures;
     laid = record { lays = c.layout-layout.ensures.lays; nodes = c.layout-layout.ensures.nodes };
     shares = λ place slot part own here. none_kept c.new-2.result.items slot part c.new-2.ensures.items here;
-    made = one_made _ c.layout-layout.result c.in_ok-first.first c.in_ok-first.ensures c.push.new.self.items (only_one c.in_ok-first.first _ _ c.in_ok-levels.ensures.items c.in_ok-push.ensures.items);
-    fronts = one_front _ c.layout-layout.result c.in_ok-first.first c.in_ok-first.ensures c.push.new.self.items _
+    made = one_made _ c.layout-layout.result c.in_ok-first.first c.in_ok-first.ensures.level c.push.new.self.items (only_one c.in_ok-first.first _ _ c.in_ok-levels.ensures.items c.in_ok-push.ensures.items);
+    stacked = one_stacked _ c.layout-layout.result c.in_ok-first.first c.in_ok-first.ensures.level c.new-2.result.items c.push.new.self.items _ c.in_ok-first.ensures.joined
+        (only_one c.in_ok-first.first _ _ c.in_ok-levels.ensures.items c.in_ok-push.ensures.items) c.new.ensures;
+    fronts = one_front _ c.layout-layout.result c.in_ok-first.first c.in_ok-first.ensures.level c.push.new.self.items _
         (only_one c.in_ok-first.first _ _ c.in_ok-levels.ensures.items c.in_ok-push.ensures.items) c.new.ensures;
   },
   c.new-3.ensures c.args.subject.now.nodes c.args.subject.now.platform.heaps,
