@@ -1,7 +1,7 @@
 -- What a search keeps where it stands, from one choice to the next.
 use Rattle.std.proofs.Common.{◌≡◌, ◌≢◌, ◌<◌, ◌≤◌, ◌+◌, ℕ, zero, suc, List, [], ◌∷◌, ◌++◌, Option, Some, None, length, take, slice_get, slice_set, get_or, is_some, Bool, true, false, refl, sym, ◌∙◌, ap, subst, arith, inl, inr, length-append}
 use Rattle.std.specs.Prelude.{IfSome, IsSomeAnd, IsPermutation, option_map}
-use Rattle.std.proofs.lemmas.Bool.{cases_eq}
+use Rattle.std.proofs.lemmas.Bool.{cases_eq, cases_le}
 use Rattle.std.proofs.lemmas.List.{take_all, length-set}
 use Rattle.std.proofs.lemmas.List.Elements.{filter_map-append}
 use Rattle.std.proofs.lemmas.List.Sorted.{length_permutation}
@@ -99,6 +99,48 @@ module _ (m : Matter) (layout : Layout) where
     stacked = stacked_of m parts levels (settled_by m longer) (settled_by m cs) (length cs) (λ k within. ap (λ xs. asked_of (after (forest m) xs)) (ap (take k) is ∙ front_of cs c k within))
         (stacked_above m parts levels (settled_by m longer) (length longer) (length cs) (subst (λ xs. length cs ≤ length xs) (sym is) (omega (arith, length-append cs (c ∷ [])))) keeps.stacked);
   }
+
+  -- with more pairs joined
+  pub joined_keeps : (parts : List (Option Part)) (levels levels' : List Level) (items cs : List ℕ) → items ≡ cs → StandsAt m layout parts levels cs
+      → ((k : ℕ) → length items < k → slice_get levels' k ≡ slice_get levels k)
+      → ((k : ℕ) → option_map (λ (l : Level). l.group) (slice_get levels' k) ≡ option_map (λ (l : Level). l.group) (slice_get levels k))
+      → ((at : ℕ → List Participant) → AreStacked m parts at (length items) levels → AreStacked m parts at (length items) levels')
+      → StandsAt m layout parts levels' cs
+  joined_keeps parts levels levels' items cs at keeps below groups joined = record {
+    given = keeps.given;
+    laid = keeps.laid;
+    shares = keeps.shares;
+    made = made;
+    fronts = fronts;
+    stacked = stacked;
+  } where
+    stacked : AreStacked m parts (settled_by m cs) (length cs) levels'
+    stacked = subst (λ xs. AreStacked m parts (settled_by m cs) (length xs) levels') at
+        (joined (settled_by m cs) (subst (λ xs. AreStacked m parts (settled_by m cs) (length xs) levels) (sym at) keeps.stacked))
+
+    made : AreMade m levels'
+    made k level here = elim (cases_le k (length cs)) [
+      | inl within ↦
+          let (l, one, kept) = there _ (slice_get levels' k) (stacked.kept k within) in
+          (settled_by m cs k, subst (λ x. IsKeptFor m x.kept (settled_by m cs k)) (same_Some l level (sym one ∙ here)) kept)
+      | inr past ↦ keeps.made k level (sym (below k (subst (λ xs. length xs < k) (sym at) past)) ∙ here)
+    ]
+
+    fronts : AreLevels m layout cs levels'
+    fronts k within =
+        let (l, here, is) = there (IsLevel m layout (take k cs)) (slice_get levels k) (keeps.fronts k within) in
+        let (l', here', kept) = there _ (slice_get levels' k) (stacked.kept k within) in
+        let same : l'.group ≡ l.group = same_Some l'.group l.group (sym (ap (option_map (λ (x : Level). x.group)) here') ∙ (groups k ∙ ap (option_map (λ (x : Level). x.group)) here)) in
+        and_there (IsLevel m layout (take k cs)) (slice_get levels' k) l' here' (record {
+          left = is.left;
+          leads = is.leads;
+          kept = subst (IsKeptFor m l'.kept) (ap asked_of is.leads) kept;
+          group = subst (IsFirstOpen layout (numbers m) (take k cs)) (sym same) is.group;
+        })
+
+  -- the participants there are those of what the choices leave
+  pub settled_here : (items cs : List ℕ) (d : Forest Member) → items ≡ cs → after (forest m) cs ≡ Some d → settled_by m cs (length items) ≡ participants (settled d)
+  settled_here items cs d at leads = ap asked_of (ap (after (forest m)) (ap (λ xs. take (length xs) cs) at ∙ take_all (length cs) cs (omega arith)) ∙ leads)
 
   -- with one choice more, below whose level nothing changed
   pub entered_keeps : (parts parts' : List (Option Part)) (levels between levels' : List Level) (cs longer : List ℕ) (c : ℕ) → longer ≡ cs ++ c ∷ [] → StandsAt m layout parts levels cs

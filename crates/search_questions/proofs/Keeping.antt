@@ -1,6 +1,6 @@
 -- What is kept, of either kind of domain.
 use Rattle.std.proofs.Common.{◌≡◌, ◌≤◌, ◌<◌, ◌^◌, ◌+◌, ◌*◌, Bool, true, false, List, [], ◌++◌, Option, Some, None, length, refl, sym, ◌∙◌, ap, subst, arith}
-use Rattle.std.specs.Prelude.{◌↔◌, All, IsTrue, OnOk, IfErr, Result, Ok, Err, is_ok, option_map}
+use Rattle.std.specs.Prelude.{◌↔◌, All, IsTrue, IfOk, IfErr, MatchOption, Result, Ok, Err, is_ok, is_some, option_map}
 use Rattle.std.specs.List.Sorted.{IsPermutation}
 use Rattle.std.proofs.lemmas.List.{map-append}
 use Rattle.std.proofs.lemmas.List.Elements.{filter_map-append}
@@ -15,7 +15,6 @@ use Rattle.sysmem_merge.specs.Best as best
 use Rattle.offer_fits.specs.Demands.{counts_asked}
 use Rattle.sysmem_merge.specs.Settings.{CoversOn}
 use Rattle.sysmem_merge.specs.Sum.{SumFacts, SumsUp, SumsInAnyOrder}
-use Rattle.sysmem_merge.specs.Sum as sum
 use Rattle.verdict_claims.specs.Base.{BaseFacts, terms_of}
 use Rattle.verdict_claims.specs.Members.{participants, members_at}
 use Rattle.verdict_claims.specs.Verdict.{MeetsFixed, MeetsFor, MeetsLooselyFor, IsBestFor}
@@ -26,7 +25,9 @@ use Rattle.search_questions.specs.declared.kept.Kept.TheVariants as kept_as
 use Rattle.search_questions.specs.declared.kept.Part.{Part}
 use Rattle.search_questions.specs.declared.kept.Part.TheVariants as part_as
 use Rattle.search_questions.specs.declared.on_base.OnBase.{OnBase}
-use Rattle.search_questions.specs.Kept.{TakesBase, IsKeptOf, IsPart, HasRoom, HaveRoom}
+use Rattle.search_questions.specs.Kept.{TakesBase, IsKeptFor, IsKeptOf, IsPart, HasRoom, HaveRoom}
+use Rattle.search_questions.specs.Question.{IsAnswered, IsBestOf, MeetsAsOf, MeetsOf, MeetsSoFar}
+use Rattle.verdict_claims.specs.Matter.{Matter}
 use Rattle.verdict_claims.specs.Asked.{asked_in}
 use Rattle.search_questions.proofs.Shapes.{member_asks}
 use Rattle.search_questions.proofs.AskedMembers.{accepted_asked}
@@ -82,22 +83,44 @@ module _ (platform : PlatformFacts) (nodes : List NodeFacts) (base : Option Base
           never true e t = absurd (cc)
           never false e t = absurd (cc)
 
--- a sum was asked whether more may meet it
-pub record SumAsked (platform : PlatformFacts) (kept : SumFacts) (r : Result Unit Reason) : Type 0 where
-  pub met : (ps : List Participant) → SumsUp kept platform ps → OnOk r (sum.IsMet false platform ps)
-  pub none : (ps : List Participant) → SumsUp kept platform ps → IfErr r (λ _. best.IsUnmet false platform ps)
+-- a sum was asked for its best settings
+pub record SumAsked (platform : PlatformFacts) (kept : SumFacts) (whole : Bool) (r : Result Settings Reason) : Type 0 where
+  pub best : (ps : List Participant) → SumsUp kept platform ps → IfOk r (best.IsBest whole platform ps)
+  pub none : (ps : List Participant) → SumsUp kept platform ps → IfErr r (λ _. best.IsUnmet whole platform ps)
 
--- a sum of the members of an initial domain
-pub sum_met : (platform : PlatformFacts) (nodes : List NodeFacts) (base : Option BaseFacts) (ms : List Member) (kept : SumFacts) (r : Result Unit Reason) (met : Bool) → met ≡ is_ok r
-    → SumAsked platform kept r
-    → IsKeptOf platform nodes base (kept_as.Sum kept) (participants ms) → IsTrue met ↔ ((t : Settings) × MeetsLooselyFor platform (option_map (terms_of nodes) base) ms t)
-sum_met platform nodes (Some b) ms kept r met is asked keeps = absurd keeps
-sum_met platform nodes None ms kept r met is asked keeps = subst (λ x. IsTrue x ↔ ((t : Settings) × MeetsLooselyFor platform None ms t)) (sym is)
-    (by r (asked.met (participants ms) keeps) (asked.none (participants ms) keeps)) where
-      by : (r : Result Unit Reason) → OnOk r (sum.IsMet false platform (participants ms)) → IfErr r (λ _. best.IsUnmet false platform (participants ms))
-          → IsTrue (is_ok r) ↔ ((t : Settings) × MeetsLooselyFor platform None ms t)
-      by (Ok u) m n = (λ _. m, λ _. refl)
-      by (Err e) m n = (λ is. absurd (cc), λ t. absurd (n t.0 t.1))
+-- a sum of the members of an initial domain, of a selection
+sum_whole : (platform : PlatformFacts) (nodes : List NodeFacts) (base : Option BaseFacts) (ms : List Member) (kept : SumFacts) (r : Result Settings Reason) → SumAsked platform kept true r
+    → IsKeptOf platform nodes base (kept_as.Sum kept) (participants ms)
+    → (found : Option Settings) × (is_ok r ≡ is_some found) × MatchOption found ((t : Settings) → ¬ (MeetsFor platform (option_map (terms_of nodes) base) ms t))
+    (λ s. MeetsFor platform (option_map (terms_of nodes) base) ms s × (true ≡ true → IsBestFor platform (option_map (terms_of nodes) base) ms s))
+sum_whole platform nodes (Some b) ms kept r asked keeps = absurd keeps
+sum_whole platform nodes None ms kept (Ok s) asked keeps = let is = asked.best (participants ms) keeps in (Some s, refl, (is.meets, λ _. is))
+sum_whole platform nodes None ms kept (Err e) asked keeps = (None, refl, asked.none (participants ms) keeps)
+
+-- and as long as more may come
+sum_so_far : (platform : PlatformFacts) (nodes : List NodeFacts) (base : Option BaseFacts) (ms : List Member) (kept : SumFacts) (r : Result Settings Reason) → SumAsked platform kept false r
+    → IsKeptOf platform nodes base (kept_as.Sum kept) (participants ms)
+    → (found : Option Settings) × (is_ok r ≡ is_some found) × MatchOption found ((t : Settings) → ¬ (MeetsLooselyFor platform (option_map (terms_of nodes) base) ms t))
+    (λ s. MeetsLooselyFor platform (option_map (terms_of nodes) base) ms s × (false ≡ true → IsBestFor platform (option_map (terms_of nodes) base) ms s))
+sum_so_far platform nodes (Some b) ms kept r asked keeps = absurd keeps
+sum_so_far platform nodes None ms kept (Ok s) asked keeps = let is = asked.best (participants ms) keeps in (Some s, refl, (is.meets, λ e. absurd (cc e)))
+sum_so_far platform nodes None ms kept (Err e) asked keeps = (None, refl, asked.none (participants ms) keeps)
+
+pub sum_answered : (whole : Bool) (m : Matter) (ms : List Member) (kept : SumFacts) (r : Result Settings Reason) (met : Bool) → met ≡ is_ok r → SumAsked m.platform kept whole r
+    → IsKeptFor m (kept_as.Sum kept) (participants ms) → IsAnswered whole m ms met
+sum_answered true m ms kept r met is asked keeps = subst (IsAnswered true m ms) (sym is) (sum_whole m.platform m.nodes m.base ms kept r asked keeps)
+sum_answered false m ms kept r met is asked keeps = subst (IsAnswered false m ms) (sym is) (sum_so_far m.platform m.nodes m.base ms kept r asked keeps)
+
+-- where settings are answered, some meet
+pub answered_met : (m : Matter) (ms : List Member) (met : Bool) → IsAnswered false m ms met → IsTrue met ↔ ((t : Settings) × MeetsSoFar m ms t)
+answered_met m ms met (Some s, is, h) = (λ _. (s, h.0), λ _. is)
+answered_met m ms met (None, is, none) = (λ yes'. absurd (cc (is, yes')), λ t. absurd (none t.0 t.1))
+
+-- and of a selection the best
+pub answered_best : (m : Matter) (ms : List Member) (found : Option Settings) → MatchOption found ((t : Settings) → ¬ (MeetsAsOf true m ms t)) (λ s. MeetsAsOf true m ms s × (true ≡ true → IsBestOf m ms s))
+    → MatchOption found ((t : Settings) → ¬ (MeetsOf m ms t)) (IsBestOf m ms)
+answered_best m ms (Some s) h = h.1 refl
+answered_best m ms None none = none
 
 -- what is kept of a prefix and of a choice, joined
 pub joined_base : (above more joined : OnBase) → ((platform : PlatformFacts) (settings : Settings) (earlier ps qs : List Participant) → TakesBase platform settings earlier above ps
