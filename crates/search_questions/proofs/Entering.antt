@@ -1,7 +1,7 @@
 -- What a search keeps where it stands, from one choice to the next.
 use Rattle.std.proofs.Common.{◌≡◌, ◌≢◌, ◌<◌, ◌≤◌, ◌+◌, ℕ, zero, suc, List, [], ◌∷◌, ◌++◌, Option, Some, None, length, take, slice_get, slice_set, get_or, is_some, Bool, true, false, refl, sym, ◌∙◌, ap, subst, arith, inl, inr, length-append}
 use Rattle.std.specs.Prelude.{IfSome, IsSomeAnd, IsPermutation, option_map}
-use Rattle.std.proofs.lemmas.Bool.{cases_eq, cases_le}
+use Rattle.std.proofs.lemmas.Bool.{cases_eq, cases_lt}
 use Rattle.std.proofs.lemmas.List.{take_all, length-set}
 use Rattle.std.proofs.lemmas.List.Elements.{filter_map-append}
 use Rattle.std.proofs.lemmas.List.Sorted.{length_permutation}
@@ -119,11 +119,11 @@ module _ (m : Matter) (layout : Layout) where
         (joined (settled_by m cs) (subst (λ xs. AreStacked m parts (settled_by m cs) (length xs) levels) (sym at) keeps.stacked))
 
     made : AreMade m levels'
-    made k level here = elim (cases_le k (length cs)) [
+    made k level here = elim (cases_lt k (length cs + 1)) [
       | inl within ↦
-          let (l, one, kept) = there _ (slice_get levels' k) (stacked.kept k within) in
+          let (l, one, kept) = there _ (slice_get levels' k) (stacked.kept k (omega (arith, within))) in
           (settled_by m cs k, subst (λ x. IsKeptFor m x.kept (settled_by m cs k)) (same_Some l level (sym one ∙ here)) kept)
-      | inr past ↦ keeps.made k level (sym (below k (subst (λ xs. length xs < k) (sym at) past)) ∙ here)
+      | inr past ↦ keeps.made k level (sym (below k (subst (λ xs. length xs < k) (sym at) (omega (arith, past)))) ∙ here)
     ]
 
     fronts : AreLevels m layout cs levels'
