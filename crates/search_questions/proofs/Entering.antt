@@ -15,11 +15,11 @@ use Rattle.search_questions.specs.declared.levels.Level.{Level}
 use Rattle.search_questions.specs.Kept.{IsKeptFor, IsPartFor, HaveRoom}
 use Rattle.verdict_claims.specs.Matter.{Matter, forest}
 use Rattle.verdict_claims.specs.Asked.{asks_at, asked_in}
-use Rattle.search_questions.specs.Standing.{IsLevel, AreLevels, AreMade, AreParts, AreStacked, IsSlot, StandsAt, asked_of, numbers, settled_by}
+use Rattle.search_questions.specs.Standing.{IsLevel, AreLevels, AreMade, AreParts, AreStacked, IsNext, IsSlot, StandsAt, asked_of, numbers, settled_by}
 use Rattle.search_questions.proofs.Keeping.{kept_in_order, have_room}
 use Rattle.search_questions.proofs.AskedMembers.{root_there, numbers_left, same_asked, some_of, if_some}
 use Rattle.search_questions.proofs.Shapes.{few_settled}
-use Rattle.search_questions.proofs.Stacking.{AreStillKept, IsNext, some_weaker, stacked_above, stacked_below, stacked_of, stacked_still}
+use Rattle.search_questions.proofs.Stacking.{AreStillKept, some_weaker, stacked_above, stacked_below, stacked_of, stacked_still, there}
 use Rattle.search_questions.proofs.Taking.{few_asked_of}
 use Rattle.search_questions.proofs.Walking.{few_accepted}
 use Rattle.sysmem_tree.specs.declared.layout.Layout.{Layout}
@@ -29,11 +29,6 @@ use Rattle.sysmem_tree.specs.LayoutLaws.{ChoiceSettlesShare, NoneOpenIsSelection
 use Rattle.sysmem_tree.specs.OpenGroups.{IsChildPlace, IsFirstOpen, share_of}
 use Rattle.sysmem_tree.specs.Selection.{after, IsPrefix}
 use Rattle.sysmem_tree.specs.Shape.{Member}
-
--- goes out of an option that is there
-pub there : {X : Type 0} (P : X → Type 0) (o : Option X) → IsSomeAnd o P → (x : X) × (o ≡ Some x) × P x
-there P None h = absurd h
-there P (Some x) h = (x, refl, h)
 
 pub and_there : {X : Type 0} (P : X → Type 0) (o : Option X) (x : X) → o ≡ Some x → P x → IsSomeAnd o P
 and_there P None x is h = absurd (cc)

@@ -1,13 +1,21 @@
 -- Levels, each of which stands on that above.
-use Rattle.std.proofs.Common.{◌≡◌, ◌<◌, ◌≤◌, ◌+◌, ℕ, List, Option, Some, None, length, slice_get, sym, subst, arith, inl, inr}
+use Rattle.std.proofs.Common.{◌≡◌, ◌≢◌, ◌<◌, ◌≤◌, ◌+◌, ℕ, List, Option, Some, None, length, slice_get, refl, sym, ◌∙◌, subst, arith, inl, inr}
 use Rattle.std.specs.Prelude.{IsSomeAnd}
 use Rattle.std.proofs.lemmas.Bool.{cases_eq}
+use Rattle.std.proofs.lemmas.Option.{same_Some}
 use Rattle.negotiation_inputs.specs.Participant.{Participant}
+use Rattle.search_questions.specs.declared.kept.Kept.{Kept}
+use Rattle.search_questions.specs.declared.kept.Kept.TheVariants as kept_as
 use Rattle.search_questions.specs.declared.kept.Part.{Part}
 use Rattle.search_questions.specs.declared.levels.Level.{Level}
 use Rattle.search_questions.specs.Kept.{HasJoined, IsKeptFor}
-use Rattle.search_questions.specs.Standing.{AreStacked, StandsOn}
+use Rattle.search_questions.specs.Standing.{AreStacked, IsNext, StandsOn}
 use Rattle.verdict_claims.specs.Matter.{Matter}
+
+-- goes out of an option that is there
+pub there : {X : Type 0} (P : X → Type 0) (o : Option X) → IsSomeAnd o P → (x : X) × (o ≡ Some x) × P x
+there P None h = absurd h
+there P (Some x) h = (x, refl, h)
 
 pub some_weaker : {X : Type 0} (P Q : X → Type 0) (o : Option X) → ((x : X) → P x → Q x) → IsSomeAnd o P → IsSomeAnd o Q
 some_weaker P Q None h p = absurd p
@@ -16,10 +24,6 @@ some_weaker P Q (Some x) h p = h x p
 -- what is kept in a slot is kept there still
 abbrev pub AreStillKept : List (Option Part) → List (Option Part) → Type 0
 AreStillKept parts parts' = (slot : ℕ) (part : Part) → slice_get parts slot ≡ Some (Some part) → slice_get parts' slot ≡ Some (Some part)
-
--- a level is kept for participants, and stands on those above
-abbrev pub IsNext : Matter → List (Option Part) → List Participant → List Participant → Level → Type 0
-IsNext m parts above below level = IsKeptFor m level.kept below × StandsOn m parts level.slot above below
 
 module _ (m : Matter) (parts parts' : List (Option Part)) (still : AreStillKept parts parts') where
   on_still : (slot : ℕ) (above below : List Participant) → StandsOn m parts slot above below → StandsOn m parts' slot above below
@@ -76,3 +80,33 @@ module _ (m : Matter) (parts : List (Option Part)) (levels : List Level) where
       | inr other ↦ are.next k (omega (arith, below, other))
     ];
   }
+
+-- a level was joined below a depth, and no other changed
+abbrev pub IsJoinedBelow : Matter → List (Option Part) → List Level → List Level → ℕ → ℕ → Type 0
+IsJoinedBelow m parts levels levels' depth many = (ps rs : List Participant) (above old : Level) → slice_get levels depth ≡ Some above → slice_get levels (depth + 1) ≡ Some old
+    → StandsOn m parts old.slot ps rs → IsKeptFor m above.kept ps → IsKeptFor m old.kept rs
+    → IsSomeAnd (slice_get levels' (depth + 1)) (λ level. IsNext m parts ps rs level × (HasJoined many above.kept → HasJoined many level.kept))
+
+-- so the levels are stacked with more pairs joined: those of the level above were joined first
+pub stacked_joined : (m : Matter) (parts : List (Option Part)) (at : ℕ → List Participant) (depth many : ℕ) (levels between levels' : List Level)
+    → AreStacked m parts at (depth + 1) levels → AreStacked m parts at depth between → ((k : ℕ) → depth < k → slice_get between k ≡ slice_get levels k)
+    → ((k : ℕ) → k ≢ depth + 1 → slice_get levels' k ≡ slice_get between k) → IsJoinedBelow m parts between levels' depth many
+    → AreStacked m parts at (depth + 1) levels'
+    × (IsSomeAnd (slice_get between depth) (λ level. HasJoined many level.kept) → IsSomeAnd (slice_get levels' (depth + 1)) (λ level. HasJoined many level.kept))
+stacked_joined m parts at depth many levels between levels' are above_are below same joined =
+    let (above, above_is, above_kept) = there (λ (l : Level). IsKeptFor m l.kept (at depth)) (slice_get between depth) (above_are.kept depth (omega arith)) in
+    let (old, old_is, old_kept) = there (λ (l : Level). IsKeptFor m l.kept (at (depth + 1))) (slice_get levels (depth + 1)) (are.kept (depth + 1) (omega arith)) in
+    let (old', old_is', old_on) = there (λ (l : Level). StandsOn m parts l.slot (at depth) (at (depth + 1))) (slice_get levels (depth + 1)) (are.next depth (omega arith)) in
+    let on = subst (λ (l : Level). StandsOn m parts l.slot (at depth) (at (depth + 1))) (same_Some old' old (sym old_is' ∙ old_is)) old_on in
+    let made = joined (at depth) (at (depth + 1)) above old above_is (below (depth + 1) (omega arith) ∙ old_is) on above_kept old_kept in (
+      stacked_below m parts levels' at depth (stacked_still m parts parts (λ slot part is. is) at depth between levels' (λ k within. same k (λ e. omega (arith, e, within))) above_are)
+          (some_weaker _ (IsNext m parts (at depth) (at (depth + 1))) (slice_get levels' (depth + 1)) (λ level is. is.0) made),
+      λ has. let (above', above_is', is) = there (λ (l : Level). HasJoined many l.kept) (slice_get between depth) has in
+          some_weaker _ (λ (l : Level). HasJoined many l.kept) (slice_get levels' (depth + 1))
+          (λ level one. one.1 (subst (λ (l : Level). HasJoined many l.kept) (same_Some above' above (sym above_is' ∙ above_is)) is)) made,
+    )
+
+-- what is kept of fewer pairs than of all
+pub fewer_joined : (many all : ℕ) (kept : Kept) → many ≤ all → HasJoined all kept → HasJoined many kept
+fewer_joined many all (kept_as.Sum sum) less has = omega (arith, less, has)
+fewer_joined many all (kept_as.OnBase kept) less has = tt

@@ -68,6 +68,12 @@ pub record StandsOn (m : Matter) (parts : List (Option Part)) (slot : ℕ)
   pub asks : IsPartFor m part more
   pub order : IsPermutation (above ++ more) below
 
+-- a level is kept for participants, and stands on those above
+abbrev pub IsNext : Matter → List (Option Part) → List Participant → List Participant → Level
+    → Type 0
+IsNext m parts above below level =
+    IsKeptFor m level.kept below × StandsOn m parts level.slot above below
+
 -- each level down to a depth is kept for the participants at it, and stands on that above; at no
 -- choice each pair is joined
 pub record AreStacked (m : Matter) (parts : List (Option Part)) (at : ℕ → List Participant)

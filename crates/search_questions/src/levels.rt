@@ -4,7 +4,7 @@ ghost use Rattle.std.specs.Prelude.{◌≡◌, ◌≢◌, ◌<◌, ◌≤◌, �
 ghost use Rattle.negotiation_inputs.specs.Participant.{Participant};
 ghost use Rattle.search_questions.specs.Kept.{IsKeptFor, IsPartFor, HasJoined, HaveRoom};
 ghost use Rattle.search_questions.specs.Question.{IsAnswered, MeetsOf, IsBestOf};
-ghost use Rattle.search_questions.specs.Standing.{AreMade, AreParts, AreStacked, IsLevel, IsSlot, LaysOut};
+ghost use Rattle.search_questions.specs.Standing.{AreMade, AreParts, AreStacked, IsLevel, IsNext, IsSlot, LaysOut, StandsOn};
 ghost use Rattle.search_questions.specs.declared.kept.Part.{Part as APart};
 ghost use Rattle.search_questions.specs.declared.levels.Level.{Level as ALevel};
 ghost use Rattle.sysmem_merge.specs.declared.settings.Settings.{Settings as Settled};
@@ -63,10 +63,31 @@ pub(crate) fn join_level(
     level.slot = slot;
 }
 
+/// Has the first pairs, so many, joined at the level below this depth, if they are at this depth.
+fn join_pairs_below(levels: &mut [Level], parts: &[Option<Part>], depth: usize, many: usize)
+    requires there { depth + 1 < length levels.old }
+    ensures same { (k : ℕ) → k ≢ depth + 1
+        → slice_get levels.new k ≡ slice_get levels.old k }
+    ensures group { option_map (λ l. l.group) (slice_get levels.new (depth + 1))
+        ≡ option_map (λ l. l.group) (slice_get levels.old (depth + 1)) }
+    ensures joined { (m : Matter) (ps rs : List Participant) (above old : ALevel)
+        → slice_get levels.old depth ≡ Some above
+        → slice_get levels.old (depth + 1) ≡ Some old → StandsOn m parts.now old.slot ps rs
+        → IsKeptFor m above.kept ps → IsKeptFor m old.kept rs
+        → IsSomeAnd (slice_get levels.new (depth + 1)) (λ level. IsNext m parts.now ps rs level
+        × (HasJoined many above.kept → HasJoined many level.kept)) }
+{
+    sums_in_any_order();
+    let (above, below) = levels.split_at_mut(depth + 1);
+    let level = &mut below[0];
+    if let Some(Some(part)) = parts.get(level.slot) {
+        level.kept.join_pairs(&above[depth].kept, part, many);
+    }
+}
+
 /// Has the first pairs, so many, joined at this depth, from the last level above where they are.
 fn join_pairs_at(levels: &mut [Level], parts: &[Option<Part>], depth: usize, many: usize)
     requires there { depth < length levels.old }
-    ensures long { length levels.new ≡ length levels.old }
     ensures below { (k : ℕ) → depth < k → slice_get levels.new k ≡ slice_get levels.old k }
     ensures groups { (k : ℕ) → option_map (λ l. l.group) (slice_get levels.new k)
         ≡ option_map (λ l. l.group) (slice_get levels.old k) }
@@ -77,16 +98,11 @@ fn join_pairs_at(levels: &mut [Level], parts: &[Option<Part>], depth: usize, man
         → AreStacked m parts.now at depth levels.old → many ≤ length m.platform.pairs
         → IsSomeAnd (slice_get levels.new depth) (λ level. HasJoined many level.kept) }
 {
-    sums_in_any_order();
     if depth == 0 || levels[depth].kept.has_joined(many) {
         return;
     }
     join_pairs_at(levels, parts, depth - 1, many);
-    let (above, below) = levels.split_at_mut(depth);
-    let level = &mut below[0];
-    if let Some(Some(part)) = parts.get(level.slot) {
-        level.kept.join_pairs(&above[depth - 1].kept, part, many);
-    }
+    join_pairs_below(levels, parts, depth - 1, many);
 }
 
 /// Whether some settings meet the participants at this depth, who are all that there are where they
@@ -101,7 +117,6 @@ pub(crate) fn has_best_at(
     requires there { depth < length levels.old.items }
     requires stacked { (at : ℕ → List Participant)
         × AreStacked subject.now parts.now at depth levels.old.items }
-    ensures long { length levels.new.items ≡ length levels.old.items }
     ensures below { (k : ℕ) → depth < k
         → slice_get levels.new.items k ≡ slice_get levels.old.items k }
     ensures groups { (k : ℕ) → option_map (λ l. l.group) (slice_get levels.new.items k)
@@ -115,7 +130,7 @@ pub(crate) fn has_best_at(
 {
     let all = subject.platform().pairs().len();
     let mut many = 1;
-    for _step in 0..=all {
+    for _step in 0..all {
         if let Some(met) = levels[depth].kept.has_best(subject, whole) {
             return met;
         }
@@ -123,7 +138,10 @@ pub(crate) fn has_best_at(
         join_pairs_at(levels, parts, depth, many);
         many = many.saturating_mul(2);
     }
-    unreachable!()
+    match levels[depth].kept.has_best(subject, whole) {
+        Some(met) => met,
+        None => unreachable!(),
+    }
 }
 
 /// The best settings for the participants at this depth, who are all that there are. Each pair is
@@ -135,7 +153,6 @@ pub(crate) fn best_at(
     depth: usize,
 ) -> Option<Settings>
     requires there { depth < length levels.old.items }
-    ensures long { length levels.new.items ≡ length levels.old.items }
     ensures below { (k : ℕ) → depth < k
         → slice_get levels.new.items k ≡ slice_get levels.old.items k }
     ensures groups { (k : ℕ) → option_map (λ l. l.group) (slice_get levels.new.items k)

@@ -7,7 +7,8 @@ use Rattle.search_questions.specs.Question.{MeetsOf, IsBestOf}
 use Rattle.search_questions.specs.Standing.{AreStacked, IsLevel, settled_by}
 use Rattle.verdict_claims.specs.Matter.{forest}
 use Rattle.search_questions.proofs.AskedMembers.{if_some}
-use Rattle.search_questions.proofs.Entering.{joined_keeps, level_here, level_within, settled_here, there}
+use Rattle.search_questions.proofs.Entering.{joined_keeps, level_here, level_within, settled_here}
+use Rattle.search_questions.proofs.Stacking.{there}
 use Rattle.search_questions.proofs.Keeping.{answered_best}
 use Rattle.std.specs.Prelude.{slice_get}
 use Rattle.sysmem_tree.specs.Forest.{settled}
