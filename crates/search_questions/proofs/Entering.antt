@@ -222,15 +222,15 @@ module _ (m : Matter) (layout : Layout) where
           }),
           subst (λ qs. IsNext m parts (settled_by m cs (length cs)) qs level) below_is
               (subst (λ ps. IsNext m parts ps (participants (settled d)) level) above_is (
-            kept,
-            record {
-              part = part;
-              there = subst (λ k. slice_get parts k ≡ Some (Some part)) (sym made.1.0) here;
-              more = asked_in m.nodes (share_of layout at);
-              asks = asks;
-              order = settles_more d leads;
-            },
-          )),
+                kept,
+                record {
+                  part = part;
+                  there = subst (λ k. slice_get parts k ≡ Some (Some part)) (sym made.1.0) here;
+                  more = asked_in m.nodes (share_of layout at);
+                  asks = asks;
+                  order = settles_more d leads;
+                },
+              )),
         )
 
 -- a level of one choice more was joined, from that above it and from a part

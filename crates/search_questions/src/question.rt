@@ -13,7 +13,9 @@ ghost use Rattle.sysmem_tree.specs.Forest.{choices, settled};
 ghost use Rattle.sysmem_tree.specs.Selection.{IsPrefix, after};
 
 use crate::kept::Part;
-use crate::levels::{Level, best_at, first_level, has_best_at, join_level, keep_part, reserve_level, slot_of};
+use crate::levels::{
+    Level, best_at, first_level, has_best_at, join_level, keep_part, reserve_level, slot_of,
+};
 use conflict_finding::{Learnt, Subject, find_conflict_as};
 use std::alloc::AllocError;
 use std::marker::Model;

@@ -145,7 +145,11 @@ impl Sum {
     {
         let more = share.sum();
         let joined = above.joined.min(more.joined).min(many);
-        let there = self.pairs.len().min(above.pairs.len()).min(more.pairs.len());
+        let there = self
+            .pairs
+            .len()
+            .min(above.pairs.len())
+            .min(more.pairs.len());
         let to = joined.min(there);
         if self.joined < to {
             join_pairs(&mut self.pairs, self.joined, to, &above.pairs, &more.pairs);
@@ -163,7 +167,11 @@ impl Sum {
     /// The best settings for the participants, or the first reason why none meet them:
     /// those that an aggregate of the same participants gives; `None` where more pairs need to be
     /// joined to tell. The platform is the one that it was made for. It takes no memory.
-    pub fn best_settings(&self, platform: &Platform, whole: bool) -> Option<Result<Settings, Reason>>
+    pub fn best_settings(
+        &self,
+        platform: &Platform,
+        whole: bool,
+    ) -> Option<Result<Settings, Reason>>
         ensures best { (ps : List Participant) → SumsUp self.now platform.now ps
             → IfSome result (λ r. IfOk r (IsBest whole platform.now ps)) }
         ensures none { (ps : List Participant) → SumsUp self.now platform.now ps
