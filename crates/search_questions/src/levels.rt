@@ -98,7 +98,10 @@ fn join_pairs_at(levels: &mut [Level], parts: &[Option<Part>], depth: usize, man
         → AreStacked m parts.now at depth levels.old → many ≤ length m.platform.pairs
         → IsSomeAnd (slice_get levels.new depth) (λ level. HasJoined many level.kept) }
 {
-    if depth == 0 || levels[depth].kept.has_joined(many) {
+    if depth == 0 {
+        return;
+    }
+    if levels[depth].kept.has_joined(many) {
         return;
     }
     join_pairs_at(levels, parts, depth - 1, many);
