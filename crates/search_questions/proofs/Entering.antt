@@ -116,7 +116,7 @@ module _ (m : Matter) (layout : Layout) where
     made : AreMade m levels'
     made k level here = elim (cases_lt k (length cs + 1)) [
       | inl within ↦
-          let (l, one, kept) = there _ (slice_get levels' k) (stacked.kept k (omega (arith, within))) in
+          let (l, one, kept) = there (λ (x : Level). IsKeptFor m x.kept (settled_by m cs k)) (slice_get levels' k) (stacked.kept k (omega (arith, within))) in
           (settled_by m cs k, subst (λ x. IsKeptFor m x.kept (settled_by m cs k)) (same_Some l level (sym one ∙ here)) kept)
       | inr past ↦ keeps.made k level (sym (below k (subst (λ xs. length xs < k) (sym at) (omega (arith, past)))) ∙ here)
     ]
@@ -124,7 +124,7 @@ module _ (m : Matter) (layout : Layout) where
     fronts : AreLevels m layout cs levels'
     fronts k within =
         let (l, here, is) = there (IsLevel m layout (take k cs)) (slice_get levels k) (keeps.fronts k within) in
-        let (l', here', kept) = there _ (slice_get levels' k) (stacked.kept k within) in
+        let (l', here', kept) = there (λ (x : Level). IsKeptFor m x.kept (settled_by m cs k)) (slice_get levels' k) (stacked.kept k within) in
         let same : l'.group ≡ l.group = same_Some l'.group l.group (sym (ap (option_map (λ (x : Level). x.group)) here') ∙ (groups k ∙ ap (option_map (λ (x : Level). x.group)) here)) in
         and_there (IsLevel m layout (take k cs)) (slice_get levels' k) l' here' (record {
           left = is.left;
