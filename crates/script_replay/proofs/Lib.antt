@@ -6,11 +6,12 @@ pub mod Following
 pub mod Growing
 pub mod OneDecision
 pub mod OneReply
+pub mod Proved
 pub mod Reaching
-pub mod Replying
 pub mod Results
 pub mod Since
 pub mod Stopping
+pub mod Telling
 pub mod Texts
 pub mod Told
 pub mod Walking

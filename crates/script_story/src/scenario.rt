@@ -26,7 +26,7 @@ pub struct Scenario<'a> {
 
 impl<'a> Scenario<'a> {
     /// What these calls do on the platform: the report of a script with them, and its collection.
-    pub fn tell(&self, alloc: Global, calls: &[Call<'_>]) -> Result<Replayed, AllocError>
+    pub fn tell<'c>(&self, alloc: Global, calls: &[Call<'c>]) -> Result<Replayed<'c>, AllocError>
         ensures report { IfOk result (λ told. IsReported self.now.platform.now
             (map call_seen calls.now) (anyhow self.now.platform.now)
             (string_bytes told.report.text) told.report.starved) }

@@ -26,7 +26,7 @@ pub fn story_of<'a>(
     alloc: Global,
     value: &'a Value,
     calls: &[Call<'a>],
-    told: &'a Replayed,
+    told: &'a Replayed<'a>,
 ) -> Result<Story<'a>, AllocError>
     ensures { IfOk result (AreTold (lines (string_bytes told.now.report.text))) }
 {
@@ -49,7 +49,7 @@ fn calls_of<'a>(
     alloc: Global,
     value: &'a Value,
     calls: &[Call<'a>],
-    told: &'a Replayed,
+    told: &'a Replayed<'a>,
 ) -> Result<Vec<Made<'a>>, AllocError> {
     let mut made = Vec::new(alloc);
     let values = match value.get("calls") {
@@ -125,7 +125,7 @@ fn index_of(tree: &Tree, domain: DomainId) -> usize {
 }
 
 /// Gives each node the name that the script has for it.
-fn name_nodes<'a>(nodes: &mut [Node<'a>], calls: &[Call<'a>], told: &Replayed) {
+fn name_nodes<'a>(nodes: &mut [Node<'a>], calls: &[Call<'a>], told: &Replayed<'_>) {
     if let Some(root) = nodes.first_mut() {
         root.name = "root";
     }
