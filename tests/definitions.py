@@ -24,17 +24,6 @@ def listed(text, word, known):
     return [each for part in parts for each in known.get(part, [part])]
 
 
-def array(text, word):
-    """What a constant of code has: names in quotes, or else variants."""
-    body = re.search(rf"^(?:pub(?:\(crate\))? )?const {word}\b[^=]*= ?(.*?)\];", text, re.M | re.S)[1]
-    return re.findall(r'"(\w+)"', body) or re.findall(r"::(\w+)", body)
-
-
-def function(text, word):
-    """The body of a function."""
-    return re.search(rf"^ *(?:pub(?:\(crate\))? )?fn {word}\b.*?\n\}}", text, re.M | re.S)[0]
-
-
 FORMATS_OF, NAMES = specs("sysmem_formats", "Formats"), specs("sysmem_formats", "Names")
 FORMATS = column(FORMATS_OF, "format_name")
 MODIFIERS, COLOURS = column(NAMES, "modifier_name"), column(NAMES, "colour_name")
@@ -45,9 +34,7 @@ FIELDS = column(specs("sysmem_counts", "Field"), "field_name")
 FIELDS_OF = specs("sysmem_image", "Fields")
 BOUNDS = listed(FIELDS_OF, "all_bounds", {})
 MULTIPLES = [bound for bound, rule in column(FIELDS_OF, "rule_of").items() if rule == "Multiple"]
-SIZES = [bound for bound, is_size in column(FIELDS_OF, "is_size").items() if is_size == "true"]
 READING = "".join(specs("record_reading", f"Reading/{file}") for file in ("Constraints", "Bounds", "Heaps", "Entries"))
-FLAGS = re.findall(r"flag_or (?:field\.)?(\w+)", READING)
 KNOWN = {"all_bounds": BOUNDS, "multiple_lines": MULTIPLES}
 for crate, file, words in (
     ("sysmem_image", "Lines", ("bounds_lines",)),

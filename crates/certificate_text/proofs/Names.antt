@@ -1,61 +1,25 @@
 -- The field that a name names.
-use Rattle.std.proofs.Common.{◌≡◌, ℕ, true, List, Option, Some, refl, sym, ap, ◌∙◌, ◌↔◌, bytes_eq}
+use Rattle.std.proofs.Common.{rules, ◌≡◌, ℕ, true, List, Option, Some, refl, sym, ap, ◌∙◌, ◌↔◌, bytes_eq}
 use Rattle.std.proofs.lemmas.Slice.Eq.{bytes_eq-Decides}
 use Rattle.serde_json.specs.Data.{Data}
 use Rattle.serde_json.specs.Find.{as_str}
 use Rattle.sysmem_counts.specs.declared.field.Field.{Field}
-use Rattle.sysmem_counts.specs.declared.field.Field.TheVariants as field
+use Rattle.sysmem_counts.specs.declared.field.TheConstants.Field.{ALL as all_fields}
+use Rattle.list_lemmas.proofs.Each.{found_own}
+use Rattle.list_lemmas.specs.Each.{ListsEach}
 use Rattle.sysmem_counts.specs.Field.{field_name}
 use Rattle.record_reading.specs.Reading.Names.{find_named}
 use Rattle.sysmem_sanitise.proofs.CallerLemmas.{named_by}
-use Rattle.certificate_text.specs.Fields.{all_fields, field_named}
+use Rattle.certificate_text.specs.Fields.{field_named}
 use Rattle.certificate_text.specs.Reading.{◌>>=◌, at_key, named_at}
+
+-- each is listed once
+listed_fields : ListsEach field_name all_fields
+listed_fields f = search rules
 
 -- each is found by its own name
 own_field : (f : Field) → find_named field_name all_fields (field_name f) ≡ Some f
-own_field field.Usage = refl
-own_field field.MinBufferCountForCamping = refl
-own_field field.MinBufferCountForDedicatedSlack = refl
-own_field field.MinBufferCountForSharedSlack = refl
-own_field field.MinBufferCount = refl
-own_field field.MaxBufferCount = refl
-own_field field.BufferMemoryConstraints = refl
-own_field field.ImageFormatConstraints = refl
-own_field field.MinSizeBytes = refl
-own_field field.MaxSizeBytes = refl
-own_field field.PhysicallyContiguousRequired = refl
-own_field field.SecureRequired = refl
-own_field field.CpuDomainSupported = refl
-own_field field.RamDomainSupported = refl
-own_field field.InaccessibleDomainSupported = refl
-own_field field.PermittedHeaps = refl
-own_field field.PixelFormat = refl
-own_field field.PixelFormatModifier = refl
-own_field field.PixelFormatAndModifiers = refl
-own_field field.ColorSpaces = refl
-own_field field.MinSize = refl
-own_field field.MaxSize = refl
-own_field field.SizeAlignment = refl
-own_field field.MinBytesPerRow = refl
-own_field field.MaxBytesPerRow = refl
-own_field field.BytesPerRowDivisor = refl
-own_field field.StartOffsetDivisor = refl
-own_field field.DisplayRectAlignment = refl
-own_field field.RequiredMinSize = refl
-own_field field.RequiredMaxSize = refl
-own_field field.MaxWidthTimesHeight = refl
-own_field field.RequireBytesPerRowAtPixelBoundary = refl
-own_field field.BufferCountLimit = refl
-own_field field.UnnamedPixelFormat = refl
-own_field field.UnnamedPixelFormatModifier = refl
-own_field field.UnnamedColorSpace = refl
-own_field field.Heaps = refl
-own_field field.Pairs = refl
-own_field field.HeapType = refl
-own_field field.Id = refl
-own_field field.Contiguous = refl
-own_field field.Secure = refl
-own_field field.Domains = refl
+own_field f = found_own field_name all_fields listed_fields f
 
 pub own_name : (f : Field) → field_named (field_name f) ≡ Some f
 unfolding field_named

@@ -10,20 +10,24 @@ use Rattle.json.specs.Run.{is_plain, is_stop}
 use Rattle.json.proofs.Printed.Strings.{escape_byte_plain}
 use Rattle.json.proofs.Printed.Utf8.{are_ascii, IsUtf8-are_ascii}
 use Rattle.sysmem_counts.specs.declared.field.Field.{Field}
+use Rattle.sysmem_counts.specs.declared.field.TheConstants.Field.{ALL as all_fields}
 use Rattle.sysmem_counts.specs.Field.{field_name}
 use Rattle.sysmem_formats.specs.declared.colour_space.ColourSpace.{ColourSpace}
+use Rattle.sysmem_formats.specs.declared.colour_space.TheConstants.ColourSpace.{ALL as colours}
 use Rattle.sysmem_formats.specs.declared.modifier.Modifier.{Modifier}
+use Rattle.sysmem_formats.specs.declared.modifier.TheConstants.Modifier.{ALL as modifiers}
 use Rattle.sysmem_formats.specs.declared.pixel_format.PixelFormat.{PixelFormat}
+use Rattle.sysmem_formats.specs.declared.pixel_format.TheConstants.PixelFormat.{ALL as formats}
 use Rattle.sysmem_formats.specs.Names.{format_name, modifier_name, colour_name}
 use Rattle.sysmem_memory.specs.declared.domain.CoherencyDomain.{CoherencyDomain}
+use Rattle.sysmem_memory.specs.declared.domain.TheConstants.CoherencyDomain.{ALL as domains}
 use Rattle.sysmem_memory.specs.Domain.{domain_name}
 use Rattle.sysmem_memory.specs.Heap.{HeapFacts}
 use Rattle.negotiation_inputs.specs.Platform.{IsHeap}
 use Rattle.negotiation_inputs.specs.Heaps.{is_heap_byte}
-use Rattle.record_reading.specs.Reading.Names.{find_named, modifiers, colours, domains, format_named, modifier_named, colour_named, domain_named}
-use Rattle.sysmem_formats.specs.Formats.{formats}
+use Rattle.record_reading.specs.Reading.Names.{find_named, format_named, modifier_named, colour_named, domain_named}
 use Rattle.certificate_text.specs.CanBeRead.{HasSteps}
-use Rattle.certificate_text.specs.Fields.{all_fields, field_named}
+use Rattle.certificate_text.specs.Fields.{field_named}
 use Rattle.certificate_text.specs.Paths.{steps_text, path_text}
 use Rattle.sysmem_sanitise.proofs.CallerLemmas.{own_format_name, own_modifier_name, own_colour_name, own_domain_name}
 use Rattle.certificate_text.proofs.Names.{own_name}

@@ -9,5 +9,5 @@
 mod code;
 mod plane;
 
-pub use code::{format_of, modifier_of};
+pub use code::{bits_of, code_of, format_of, letters_of, modifier_of};
 pub use plane::{Plane, image_bytes, plane_at};

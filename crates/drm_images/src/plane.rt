@@ -1,10 +1,9 @@
 //! The planes of an image.
 
 ghost use Rattle.std.specs.Prelude.{◌≡◌, ◌+◌, ◌*◌, ◌/◌, ◌≤◌, ◌<◌, ◌^◌, ◌∷◌, [], IfNone, IfSome, slice_get};
-ghost use Rattle.sysmem_formats.specs.Layout.{rows_of};
 ghost use Rattle.drm_images.specs.Planes.{bytes_of, first_plane, paired_plane, plane_end, planes_of, two_colours};
 
-use sysmem_formats::{ColourSpace, Modifier, Offer, Pair, Sampling};
+use sysmem_formats::{ColourSpace, Offer, Pair, Sampling, tiled_rows};
 
 /// A plane of an image: where its first row begins in the image, the bytes of a row, and how many
 /// rows it has, a tile's part included.
@@ -13,17 +12,6 @@ pub struct Plane {
     pub offset: u64,
     pub pitch: u32,
     pub rows: u64,
-}
-
-fn tiled_rows(modifier: Modifier, height: u32) -> u64
-    ensures { result ≡ rows_of modifier height }
-{
-    let height = u64::from(height);
-    match modifier {
-        Modifier::Linear => height,
-        Modifier::IntelXTiled => (height + 7) / 8 * 8,
-        Modifier::IntelYTiled => (height + 31) / 32 * 32,
-    }
 }
 
 /// The bytes of an image with rows of `pitch` bytes, its height in pixels: all planes, a tile's
@@ -50,7 +38,7 @@ pub fn plane_at(pair: Pair, pitch: u32, height: u32, index: usize) -> Option<Pla
     ensures plane { result ≡ slice_get (planes_of pair pitch height) index }
     ensures within { IfSome result (λ plane. plane_end plane ≤ bytes_of pair pitch height) }
 {
-    let rows = tiled_rows(pair.modifier, height);
+    let rows = tiled_rows(pair.modifier, u64::from(height));
     if index == 0 {
         return Some(Plane {
             offset: 0,

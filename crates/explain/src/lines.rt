@@ -1,10 +1,12 @@
 //! Where the fields stand in the script's text that the section of an empty domain names.
 
 use explanation_text::{Item, Kind, Step, Text, Thing, Words, line_of};
+use record_reading::{ENTRY_FIELDS, MEMORY_FIELDS};
 use script_faults::{Document, RecordPart, Whole};
 use script_story::{Milestone, Story};
 use std::alloc::{AllocError, Global};
-use sysmem_counts::Field;
+use sysmem_counts::{Field, Kind as FieldKind};
+use sysmem_sanitise::CONSTRAINTS_FIELDS;
 
 /// How many participants' fields are told.
 const MOST: usize = 6;
@@ -13,35 +15,18 @@ const MOST_ENTRIES: usize = 8;
 /// How long the text may be, in bytes: for each field it is gone through.
 const LONGEST: usize = 262_144;
 
-/// The fields that reasons and changes name.
-const FIELDS: [Field; 26] = [
-    Field::MinBufferCountForCamping,
-    Field::MinBufferCountForDedicatedSlack,
-    Field::MinBufferCountForSharedSlack,
-    Field::MinBufferCount,
-    Field::MaxBufferCount,
-    Field::MinSizeBytes,
-    Field::MaxSizeBytes,
-    Field::PhysicallyContiguousRequired,
-    Field::SecureRequired,
-    Field::CpuDomainSupported,
-    Field::RamDomainSupported,
-    Field::InaccessibleDomainSupported,
-    Field::PermittedHeaps,
-    Field::PixelFormat,
-    Field::ColorSpaces,
-    Field::MinSize,
-    Field::MaxSize,
-    Field::SizeAlignment,
-    Field::MinBytesPerRow,
-    Field::MaxBytesPerRow,
-    Field::BytesPerRowDivisor,
-    Field::StartOffsetDivisor,
-    Field::DisplayRectAlignment,
-    Field::RequiredMinSize,
-    Field::RequiredMaxSize,
-    Field::MaxWidthTimesHeight,
-];
+/// Whether reasons and changes name a field of a participant's constraints, but for its usage and its
+/// modifiers.
+fn is_told(field: Field) -> bool {
+    let is_count = CONSTRAINTS_FIELDS.contains(&field) && field.kind() == FieldKind::Number;
+    let is_bound = !matches!(
+        field,
+        Field::PixelFormatModifier
+            | Field::PixelFormatAndModifiers
+            | Field::RequireBytesPerRowAtPixelBoundary
+    );
+    is_count || MEMORY_FIELDS.contains(&field) || (ENTRY_FIELDS.contains(&field) && is_bound)
+}
 
 /// The section that is gone through: whose domain's it is, if that is empty, and where its items
 /// begin.
@@ -154,9 +139,9 @@ fn is_named(told: &[Item], thing: Thing) -> bool {
 /// The fields that some items name.
 fn fields_in(alloc: Global, told: &[Item]) -> Result<Vec<Field>, AllocError> {
     let mut fields = Vec::new(alloc);
-    for field in FIELDS {
-        if is_named(told, Thing::Field(field)) {
-            fields.push(field)?;
+    for field in &Field::ALL {
+        if is_told(*field) && is_named(told, Thing::Field(*field)) {
+            fields.push(*field)?;
         }
     }
     Ok(fields)

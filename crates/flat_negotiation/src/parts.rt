@@ -19,7 +19,7 @@ pub use flat::{
     FlatEntry, FlatHeap, FlatLayout, FlatPair, FlatParticipant, FlatPlane, FlatPlatform, FlatSize,
 };
 pub use heaps::heaps_of;
-pub use layout::{code_of, layout_in, layout_of, modifier_code, no_layout};
+pub use layout::{format_code, layout_in, layout_of, no_layout};
 pub use pairs::pairs_of;
 pub use unsaid::{Amiss, Unsaid};
 pub use wishes::{counts_of, memory_of, usage_of};

@@ -1,16 +1,15 @@
 //! Refusals as a C program is told them.
 
-ghost use Rattle.std.specs.Option.{unwrap_or};
 ghost use Rattle.std.specs.Prelude.{◌≡◌};
-ghost use Rattle.drm_images.specs.Codes.{fourcc};
 ghost use Rattle.flat_negotiation.specs.Refusals.{field_number, flat_refusal, kind_of, refusal_with, unmet_refusal, with_offer, with_shared};
 
 use crate::flat::FlatRefusal;
-use crate::parts::{code_of, colour_bit, modifier_code};
+use crate::parts::colour_bit;
 use crate::unsettled::{Refusal, Unsettled};
 use crate::written::domain_code;
+use drm_images::{bits_of, code_of};
 use sysmem_counts::Field;
-use sysmem_formats::{Offer, PixelFormat};
+use sysmem_formats::Offer;
 use sysmem_merge::{Reason, Settings};
 
 /// Where it is no participant.
@@ -50,24 +49,14 @@ fn kind_of(reason: Reason) -> u32
     }
 }
 
-/// The code of a format, or 0 of `L8`, which has none.
-fn code_or_none(format: PixelFormat) -> u32
-    ensures { result ≡ unwrap_or (fourcc format) 0 }
-{
-    match format {
-        PixelFormat::L8 => 0,
-        _ => code_of(format),
-    }
-}
-
 fn with_offer(offer: Offer, refusal: FlatRefusal) -> FlatRefusal
     ensures { result ≡ with_offer offer refusal }
 {
     match offer {
         Offer::NoImage => refusal,
         Offer::Image(pair, colour) => FlatRefusal {
-            modifier: modifier_code(pair.modifier),
-            format: code_or_none(pair.format),
+            modifier: bits_of(pair.modifier),
+            format: code_of(pair.format),
             colour: colour_bit(colour),
             ..refusal
         },

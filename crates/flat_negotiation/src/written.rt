@@ -6,7 +6,8 @@ ghost use Rattle.drm_images.specs.Planes.{bytes_of};
 ghost use Rattle.flat_negotiation.specs.Written.{CanBeWritten, HasImage, HoldsOffer, IsImageWritten, IsLaid, IsOfferWritten, IsWritten, domain_code, no_image};
 
 use crate::flat::{FlatImage, FlatSettings};
-use crate::parts::{code_of, colour_bit, layout_in, modifier_code, no_layout};
+use crate::parts::{colour_bit, format_code, layout_in, no_layout};
+use drm_images::bits_of;
 use sysmem_formats::{ColourSpace, Offer, Pair};
 use sysmem_image::laws::no_corner;
 use sysmem_image::{Corner, corner};
@@ -46,8 +47,8 @@ fn laid(pair: Pair, colour: ColourSpace, corner: Corner) -> FlatImage
 {
     match layout_in(pair, corner.bytes_per_row, corner.height) {
         Some(layout) => FlatImage {
-            modifier: modifier_code(pair.modifier),
-            format: code_of(pair.format),
+            modifier: bits_of(pair.modifier),
+            format: format_code(pair.format),
             colour: colour_bit(colour),
             width: corner.width,
             height: corner.height,

@@ -1,2 +1,3 @@
 pub mod CallerLemmas
+pub mod Each
 pub mod TakenInOrder

@@ -1,12 +1,10 @@
 -- Each name names what it is the name of.
-use Rattle.std.proofs.Common.{◌≡◌, ℕ, List, Option, Some, None, Ok, refl, ap}
+use Rattle.std.proofs.Common.{rules, ◌≡◌, ℕ, List, Option, Some, None, Ok, refl, ap}
 use Rattle.std.specs.Prelude.{ok_or}
 use Rattle.serde_json.specs.Data.{string}
 use Rattle.sysmem_counts.specs.declared.field.Field.{Field}
 use Rattle.sysmem_formats.specs.declared.modifier.Modifier.{Modifier}
-use Rattle.sysmem_formats.specs.declared.modifier.Modifier.TheVariants.{Linear, IntelXTiled, IntelYTiled}
 use Rattle.sysmem_formats.specs.declared.pixel_format.PixelFormat.{PixelFormat}
-use Rattle.sysmem_formats.specs.declared.pixel_format.PixelFormat.TheVariants.{R8G8B8A8, B8G8R8A8, R8G8B8X8, B8G8R8X8, R8G8B8, B8G8R8, R5G6B5, R8G8, YUY2, R8, L8, I420, YV12, NV12, P010}
 use Rattle.sysmem_formats.specs.Names.{format_name, modifier_name}
 use Rattle.record_reading.specs.declared.fault.Code.TheVariants.{UnknownName}
 use Rattle.record_reading.specs.Faults.{wrong}
@@ -20,25 +18,9 @@ named_stated find field name x is = ap (λ o. ok_or o (wrong UnknownName field))
 pub format_choice : (field : Field) (f : Option PixelFormat) → named (choice_named format_named) field (choice format_name f) ≡ Ok f
 unfolding format_named
 format_choice field None = refl
-format_choice field (Some R8G8B8A8) = refl
-format_choice field (Some B8G8R8A8) = refl
-format_choice field (Some R8G8B8X8) = refl
-format_choice field (Some B8G8R8X8) = refl
-format_choice field (Some R8G8B8) = refl
-format_choice field (Some B8G8R8) = refl
-format_choice field (Some R5G6B5) = refl
-format_choice field (Some R8G8) = refl
-format_choice field (Some YUY2) = refl
-format_choice field (Some R8) = refl
-format_choice field (Some L8) = refl
-format_choice field (Some I420) = refl
-format_choice field (Some YV12) = refl
-format_choice field (Some NV12) = refl
-format_choice field (Some P010) = refl
+format_choice field (Some f) = search rules
 
 pub modifier_choice : (field : Field) (m : Option Modifier) → named (choice_named modifier_named) field (choice modifier_name m) ≡ Ok m
 unfolding modifier_named
 modifier_choice field None = refl
-modifier_choice field (Some Linear) = refl
-modifier_choice field (Some IntelXTiled) = refl
-modifier_choice field (Some IntelYTiled) = refl
+modifier_choice field (Some m) = search rules

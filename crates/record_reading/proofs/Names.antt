@@ -1,19 +1,21 @@
 -- What a name names.
-use Rattle.std.proofs.Common.{◌≡◌, ℕ, Bool, true, false, List, [], ◌∷◌, Option, Some, None, refl, sym, ap, ◌∙◌, ◌↔◌}
+use Rattle.std.proofs.Common.{rules, ◌≡◌, ℕ, Bool, true, false, List, [], ◌∷◌, Option, Some, None, refl, sym, ap, ◌∙◌, ◌↔◌}
 use Rattle.std.specs.Prelude.{cond}
 use Rattle.std.specs.Bool.{Decides}
 use Rattle.std.proofs.lemmas.Slice.Eq.{bytes_eq-Decides}
+use Rattle.list_lemmas.proofs.Each.{found_own}
+use Rattle.list_lemmas.specs.Each.{ListsEach}
 use Rattle.sysmem_formats.specs.declared.colour_space.ColourSpace.{ColourSpace}
-use Rattle.sysmem_formats.specs.declared.colour_space.ColourSpace.TheVariants.{Srgb, Rec601Ntsc, Rec601NtscFullRange, Rec601Pal, Rec601PalFullRange, Rec709, Rec2020, Rec2100}
+use Rattle.sysmem_formats.specs.declared.colour_space.TheConstants.ColourSpace.{ALL as colours}
 use Rattle.sysmem_formats.specs.declared.modifier.Modifier.{Modifier}
-use Rattle.sysmem_formats.specs.declared.modifier.Modifier.TheVariants.{Linear, IntelXTiled, IntelYTiled}
+use Rattle.sysmem_formats.specs.declared.modifier.TheConstants.Modifier.{ALL as modifiers}
 use Rattle.sysmem_formats.specs.declared.pixel_format.PixelFormat.{PixelFormat}
-use Rattle.sysmem_formats.specs.declared.pixel_format.PixelFormat.TheVariants.{R8G8B8A8, B8G8R8A8, R8G8B8X8, B8G8R8X8, R8G8B8, B8G8R8, R5G6B5, R8G8, YUY2, R8, L8, I420, YV12, NV12, P010}
+use Rattle.sysmem_formats.specs.declared.pixel_format.TheConstants.PixelFormat.{ALL as formats}
 use Rattle.sysmem_formats.specs.Names.{format_name, modifier_name, colour_name}
 use Rattle.sysmem_memory.specs.declared.domain.CoherencyDomain.{CoherencyDomain}
-use Rattle.sysmem_memory.specs.declared.domain.CoherencyDomain.TheVariants.{Cpu, Ram, Inaccessible}
+use Rattle.sysmem_memory.specs.declared.domain.TheConstants.CoherencyDomain.{ALL as domains}
 use Rattle.sysmem_memory.specs.Domain.{domain_name}
-use Rattle.record_reading.specs.Reading.Names.{find_named, formats, modifiers, colours, domains, format_named, modifier_named, colour_named, domain_named}
+use Rattle.record_reading.specs.Reading.Names.{find_named, format_named, modifier_named, colour_named, domain_named}
 
 -- a test that doesn't hold takes the other branch
 not_first : {A : Type 0} (b : Bool) (P : Type 0) (x y : A) → Decides b P → (P → ⊥) → cond b x y ≡ y
@@ -33,43 +35,31 @@ pub named_by : {X : Type 0} (name_of : X → List ℕ) (xs : List X) (name : Lis
 named_by name_of xs name (Some x) own exact = sym (ap (find_named name_of xs) ((exact x).0 refl) ∙ own x)
 named_by {X} name_of xs name None own exact = sym (none_named name_of xs name (λ x e. let h : None ≡ Some x = (exact x).1 e in absurd (cc)))
 
+-- each is listed once
+listed_formats : ListsEach format_name formats
+listed_formats x = search rules
+
+listed_modifiers : ListsEach modifier_name modifiers
+listed_modifiers x = search rules
+
+listed_colours : ListsEach colour_name colours
+listed_colours x = search rules
+
+listed_domains : ListsEach domain_name domains
+listed_domains x = search rules
+
 -- each is found by its own name
 own_format : (x : PixelFormat) → find_named format_name formats (format_name x) ≡ Some x
-own_format R8G8B8A8 = refl
-own_format B8G8R8A8 = refl
-own_format R8G8B8X8 = refl
-own_format B8G8R8X8 = refl
-own_format R8G8B8 = refl
-own_format B8G8R8 = refl
-own_format R5G6B5 = refl
-own_format R8G8 = refl
-own_format YUY2 = refl
-own_format R8 = refl
-own_format L8 = refl
-own_format I420 = refl
-own_format YV12 = refl
-own_format NV12 = refl
-own_format P010 = refl
+own_format x = found_own format_name formats listed_formats x
 
 own_modifier : (x : Modifier) → find_named modifier_name modifiers (modifier_name x) ≡ Some x
-own_modifier Linear = refl
-own_modifier IntelXTiled = refl
-own_modifier IntelYTiled = refl
+own_modifier x = found_own modifier_name modifiers listed_modifiers x
 
 own_colour : (x : ColourSpace) → find_named colour_name colours (colour_name x) ≡ Some x
-own_colour Srgb = refl
-own_colour Rec601Ntsc = refl
-own_colour Rec601NtscFullRange = refl
-own_colour Rec601Pal = refl
-own_colour Rec601PalFullRange = refl
-own_colour Rec709 = refl
-own_colour Rec2020 = refl
-own_colour Rec2100 = refl
+own_colour x = found_own colour_name colours listed_colours x
 
 own_domain : (x : CoherencyDomain) → find_named domain_name domains (domain_name x) ≡ Some x
-own_domain Cpu = refl
-own_domain Ram = refl
-own_domain Inaccessible = refl
+own_domain x = found_own domain_name domains listed_domains x
 
 pub format_found : (name : List ℕ) (found : Option PixelFormat) → ((x : PixelFormat) → (found ≡ Some x) ↔ (name ≡ format_name x)) → found ≡ format_named name
 unfolding format_named

@@ -12,5 +12,6 @@ mod reading;
 
 pub use fault::{Code, Fault, FaultPlace};
 pub use reading::{
+    ENTRY_FIELDS, HEAP_FIELDS, HEAP_NAME_FIELDS, MEMORY_FIELDS, PAIR_FIELDS, PLATFORM_FIELDS,
     count_or, entries_in, expect_object, memory_in, read_platform, stated, usage_of,
 };

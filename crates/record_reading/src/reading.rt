@@ -15,8 +15,11 @@ mod platform;
 mod size;
 mod usage;
 
-pub use entry::entries_in;
+pub use entry::{ENTRY_FIELDS, entries_in};
 pub use field::{count_or, expect_object, stated};
-pub use memory::memory_in;
-pub use platform::read_platform;
+pub use heap::HEAP_NAME_FIELDS;
+pub use heap_info::HEAP_FIELDS;
+pub use memory::{MEMORY_FIELDS, memory_in};
+pub use pair::PAIR_FIELDS;
+pub use platform::{PLATFORM_FIELDS, read_platform};
 pub use usage::usage_of;

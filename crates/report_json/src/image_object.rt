@@ -1,11 +1,10 @@
 //! What buffers hold, as an object.
 
-ghost use Rattle.std.specs.Prelude.{◌≡◌, option_map};
-ghost use Rattle.drm_images.specs.Codes.{fourcc, word_of};
+ghost use Rattle.std.specs.Prelude.{◌≡◌};
 ghost use Rattle.drm_images.specs.Planes.{bytes_of};
 
 use crate::put::{put_name, put_number, word_at};
-use drm_images::{Plane, image_bytes, plane_at};
+use drm_images::{Plane, bits_of, image_bytes, letters_of, plane_at};
 use std::alloc::AllocError;
 use std::fmt::Write;
 use sysmem_formats::{Modifier, Pair, PixelFormat};
@@ -39,12 +38,12 @@ fn pair_in(words: &[&str]) -> Option<Pair> {
 
 fn put_shown(out: &mut String, pair: Pair, words: &[&str]) -> Result<(), AllocError> {
     let colour = word_at(words, COLOUR);
-    let digits = modifier_digits(pair.modifier);
+    let bits = bits_of(pair.modifier);
     write!(
         out,
-        "{{\"color_space\":\"{colour}\",\"drm_modifier\":\"{digits}\",\"fourcc\":"
+        "{{\"color_space\":\"{colour}\",\"drm_modifier\":\"0x{bits:016x}\",\"fourcc\":"
     )?;
-    put_name(out, format_letters(pair.format))?;
+    put_name(out, letters_of(pair.format))?;
     let (width, height) = sides_in(word_at(words, SIDES));
     put_names(out, pair, height)?;
     put_planes(out, pair, word_at(words, ROW), height)?;
@@ -103,36 +102,4 @@ fn put_plane(out: &mut String, before: &str, plane: Option<Plane>) -> Result<(),
     put_number(out, plane.offset)?;
     let Plane { pitch, rows, .. } = plane;
     write!(out, ",\"pitch\":{pitch},\"rows\":{rows}}}")
-}
-
-/// The letters of a format's code; `L8` has none.
-pub fn format_letters(format: PixelFormat) -> Option<&'static str>
-    ensures { option_map (λ text. word_of text.now) result ≡ fourcc format }
-{
-    match format {
-        PixelFormat::R8G8B8A8 => Some("AB24"),
-        PixelFormat::B8G8R8A8 => Some("AR24"),
-        PixelFormat::R8G8B8X8 => Some("XB24"),
-        PixelFormat::B8G8R8X8 => Some("XR24"),
-        PixelFormat::R8G8B8 => Some("BG24"),
-        PixelFormat::B8G8R8 => Some("RG24"),
-        PixelFormat::R5G6B5 => Some("RG16"),
-        PixelFormat::R8G8 => Some("GR88"),
-        PixelFormat::YUY2 => Some("YUYV"),
-        PixelFormat::R8 => Some("R8  "),
-        PixelFormat::L8 => None,
-        PixelFormat::I420 => Some("YU12"),
-        PixelFormat::YV12 => Some("YV12"),
-        PixelFormat::NV12 => Some("NV12"),
-        PixelFormat::P010 => Some("P010"),
-    }
-}
-
-/// The 64 bits of a modifier.
-pub fn modifier_digits(modifier: Modifier) -> &'static str {
-    match modifier {
-        Modifier::Linear => "0x0000000000000000",
-        Modifier::IntelXTiled => "0x0100000000000001",
-        Modifier::IntelYTiled => "0x0100000000000002",
-    }
 }

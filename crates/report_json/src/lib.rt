@@ -17,5 +17,4 @@ mod running;
 mod telling;
 
 pub use domain_object::decision_object;
-pub use image_object::{format_letters, modifier_digits};
 pub use running::{run_as_json, run_as_json_with_proof};

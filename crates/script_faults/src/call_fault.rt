@@ -1,14 +1,15 @@
 //! The faults of a script's calls, in words.
 
-use crate::keys::{CALLS, KNOWN};
+use crate::keys::KNOWN;
 use crate::record::{
-    CONSTRAINTS, Document, RecordPart, first_unknown, is_one_of, key_of, wrong_kind,
+    Document, RecordPart, first_unknown, is_field_of, is_one_of, key_of, wrong_kind,
 };
 use explanation_text::wording::{put_few, put_joined};
 use explanation_text::{Gathered, Items, Step, Words, nearest};
-use script_reading::ScriptFault;
+use script_reading::{CALLS, ScriptFault, makes_name};
 use serde_json::Value;
 use std::alloc::{AllocError, Global};
+use sysmem_sanitise::CONSTRAINTS_FIELDS;
 
 /// A call with a fault.
 #[derive(Clone, Copy)]
@@ -131,14 +132,6 @@ fn listed(alloc: Global, text: &str, names: &[&str]) -> Words {
     words
 }
 
-/// Whether a call makes a name.
-fn is_maker(name: &str) -> bool {
-    matches!(
-        name,
-        "duplicate" | "create_group" | "create_child" | "attach_token"
-    )
-}
-
 /// Tells a wrong kind, an unknown or missing key, or an unknown name of a call.
 fn tell_shape(items: &mut Items, faulty: Faulty<'_, '_>) -> Result<(), AllocError> {
     let alloc = items.alloc();
@@ -153,7 +146,7 @@ fn tell_shape(items: &mut Items, faulty: Faulty<'_, '_>) -> Result<(), AllocErro
         tell_kind(items, faulty, "call", value);
         return Ok(());
     };
-    if !is_one_of(name, CALLS) {
+    if !is_one_of(name, &CALLS) {
         faulty.point(items, "call", "unknown call", hint_of_call(alloc, name));
         return Ok(());
     }
@@ -174,7 +167,7 @@ fn tell_no_object(items: &mut Items, faulty: Faulty<'_, '_>) {
 /// What an unknown call may mean.
 fn hint_of_call(alloc: Global, name: &str) -> Words {
     let mut words = Words::new(alloc);
-    match nearest(alloc, name, CALLS) {
+    match nearest(alloc, name, &CALLS) {
         Ok(Some(near)) => {
             words.put("did you mean ").put(near).put("?");
         }
@@ -185,7 +178,7 @@ fn hint_of_call(alloc: Global, name: &str) -> Words {
 }
 
 fn calls_known(alloc: Global) -> Words {
-    listed(alloc, "calls: ", CALLS)
+    listed(alloc, "calls: ", &CALLS)
 }
 
 fn tell_kind(items: &mut Items, faulty: Faulty<'_, '_>, key: &'static str, value: &Value) {
@@ -199,12 +192,12 @@ fn tell_kind(items: &mut Items, faulty: Faulty<'_, '_>, key: &'static str, value
 
 /// Tells what is wrong with the members of a call that has a name.
 fn tell_members(items: &mut Items, faulty: Faulty<'_, '_>, name: &str) -> Result<(), AllocError> {
-    if is_maker(name) && faulty.call.get("as").is_none() {
+    if makes_name(name) && faulty.call.get("as").is_none() {
         let mut words = Words::of(items.alloc(), name);
         words.put(" makes a node: as gives it its name");
         return faulty.lacks(items, "as", words);
     }
-    if let Some((key, value)) = no_text(faulty, &["as"], is_maker(name)) {
+    if let Some((key, value)) = no_text(faulty, &["as"], makes_name(name)) {
         tell_kind(items, faulty, key, value);
         return Ok(());
     }
@@ -251,7 +244,7 @@ fn no_text<'a>(
 
 /// The keys of a call of this name.
 fn keys_of(name: &str) -> &'static [&'static str] {
-    if is_maker(name) {
+    if makes_name(name) {
         &["call", "on", "actor", "as"]
     } else if name == "set_constraints" {
         &["call", "on", "actor", "constraints"]
@@ -276,7 +269,7 @@ fn tell_key(
 
 /// What helps with such a key of a call that has a name.
 fn help_of_key(alloc: Global, key: &str, name: &str, keys: &[&'static str]) -> Words {
-    if is_one_of(key, CONSTRAINTS) {
+    if is_field_of(key, &CONSTRAINTS_FIELDS) {
         Words::of(alloc, "it belongs in constraints")
     } else if key == "as" {
         let mut words = Words::of(alloc, name);

@@ -13,7 +13,7 @@ mod record_place;
 mod unknown;
 
 pub use document::{Document, RecordPart, Whole};
-pub use keys::{CONSTRAINTS, is_one_of};
+pub use keys::{is_field_of, is_one_of};
 pub use kinds::wrong_kind;
 pub use record_fault::tell_record_fault;
 pub use unknown::{first_unknown, key_of};

@@ -38,6 +38,20 @@ name_made (creates_child name) = Some name
 name_made (attaches_token name) = Some name
 name_made _ = None
 
+-- the call's name
+abbrev pub act_name : ActFacts → List ℕ
+act_name (duplicates name) = codes "duplicate"
+act_name binds = codes "bind"
+act_name (states constraints) = codes "set_constraints"
+act_name (creates_group name) = codes "create_group"
+act_name (creates_child name) = codes "create_child"
+act_name has_all_children = codes "all_children_present"
+act_name (attaches_token name) = codes "attach_token"
+act_name releases = codes "release"
+act_name closes = codes "close"
+act_name checks = codes "check"
+act_name waits = codes "wait"
+
 -- What a call does, on which name, by which actor.
 pub record FormFacts : Type 0 where
   pub act : ActFacts

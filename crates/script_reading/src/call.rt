@@ -1,6 +1,6 @@
 //! The calls of a script.
 ghost use Rattle.std.specs.Prelude.{◌≡◌, option_map};
-ghost use Rattle.script_reading.specs.Call.{name_made};
+ghost use Rattle.script_reading.specs.Call.{act_name, name_made};
 ghost use Rattle.script_reading.specs.Seen.{act_seen};
 
 use serde_json::Value;
@@ -29,7 +29,41 @@ pub enum Act<'a> {
     Wait,
 }
 
+/// The names of the calls that a script may make.
+pub const CALLS: [&str; 11] = [
+    "duplicate",
+    "bind",
+    "set_constraints",
+    "release",
+    "check",
+    "close",
+    "wait",
+    "create_group",
+    "create_child",
+    "all_children_present",
+    "attach_token",
+];
+
 impl<'a> Act<'a> {
+    /// The call's name.
+    pub fn name(&self) -> &'static str
+        ensures { result.now ≡ act_name (act_seen self.now) }
+    {
+        match self {
+            Act::Duplicate(_) => "duplicate",
+            Act::Bind => "bind",
+            Act::SetConstraints(_) => "set_constraints",
+            Act::CreateGroup(_) => "create_group",
+            Act::CreateChild(_) => "create_child",
+            Act::AllChildrenPresent => "all_children_present",
+            Act::AttachToken(_) => "attach_token",
+            Act::Release => "release",
+            Act::Close => "close",
+            Act::Check => "check",
+            Act::Wait => "wait",
+        }
+    }
+
     /// The name that the call makes, if it makes one.
     pub fn name_made(&self) -> Option<&'a str>
         ensures { option_map (λ name. name.now) result ≡ name_made (act_seen self.now) }

@@ -67,8 +67,9 @@ fn act_of<'a>(name: &str, call: &'a Value) -> Option<Act<'a>>
     }
 }
 
+/// Whether a call of this name makes one.
 #[tactic(auto, unfolding(crate::specs::Call::makes_name))]
-fn makes_name(name: &str) -> bool
+pub fn makes_name(name: &str) -> bool
     ensures { result ≡ makes_name name.now }
 {
     matches!(

@@ -16,14 +16,16 @@ mod calls;
 mod fault;
 mod form;
 mod known;
+pub mod laws;
 mod names;
 mod platform;
 mod script;
 mod text;
 
 pub use apart::read_calls_apart;
-pub use call::{Act, Call};
+pub use call::{Act, CALLS, Call};
 pub use calls::read_calls;
 pub use fault::{ParseFault, ScriptFault};
+pub use form::makes_name;
 pub use script::{Script, read_script, read_script_apart};
 pub use text::{LONGEST, parse_script};

@@ -20,9 +20,7 @@ use Rattle.certificate_text.specs.Paths.{path_text}
 use Rattle.script_replay.specs.declared.reply.Reply.{Reply}
 use Rattle.script_replay.specs.declared.reply.Reply.TheVariants.{Accepted, Refused, Misread}
 use Rattle.script_replay.specs.declared.reply.Reply.TheVariants.{Skipped}
-use Rattle.script_reading.specs.Call.{ActFacts, duplicates, binds, states, creates_group}
-use Rattle.script_reading.specs.Call.{creates_child, has_all_children, attaches_token, releases}
-use Rattle.script_reading.specs.Call.{closes, checks, waits, name_made}
+use Rattle.script_reading.specs.Call.{ActFacts, act_name, name_made}
 use Rattle.script_reading.specs.Script.{CallFacts}
 
 abbrev pub reply_text : Reply → List ℕ
@@ -30,20 +28,6 @@ reply_text Accepted = codes "ok"
 reply_text (Refused refusal) = refusal_text refusal
 reply_text (Misread fault) = fault_text fault
 reply_text Skipped = codes "skipped"
-
--- the call's name
-abbrev pub act_name : ActFacts → List ℕ
-act_name (duplicates name) = codes "duplicate"
-act_name binds = codes "bind"
-act_name (states constraints) = codes "set_constraints"
-act_name (creates_group name) = codes "create_group"
-act_name (creates_child name) = codes "create_child"
-act_name has_all_children = codes "all_children_present"
-act_name (attaches_token name) = codes "attach_token"
-act_name releases = codes "release"
-act_name closes = codes "close"
-act_name checks = codes "check"
-act_name waits = codes "wait"
 
 -- a name, if there is one, after a space
 abbrev pub spaced : Option (List ℕ) → List ℕ

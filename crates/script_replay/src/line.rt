@@ -3,7 +3,8 @@
 ghost use Rattle.std.specs.Prelude.{◌≡◌, ◌++◌, codes};
 ghost use Rattle.std.specs.Fmt.{decimal};
 ghost use Rattle.record_reading.specs.Faults.{fault_text};
-ghost use Rattle.script_replay.specs.Lines.{Puts, act_name, call_line, new_name, reply_text};
+ghost use Rattle.script_replay.specs.Lines.{Puts, call_line, new_name, reply_text};
+ghost use Rattle.script_reading.specs.Call.{act_name};
 ghost use Rattle.script_reading.specs.Seen.{act_seen, call_seen};
 
 use crate::reply::Reply;
@@ -26,32 +27,15 @@ pub(crate) fn put_call(
     put_reply(text, reply)
 }
 
-/// The name of what a call does, between spaces.
-fn spaced_name(act: &Act<'_>) -> &'static str
-    ensures { result.now ≡ codes " " ++ act_name (act_seen act.now) ++ codes " " }
-{
-    match act {
-        Act::Duplicate(_) => " duplicate ",
-        Act::Bind => " bind ",
-        Act::SetConstraints(_) => " set_constraints ",
-        Act::CreateGroup(_) => " create_group ",
-        Act::CreateChild(_) => " create_child ",
-        Act::AllChildrenPresent => " all_children_present ",
-        Act::AttachToken(_) => " attach_token ",
-        Act::Release => " release ",
-        Act::Close => " close ",
-        Act::Check => " check ",
-        Act::Wait => " wait ",
-    }
-}
-
 fn put_head(text: &mut String, number: usize, act: &Act<'_>, on: &str) -> Result<(), AllocError>
     ensures { Puts result text.old text.new
         (decimal number ++ codes " " ++ act_name (act_seen act.now) ++ codes " " ++ on.now) }
 {
     let mut digits = itoa::Buffer::new();
     text.push_str(digits.format(number))?;
-    text.push_str(spaced_name(act))?;
+    text.push_str(" ")?;
+    text.push_str(act.name())?;
+    text.push_str(" ")?;
     text.push_str(on)
 }
 

@@ -48,7 +48,7 @@ impl<'a> Made<'a> {
 
     /// Its name.
     pub fn name(&self) -> &'static str {
-        name_of(&self.act)
+        self.act.name()
     }
 
     /// The code of its reply: `ok`, `E2`.
@@ -57,23 +57,6 @@ impl<'a> Made<'a> {
             Some((code, _)) => code,
             None => self.reply,
         }
-    }
-}
-
-/// The name of a call.
-fn name_of(act: &Act<'_>) -> &'static str {
-    match act {
-        Act::Duplicate(_) => "duplicate",
-        Act::Bind => "bind",
-        Act::SetConstraints(_) => "set_constraints",
-        Act::CreateGroup(_) => "create_group",
-        Act::CreateChild(_) => "create_child",
-        Act::AllChildrenPresent => "all_children_present",
-        Act::AttachToken(_) => "attach_token",
-        Act::Release => "release",
-        Act::Close => "close",
-        Act::Check => "check",
-        Act::Wait => "wait",
     }
 }
 

@@ -19,8 +19,8 @@ use Rattle.serde_json.specs.Written.{comma_if, compact_text, outline}
 use Rattle.serde_json.proofs.Texts.{print-outline}
 use Rattle.negotiation_inputs.specs.Platform.{PlatformFacts}
 use Rattle.record_laws.specs.Sparse.{platform_written}
-use Rattle.script_reading.specs.Call.{ActFacts, duplicates, binds, states, creates_group, creates_child, has_all_children, attaches_token, releases, closes, checks, waits, name_made}
-use Rattle.script_writing.specs.Call.{WrittenCall, HasNames, call_data, member_if, stated_by, stated_text, text_if, text_member, word_of}
+use Rattle.script_reading.specs.Call.{ActFacts, duplicates, binds, states, creates_group, creates_child, has_all_children, attaches_token, releases, closes, checks, waits, act_name, name_made}
+use Rattle.script_writing.specs.Call.{WrittenCall, HasNames, call_data, member_if, stated_by, stated_text, text_if, text_member}
 use Rattle.script_writing.specs.Script.{IsCallSpelled, IsSpelled, calls_text, script_data, script_text}
 use Rattle.script_writing.proofs.Names.{IsUnescaped, name_plain, if_plain}
 use Rattle.script_writing.proofs.Spaced.{Piece, ends_after, gaps_of_both, gaps_of_plain, plain, print_plain, tokens_in, tokens_in_both, tokens_in_plain, tokens_line}
@@ -85,9 +85,9 @@ others c = json_if (codes "actor") (option_map json.string c.actor) (json_if (co
 
 -- a call's members, in the order in which they are written
 abbrev members_of_call : WrittenCall → json.Members
-members_of_call c = json.member (codes "call") (json.string (word_of c.act)) (json.member (codes "on") (json.string c.on) (others c))
+members_of_call c = json.member (codes "call") (json.string (act_name c.act)) (json.member (codes "on") (json.string c.on) (others c))
 
-word_plain : (act : ActFacts) → IsUnescaped (word_of act)
+word_plain : (act : ActFacts) → IsUnescaped (act_name act)
 unfolding escape_byte
 word_plain (duplicates name) = refl
 word_plain binds = refl
@@ -114,13 +114,13 @@ regroup_rest a b c d e = refl
 
 -- the text of a call without its first bracket
 abbrev inside_text : WrittenCall → List ℕ
-inside_text c = codes "\"call\":\"" ++ (word_of c.act ++ (codes "\"" ++ (text_member (codes "on") c.on
+inside_text c = codes "\"call\":\"" ++ (act_name c.act ++ (codes "\"" ++ (text_member (codes "on") c.on
     ++ (text_if (codes "actor") c.actor ++ (text_if (codes "as") (name_made c.act) ++ (stated_text (stated_by c.act) ++ codes "}"))))))
 
 call_printed : (c : WrittenCall) → HasNames c → print_from false (members_tokens (members_of_call c)) ≡ inside_text c
 call_printed c names =
-    word_printed (word_of c.act) (key (codes "on") ∷ string c.on ∷ members_tokens (others c)) (word_plain c.act)
-    ∙ ap (λ s. codes "\"call\":\"" ++ (word_of c.act ++ (codes "\"" ++ s)))
+    word_printed (act_name c.act) (key (codes "on") ∷ string c.on ∷ members_tokens (others c)) (word_plain c.act)
+    ∙ ap (λ s. codes "\"call\":\"" ++ (act_name c.act ++ (codes "\"" ++ s)))
     (text_printed (codes "on") c.on (members_tokens (others c)) key_plain.0 (name_plain c.on names.on)
     ∙ ap (λ s. text_member (codes "on") c.on ++ s)
     (if_printed (codes "actor") c.actor _ key_plain.1.0 (if_plain c.actor names.actor)
@@ -274,7 +274,7 @@ call_back w on (Some a) (Some m) (Some d) h = rw h.same refl
 calls_back : (cs : List WrittenCall) → AllByRecursion IsCallSpelled cs → of_items (calls_json cs) ≡ Some (items_of (map call_data cs))
 calls_back [] h = refl
 calls_back (c ∷ cs) h =
-    ap (λ o. option_and_then (λ x. option_map (item x) (of_items (calls_json cs))) (option_map object o)) (call_back (word_of c.act) c.on c.actor (name_made c.act) (stated_by c.act) h.0)
+    ap (λ o. option_and_then (λ x. option_map (item x) (of_items (calls_json cs))) (option_map object o)) (call_back (act_name c.act) c.on c.actor (name_made c.act) (stated_by c.act) h.0)
     ∙ ap (option_map (item (call_data c))) (calls_back cs h.1)
 
 script_back : (p : PlatformFacts) (cs : List WrittenCall) → IsSpelled (platform_written p) → AllByRecursion IsCallSpelled cs → of_json (script_json p cs) ≡ Some (script_data p cs)

@@ -4,9 +4,7 @@ use Rattle.serde_json.specs.Data.{Data, string, object, Members, no_members, mem
 use Rattle.serde_json.specs.Written.{compact_text}
 use Rattle.negotiation_inputs.specs.Participant.{Participant}
 use Rattle.record_laws.specs.Sparse.{participant_written}
-use Rattle.script_reading.specs.Call.{ActFacts, duplicates, binds, states, creates_group}
-use Rattle.script_reading.specs.Call.{creates_child, has_all_children, attaches_token, releases}
-use Rattle.script_reading.specs.Call.{closes, checks, waits, FormFacts, name_made}
+use Rattle.script_reading.specs.Call.{ActFacts, states, FormFacts, act_name, name_made}
 use Rattle.script_reading.specs.Names.{is_name, main_actor}
 
 -- what a call does, on which name, and the actor that it names, if it names one
@@ -14,20 +12,6 @@ pub record WrittenCall : Type 0 where
   pub act : ActFacts
   pub on : List ℕ
   pub actor : Option (List ℕ)
-
--- what it is called that a call does
-abbrev pub word_of : ActFacts → List ℕ
-word_of (duplicates name) = codes "duplicate"
-word_of binds = codes "bind"
-word_of (states stated) = codes "set_constraints"
-word_of (creates_group name) = codes "create_group"
-word_of (creates_child name) = codes "create_child"
-word_of has_all_children = codes "all_children_present"
-word_of (attaches_token name) = codes "attach_token"
-word_of releases = codes "release"
-word_of closes = codes "close"
-word_of checks = codes "check"
-word_of waits = codes "wait"
 
 -- the constraints that a call states, if it states any
 abbrev pub stated_by : ActFacts → Option Data
@@ -43,7 +27,7 @@ member_if key (Some d) ms = member key d ms
 abbrev pub call_data : WrittenCall → Data
 call_data c = object (member_if (codes "actor") (option_map string c.actor)
     (member_if (codes "as") (option_map string (name_made c.act))
-    (member (codes "call") (string (word_of c.act))
+    (member (codes "call") (string (act_name c.act))
     (member_if (codes "constraints") (stated_by c.act)
     (member (codes "on") (string c.on) no_members)))))
 
@@ -67,7 +51,7 @@ stated_text (Some d) = codes ",\"constraints\":" ++ compact_text d
 
 -- the text of a call's object, whose names stand as they are
 abbrev pub call_text : WrittenCall → List ℕ
-call_text c = codes "{\"call\":\"" ++ (word_of c.act ++ (codes "\"" ++ (text_member (codes "on") c.on
+call_text c = codes "{\"call\":\"" ++ (act_name c.act ++ (codes "\"" ++ (text_member (codes "on") c.on
     ++ (text_if (codes "actor") c.actor ++ (text_if (codes "as") (name_made c.act)
     ++ (stated_text (stated_by c.act) ++ codes "}"))))))
 

@@ -4,9 +4,9 @@ ghost use Rattle.std.specs.Prelude.{◌≡◌, ◌++◌, IfSome, OnOk, codes, op
 ghost use Rattle.std.specs.String.{string_bytes};
 ghost use Rattle.serde_json.specs.View.{view};
 ghost use Rattle.serde_json.specs.Written.{compact_text};
-ghost use Rattle.script_reading.specs.Call.{name_made};
+ghost use Rattle.script_reading.specs.Call.{act_name, name_made};
 ghost use Rattle.script_reading.specs.Seen.{act_seen};
-ghost use Rattle.script_writing.specs.Call.{StatesRecord, call_text, stated_by, stated_text, text_if, text_member, word_of};
+ghost use Rattle.script_writing.specs.Call.{StatesRecord, call_text, stated_by, stated_text, text_if, text_member};
 ghost use Rattle.script_writing.specs.Script.{IsPlain, IsSpelled};
 
 use script_reading::Act;
@@ -22,25 +22,6 @@ pub(crate) fn put_record(alloc: Global, text: &mut String, value: &Value) -> Res
 {
     let written = value.to_string(alloc)?;
     text.push_str(&written)
-}
-
-/// What it is called that a call does.
-fn word_of(act: Act<'_>) -> &'static str
-    ensures { result.now ≡ word_of (act_seen act.entry) }
-{
-    match act {
-        Act::Duplicate(_) => "duplicate",
-        Act::Bind => "bind",
-        Act::SetConstraints(_) => "set_constraints",
-        Act::CreateGroup(_) => "create_group",
-        Act::CreateChild(_) => "create_child",
-        Act::AllChildrenPresent => "all_children_present",
-        Act::AttachToken(_) => "attach_token",
-        Act::Release => "release",
-        Act::Close => "close",
-        Act::Check => "check",
-        Act::Wait => "wait",
-    }
 }
 
 /// Puts a text behind a key, and a comma before both.
@@ -93,11 +74,11 @@ fn put_stated(alloc: Global, text: &mut String, stated: Option<&Value>) -> Resul
 /// Puts the first members of a call: what it does, and on which name.
 fn put_head(text: &mut String, act: Act<'_>, on: &str) -> Result<(), AllocError>
     ensures { OnOk result (string_bytes text.new ≡ string_bytes text.old
-        ++ (codes "{\"call\":\"" ++ (word_of (act_seen act.entry) ++ (codes "\""
+        ++ (codes "{\"call\":\"" ++ (act_name (act_seen act.entry) ++ (codes "\""
         ++ text_member (codes "on") on.now)))) }
 {
     text.push_str("{\"call\":\"")?;
-    text.push_str(word_of(act))?;
+    text.push_str(act.name())?;
     text.push_str("\"")?;
     put_text(text, "on", on)
 }

@@ -14,6 +14,7 @@ use std::alloc::{AllocError, Global};
 use sysmem_counts::Field;
 use sysmem_formats::Offer;
 use sysmem_image::{bounds_table, entry_for, takes_colour};
+use sysmem_memory::PLACE_FIELDS;
 use sysmem_merge::{Settings, fails_in};
 use value_sources::Asked;
 
@@ -25,20 +26,13 @@ macro_rules! failing_fields {
             $(Field::$field,)*
             Field::MinSizeBytes,
             Field::MaxSizeBytes,
-            Field::PermittedHeaps,
-            Field::PhysicallyContiguousRequired,
-            Field::SecureRequired,
-            Field::CpuDomainSupported,
-            Field::RamDomainSupported,
-            Field::InaccessibleDomainSupported,
-            Field::Usage,
         ]
     };
 }
 
-/// The fields in which settings may fail a participant, in the order in which they are looked at:
-/// those by which a place is refused stand at the end, in the order of the place table.
-pub(crate) const FIELDS: &[Field] = bounds_table!(failing_fields!());
+/// The fields in which settings may fail a participant, in the order in which they are looked at, but
+/// for those by which a place is refused, which come last.
+const FIELDS: &[Field] = bounds_table!(failing_fields!());
 
 /// Tells in which fields settings fail participants who come late, and who of those before refuses
 /// the images that they take.
@@ -163,7 +157,7 @@ pub fn failing(
         All (λ field. FailsOn field platform.now settings.now asked.now) fields.items) }
 {
     let mut fields = Vec::new(alloc);
-    for field in FIELDS {
+    for field in FIELDS.iter().chain(PLACE_FIELDS.iter()) {
         if fails_in(*field, platform, settings, asked) {
             fields.push(*field)?;
         }
@@ -183,13 +177,7 @@ fn put_misfit(
         Field::PixelFormat | Field::ColorSpaces => put_offer(text, settings, one, field),
         Field::MinSizeBytes => put_size(text, settings, one, field),
         Field::MaxSizeBytes => put_size(text, settings, one, field),
-        Field::PermittedHeaps
-        | Field::PhysicallyContiguousRequired
-        | Field::SecureRequired
-        | Field::CpuDomainSupported
-        | Field::RamDomainSupported
-        | Field::InaccessibleDomainSupported
-        | Field::Usage => put_heap(text, platform, settings, one, field),
+        _ if PLACE_FIELDS.contains(&field) => put_heap(text, platform, settings, one, field),
         _ => put_bound(text, settings, one, field),
     }
 }
@@ -238,14 +226,22 @@ fn put_bound(text: &mut Words, settings: &Settings, one: &Asked<'_>, field: Fiel
     text.put(" was decided before");
 }
 
-/// How a field's values are merged.
+macro_rules! merged_to {
+    (($field:ident) $($name:ident: $shape:ident $rule:ident $bound:ident $absent:ident $range:ident,)*) => {
+        match $field {
+            $(Field::$bound => merged_by!($rule),)*
+            _ => "",
+        }
+    };
+}
+
+macro_rules! merged_by {
+    (greatest) => { "at least " };
+    (least) => { "at most " };
+    (multiple) => { "a multiple of " };
+}
+
+/// How a bound's values are merged.
 fn how(field: Field) -> &'static str {
-    match field {
-        Field::MinSize | Field::MinBytesPerRow | Field::RequiredMaxSize => "at least ",
-        Field::MaxSize
-        | Field::MaxBytesPerRow
-        | Field::RequiredMinSize
-        | Field::MaxWidthTimesHeight => "at most ",
-        _ => "a multiple of ",
-    }
+    bounds_table!(merged_to!(field))
 }

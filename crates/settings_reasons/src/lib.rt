@@ -28,5 +28,4 @@ pub use chosen::tell_settings;
 pub use empty::{in_the_way, is_unmet, tell_conflict};
 pub use fixed::{failing, tell_misfits};
 pub use listed::{is_taken, listed_before};
-pub use placing::DOMAINS;
 pub use unused::{holder_of, unused_entries};

@@ -12,17 +12,6 @@ use sysmem_formats::{ColourSpace, Modifier, Offer, PixelFormat};
 use sysmem_image::{ColourSet, entry_for};
 use value_sources::{Asked, Derived, Side, Wish, Wishes, format_words, put_has};
 
-const COLOURS: &[ColourSpace] = &[
-    ColourSpace::Srgb,
-    ColourSpace::Rec601Ntsc,
-    ColourSpace::Rec601NtscFullRange,
-    ColourSpace::Rec601Pal,
-    ColourSpace::Rec601PalFullRange,
-    ColourSpace::Rec709,
-    ColourSpace::Rec2020,
-    ColourSpace::Rec2100,
-];
-
 /// The name of an offer: `NV12 LINEAR REC709`, or `without an image`.
 pub(crate) fn offer_name(alloc: Global, offer: &Offer) -> Words {
     match offer {
@@ -183,7 +172,7 @@ fn with_colours<'a>(
 
 fn put_colour_names(text: &mut Words, colours: ColourSet) {
     let mut names: Gathered<&str> = Gathered::new(text.alloc());
-    for colour in COLOURS {
+    for colour in &ColourSpace::ALL {
         if colours.lists(*colour) {
             names.add(colour.name());
         }

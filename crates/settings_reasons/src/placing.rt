@@ -6,22 +6,16 @@ ghost use Rattle.sysmem_memory.specs.Place.{HasNoPlace};
 ghost use Rattle.offer_fits.specs.Demands.{place_demands};
 ghost use Rattle.value_sources.specs.Sources.{all_asked};
 
-use crate::fixed::FIELDS;
 use crate::rows::{Reason, put_those};
 use explanation_text::wording::put_visible;
 use explanation_text::{Gathered, Words};
 use negotiation_inputs::Platform;
 use std::alloc::{AllocError, Global};
 use sysmem_counts::Field;
-use sysmem_memory::{CoherencyDomain, Heap, HeapInfo, MemoryBounds, Place, refuses_in};
+use sysmem_memory::{
+    CoherencyDomain, Heap, HeapInfo, MemoryBounds, PLACE_FIELDS, Place, refuses_in,
+};
 use value_sources::{Asked, put_has};
-
-/// The coherency domains, in the order of a heap's places.
-pub const DOMAINS: &[CoherencyDomain] = &[
-    CoherencyDomain::Cpu,
-    CoherencyDomain::Ram,
-    CoherencyDomain::Inaccessible,
-];
 
 /// The places of a platform, in its order.
 pub(crate) fn places_of(alloc: Global, platform: &Platform) -> Result<Vec<Place>, AllocError> {
@@ -34,7 +28,7 @@ pub(crate) fn places_of(alloc: Global, platform: &Platform) -> Result<Vec<Place>
 
 /// Adds the places of a heap.
 fn add_places(places: &mut Gathered<Place>, heap: usize, info: &HeapInfo) {
-    for coherency in DOMAINS {
+    for coherency in &CoherencyDomain::ALL {
         if info.domains.has(*coherency) {
             places.add(Place {
                 heap,
@@ -88,7 +82,7 @@ fn reasons_in<'a>(
         (λ reasons. All (IsPlaceReason heap.now place.coherency) reasons.items) }
 {
     let mut reasons = Vec::new(alloc);
-    for field in FIELDS {
+    for field in &PLACE_FIELDS {
         let those = refusing(alloc, heap, place, *field, people)?;
         add_reason(&mut reasons, heap, place, *field, those)?;
     }

@@ -1,4 +1,4 @@
 pub mod CallerLemmas
 pub mod Lists
 pub mod Counts
-mod Fields
+pub mod Fields

@@ -1,7 +1,9 @@
--- The names of fields and limits.
+-- The names of fields and limits, and what a record has at a field.
 use Rattle.std.specs.Prelude.{ℕ, List, codes}
 use Rattle.sysmem_counts.specs.declared.field.Field.{Field}
 use Rattle.sysmem_counts.specs.declared.field.Field.TheVariants as field
+use Rattle.sysmem_counts.specs.declared.field.Kind.{Kind}
+use Rattle.sysmem_counts.specs.declared.field.Kind.TheVariants as kind
 
 -- a field's name in a script
 abbrev pub field_name : Field → List ℕ
@@ -48,3 +50,37 @@ field_name field.Id = codes "id"
 field_name field.Contiguous = codes "contiguous"
 field_name field.Secure = codes "secure"
 field_name field.Domains = codes "domains"
+
+-- what a record has at a field: where it isn't named here, a whole number
+abbrev pub kind_of : Field → Kind
+kind_of field.PhysicallyContiguousRequired = kind.Flag
+kind_of field.SecureRequired = kind.Flag
+kind_of field.CpuDomainSupported = kind.Flag
+kind_of field.RamDomainSupported = kind.Flag
+kind_of field.InaccessibleDomainSupported = kind.Flag
+kind_of field.RequireBytesPerRowAtPixelBoundary = kind.Flag
+kind_of field.Contiguous = kind.Flag
+kind_of field.Secure = kind.Flag
+kind_of field.MinSize = kind.Sides
+kind_of field.MaxSize = kind.Sides
+kind_of field.SizeAlignment = kind.Sides
+kind_of field.DisplayRectAlignment = kind.Sides
+kind_of field.RequiredMinSize = kind.Sides
+kind_of field.RequiredMaxSize = kind.Sides
+kind_of field.PixelFormat = kind.Name
+kind_of field.PixelFormatModifier = kind.Name
+kind_of field.HeapType = kind.Name
+kind_of field.Usage = kind.Names
+kind_of field.ImageFormatConstraints = kind.Objects
+kind_of field.PermittedHeaps = kind.Objects
+kind_of field.PixelFormatAndModifiers = kind.Objects
+kind_of field.ColorSpaces = kind.Names
+kind_of field.Heaps = kind.Objects
+kind_of field.Pairs = kind.Objects
+kind_of field.Domains = kind.Names
+kind_of field.BufferMemoryConstraints = kind.Object
+kind_of field.BufferCountLimit = kind.Limit
+kind_of field.UnnamedPixelFormat = kind.Limit
+kind_of field.UnnamedPixelFormatModifier = kind.Limit
+kind_of field.UnnamedColorSpace = kind.Limit
+kind_of _ = kind.Number

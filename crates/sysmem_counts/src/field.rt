@@ -94,56 +94,78 @@ pub enum Field {
     Domains,
 }
 
-/// Each field once.
-const FIELDS: [Field; 43] = [
-    Field::Usage,
-    Field::MinBufferCountForCamping,
-    Field::MinBufferCountForDedicatedSlack,
-    Field::MinBufferCountForSharedSlack,
-    Field::MinBufferCount,
-    Field::MaxBufferCount,
-    Field::BufferMemoryConstraints,
-    Field::ImageFormatConstraints,
-    Field::MinSizeBytes,
-    Field::MaxSizeBytes,
-    Field::PhysicallyContiguousRequired,
-    Field::SecureRequired,
-    Field::CpuDomainSupported,
-    Field::RamDomainSupported,
-    Field::InaccessibleDomainSupported,
-    Field::PermittedHeaps,
-    Field::PixelFormat,
-    Field::PixelFormatModifier,
-    Field::PixelFormatAndModifiers,
-    Field::ColorSpaces,
-    Field::MinSize,
-    Field::MaxSize,
-    Field::SizeAlignment,
-    Field::MinBytesPerRow,
-    Field::MaxBytesPerRow,
-    Field::BytesPerRowDivisor,
-    Field::StartOffsetDivisor,
-    Field::DisplayRectAlignment,
-    Field::RequiredMinSize,
-    Field::RequiredMaxSize,
-    Field::MaxWidthTimesHeight,
-    Field::RequireBytesPerRowAtPixelBoundary,
-    Field::BufferCountLimit,
-    Field::UnnamedPixelFormat,
-    Field::UnnamedPixelFormatModifier,
-    Field::UnnamedColorSpace,
-    Field::Heaps,
-    Field::Pairs,
-    Field::HeapType,
-    Field::Id,
-    Field::Contiguous,
-    Field::Secure,
-    Field::Domains,
-];
+/// What a record has at a field.
+#[derive(Clone, Copy, Debug, PartialEq, Eq)]
+pub enum Kind {
+    /// `true` or `false`.
+    Flag,
+    /// A whole number.
+    Number,
+    /// An object with a width and a height.
+    Sides,
+    /// A name.
+    Name,
+    /// A list of names.
+    Names,
+    /// A list of objects.
+    Objects,
+    /// An object.
+    Object,
+    /// Nothing: it is the name of a limit.
+    Limit,
+}
 
 impl Field {
     ghost use Rattle.sysmem_counts.specs.Field.{field_name};
+    ghost use Rattle.sysmem_counts.specs.Field.{kind_of};
     ghost use Rattle.sysmem_counts.specs.declared.field.Field.{Field as Named};
+
+    /// Each field, in the order in which records are read; the limits come before the platform's.
+    pub const ALL: [Field; 43] = [
+        Field::Usage,
+        Field::MinBufferCountForCamping,
+        Field::MinBufferCountForDedicatedSlack,
+        Field::MinBufferCountForSharedSlack,
+        Field::MinBufferCount,
+        Field::MaxBufferCount,
+        Field::BufferMemoryConstraints,
+        Field::ImageFormatConstraints,
+        Field::MinSizeBytes,
+        Field::MaxSizeBytes,
+        Field::PhysicallyContiguousRequired,
+        Field::SecureRequired,
+        Field::CpuDomainSupported,
+        Field::RamDomainSupported,
+        Field::InaccessibleDomainSupported,
+        Field::PermittedHeaps,
+        Field::PixelFormat,
+        Field::PixelFormatModifier,
+        Field::PixelFormatAndModifiers,
+        Field::ColorSpaces,
+        Field::MinSize,
+        Field::MaxSize,
+        Field::SizeAlignment,
+        Field::MinBytesPerRow,
+        Field::MaxBytesPerRow,
+        Field::BytesPerRowDivisor,
+        Field::StartOffsetDivisor,
+        Field::DisplayRectAlignment,
+        Field::RequiredMinSize,
+        Field::RequiredMaxSize,
+        Field::MaxWidthTimesHeight,
+        Field::RequireBytesPerRowAtPixelBoundary,
+        Field::BufferCountLimit,
+        Field::UnnamedPixelFormat,
+        Field::UnnamedPixelFormatModifier,
+        Field::UnnamedColorSpace,
+        Field::Heaps,
+        Field::Pairs,
+        Field::HeapType,
+        Field::Id,
+        Field::Contiguous,
+        Field::Secure,
+        Field::Domains,
+    ];
 
     /// The field's name in a script, as `min_buffer_count`.
     pub fn name(self) -> &'static str
@@ -196,10 +218,60 @@ impl Field {
         }
     }
 
+    /// What a record has at the field.
+    pub fn kind(self) -> Kind
+        ensures { result ≡ kind_of self }
+    {
+        match self {
+            Field::PhysicallyContiguousRequired
+            | Field::SecureRequired
+            | Field::CpuDomainSupported
+            | Field::RamDomainSupported
+            | Field::InaccessibleDomainSupported
+            | Field::RequireBytesPerRowAtPixelBoundary
+            | Field::Contiguous
+            | Field::Secure => Kind::Flag,
+            Field::MinBufferCountForCamping
+            | Field::MinBufferCountForDedicatedSlack
+            | Field::MinBufferCountForSharedSlack
+            | Field::MinBufferCount
+            | Field::MaxBufferCount
+            | Field::MinSizeBytes
+            | Field::MaxSizeBytes
+            | Field::MinBytesPerRow
+            | Field::MaxBytesPerRow
+            | Field::BytesPerRowDivisor
+            | Field::StartOffsetDivisor
+            | Field::MaxWidthTimesHeight
+            | Field::Id => Kind::Number,
+            Field::MinSize
+            | Field::MaxSize
+            | Field::SizeAlignment
+            | Field::DisplayRectAlignment
+            | Field::RequiredMinSize
+            | Field::RequiredMaxSize => Kind::Sides,
+            Field::PixelFormat | Field::PixelFormatModifier | Field::HeapType => Kind::Name,
+            Field::Usage | Field::ColorSpaces | Field::Domains => Kind::Names,
+            Field::ImageFormatConstraints
+            | Field::PermittedHeaps
+            | Field::PixelFormatAndModifiers
+            | Field::Heaps
+            | Field::Pairs => Kind::Objects,
+            Field::BufferMemoryConstraints => Kind::Object,
+            Field::BufferCountLimit
+            | Field::UnnamedPixelFormat
+            | Field::UnnamedPixelFormatModifier
+            | Field::UnnamedColorSpace => Kind::Limit,
+        }
+    }
+
     /// The field of this name; `None` if no field has it.
     pub fn from_name(text: &str) -> Option<Field>
         ensures { (f : Named) → (result ≡ Some f) ↔ (text.now ≡ field_name f) }
     {
-        FIELDS.iter().find(|field| field.name() == text).copied()
+        Field::ALL
+            .iter()
+            .find(|field| field.name() == text)
+            .copied()
     }
 }

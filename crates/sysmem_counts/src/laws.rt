@@ -1,7 +1,16 @@
 //! What is true of counts, whoever works them out.
 
+ghost use Rattle.list_lemmas.specs.Each.{ListsEach};
+ghost use Rattle.sysmem_counts.specs.Field.{field_name};
 ghost use Rattle.sysmem_counts.specs.Laws.{CountLineLeavesNoCount, CountSuitsSome, OneLeastCount};
 ghost use Rattle.sysmem_counts.specs.Laws.{FixedCountLineHolds, UnsuitedCountHasLine};
+
+use crate::field::Field;
+
+/// `Field::ALL` has each field once.
+pub fn all_fields()
+    ensures { ListsEach field_name Field.ALL }
+{}
 
 /// What suits participants suits some of them.
 pub fn count_suits_some()

@@ -15,5 +15,5 @@ mod usage;
 
 pub use bounds::{BUFFER_COUNT_LIMIT, CountBounds};
 pub use constraints::CountConstraints;
-pub use field::Field;
+pub use field::{Field, Kind};
 pub use usage::Usage;

@@ -1,5 +1,5 @@
 -- Every pixel format: its name, its number, the bytes of its pixels, and where its colours lie.
-use Rattle.std.specs.Prelude.{ℕ, List, [], ◌∷◌, codes}
+use Rattle.std.specs.Prelude.{ℕ, List, codes}
 use Rattle.sysmem_formats.specs.declared.pixel_format.PixelFormat.{PixelFormat}
 use Rattle.sysmem_formats.specs.declared.pixel_format.PixelFormat.TheVariants.{R8G8B8A8, B8G8R8A8}
 use Rattle.sysmem_formats.specs.declared.pixel_format.PixelFormat.TheVariants.{R8G8B8X8, B8G8R8X8}
@@ -10,11 +10,6 @@ use Rattle.sysmem_formats.specs.declared.pixel_format.PixelFormat.TheVariants.{N
 use Rattle.sysmem_formats.specs.declared.pixel_format.Sampling.{Sampling}
 use Rattle.sysmem_formats.specs.declared.pixel_format.Sampling.TheVariants.{Full, HalfRow}
 use Rattle.sysmem_formats.specs.declared.pixel_format.Sampling.TheVariants.{TwoPlanes, ThreePlanes}
-
--- every pixel format
-abbrev pub formats : List PixelFormat
-formats = R8G8B8A8 ∷ B8G8R8A8 ∷ R8G8B8X8 ∷ B8G8R8X8 ∷ R8G8B8 ∷ B8G8R8 ∷ R5G6B5 ∷ R8G8 ∷ YUY2 ∷ R8
-    ∷ L8 ∷ I420 ∷ YV12 ∷ NV12 ∷ P010 ∷ []
 
 -- the name of a pixel format
 abbrev pub format_name : PixelFormat → List ℕ

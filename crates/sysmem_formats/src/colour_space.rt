@@ -19,6 +19,18 @@ impl ColourSpace {
     ghost use Rattle.sysmem_formats.specs.declared.colour_space.ColourSpace.{ColourSpace};
     ghost use Rattle.sysmem_formats.specs.Names.{colour_name};
 
+    /// Each colour space.
+    pub const ALL: [ColourSpace; 8] = [
+        ColourSpace::Srgb,
+        ColourSpace::Rec601Ntsc,
+        ColourSpace::Rec601NtscFullRange,
+        ColourSpace::Rec601Pal,
+        ColourSpace::Rec601PalFullRange,
+        ColourSpace::Rec709,
+        ColourSpace::Rec2020,
+        ColourSpace::Rec2100,
+    ];
+
     /// The colour space's name in constraints, platforms and reports.
     pub fn name(self) -> &'static str
         ensures { result.now ≡ colour_name self }
@@ -40,16 +52,9 @@ impl ColourSpace {
         ensures { (colour : ColourSpace) → (result ≡ Some colour)
             ↔ (name.now ≡ colour_name colour) }
     {
-        match name {
-            "SRGB" => Some(ColourSpace::Srgb),
-            "REC601_NTSC" => Some(ColourSpace::Rec601Ntsc),
-            "REC601_NTSC_FULL_RANGE" => Some(ColourSpace::Rec601NtscFullRange),
-            "REC601_PAL" => Some(ColourSpace::Rec601Pal),
-            "REC601_PAL_FULL_RANGE" => Some(ColourSpace::Rec601PalFullRange),
-            "REC709" => Some(ColourSpace::Rec709),
-            "REC2020" => Some(ColourSpace::Rec2020),
-            "REC2100" => Some(ColourSpace::Rec2100),
-            _ => None,
-        }
+        ColourSpace::ALL
+            .iter()
+            .find(|one| one.name() == name)
+            .copied()
     }
 }

@@ -134,7 +134,7 @@ fn format_alignment(format: PixelFormat) -> (u32, u32)
 }
 
 /// Rows of a height, a tile's part included.
-fn tiled_rows(modifier: Modifier, height: u64) -> u64
+pub fn tiled_rows(modifier: Modifier, height: u64) -> u64
     requires { height < 2 ^ 33 }
     ensures value { result ≡ rows_of modifier height }
     ensures small { result < 2 ^ 34 }

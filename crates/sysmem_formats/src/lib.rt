@@ -10,6 +10,7 @@
 #![tactic(auto)]
 
 mod colour_space;
+pub mod laws;
 mod layout;
 mod modifier;
 mod offer;
@@ -19,7 +20,7 @@ mod pixel_format;
 pub use colour_space::ColourSpace;
 pub use layout::{
     bytes_per_pixel, image_bytes, is_tiled_misfit, own_alignment, own_row_divisor, row_bytes,
-    wide_image_bytes, wide_row_bytes,
+    tiled_rows, wide_image_bytes, wide_row_bytes,
 };
 pub use modifier::{MODIFIERS, Modifier};
 pub use offer::{Offer, Pair};

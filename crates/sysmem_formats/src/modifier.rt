@@ -19,6 +19,13 @@ impl Modifier {
     ghost use Rattle.sysmem_formats.specs.Codes.{modifier_code};
     ghost use Rattle.sysmem_formats.specs.Names.{modifier_name};
 
+    /// Each modifier, in the order of `index`.
+    pub const ALL: [Modifier; MODIFIERS] = [
+        Modifier::Linear,
+        Modifier::IntelXTiled,
+        Modifier::IntelYTiled,
+    ];
+
     /// The modifier's name in constraints, platforms and reports.
     pub fn name(self) -> &'static str
         ensures { result.now ≡ modifier_name self }
@@ -35,12 +42,7 @@ impl Modifier {
         ensures { (modifier : Modifier) → (result ≡ Some modifier)
             ↔ (name.now ≡ modifier_name modifier) }
     {
-        match name {
-            "LINEAR" => Some(Modifier::Linear),
-            "INTEL_I915_X_TILED" => Some(Modifier::IntelXTiled),
-            "INTEL_I915_Y_TILED" => Some(Modifier::IntelYTiled),
-            _ => None,
-        }
+        Modifier::ALL.iter().find(|one| one.name() == name).copied()
     }
 
     /// The modifier's place in the list of all, from 0.

@@ -43,6 +43,25 @@ impl PixelFormat {
     ghost use Rattle.sysmem_formats.specs.declared.pixel_format.PixelFormat.{PixelFormat};
     ghost use Rattle.sysmem_formats.specs.Formats.{format_name, format_code, pixel_bytes, sampling_of};
 
+    /// Each pixel format, in the order of `index`.
+    pub const ALL: [PixelFormat; FORMATS] = [
+        PixelFormat::R8G8B8A8,
+        PixelFormat::B8G8R8A8,
+        PixelFormat::R8G8B8X8,
+        PixelFormat::B8G8R8X8,
+        PixelFormat::R8G8B8,
+        PixelFormat::B8G8R8,
+        PixelFormat::R5G6B5,
+        PixelFormat::R8G8,
+        PixelFormat::YUY2,
+        PixelFormat::R8,
+        PixelFormat::L8,
+        PixelFormat::I420,
+        PixelFormat::YV12,
+        PixelFormat::NV12,
+        PixelFormat::P010,
+    ];
+
     /// The format's name in constraints, platforms and reports.
     pub fn name(self) -> &'static str
         ensures { result.now ≡ format_name self }
@@ -71,24 +90,10 @@ impl PixelFormat {
         ensures { (format : PixelFormat) → (result ≡ Some format)
             ↔ (name.now ≡ format_name format) }
     {
-        match name {
-            "R8G8B8A8" => Some(PixelFormat::R8G8B8A8),
-            "B8G8R8A8" => Some(PixelFormat::B8G8R8A8),
-            "R8G8B8X8" => Some(PixelFormat::R8G8B8X8),
-            "B8G8R8X8" => Some(PixelFormat::B8G8R8X8),
-            "R8G8B8" => Some(PixelFormat::R8G8B8),
-            "B8G8R8" => Some(PixelFormat::B8G8R8),
-            "R5G6B5" => Some(PixelFormat::R5G6B5),
-            "R8G8" => Some(PixelFormat::R8G8),
-            "YUY2" => Some(PixelFormat::YUY2),
-            "R8" => Some(PixelFormat::R8),
-            "L8" => Some(PixelFormat::L8),
-            "I420" => Some(PixelFormat::I420),
-            "YV12" => Some(PixelFormat::YV12),
-            "NV12" => Some(PixelFormat::NV12),
-            "P010" => Some(PixelFormat::P010),
-            _ => None,
-        }
+        PixelFormat::ALL
+            .iter()
+            .find(|one| one.name() == name)
+            .copied()
     }
 
     /// The format's place in the list of all, from 0.

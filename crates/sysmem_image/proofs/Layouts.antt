@@ -2,12 +2,13 @@
 use Rattle.std.proofs.Common.{ℕ, ◌*◌, ◌≤◌, arith}
 use Rattle.std.proofs.Math.Nat.{mul-le-mul, mul-le-mul_right}
 use Rattle.sysmem_formats.specs.declared.pixel_format.PixelFormat.{PixelFormat}
-use Rattle.sysmem_formats.specs.declared.pixel_format.PixelFormat.TheVariants.{I420, YV12, NV12, P010}
+use Rattle.sysmem_formats.specs.declared.pixel_format.Sampling.{Sampling}
+use Rattle.sysmem_formats.specs.declared.pixel_format.Sampling.TheVariants.{Full, HalfRow, TwoPlanes, ThreePlanes}
 use Rattle.sysmem_formats.specs.declared.modifier.Modifier.{Modifier}
 use Rattle.sysmem_formats.specs.declared.modifier.Modifier.TheVariants.{Linear, IntelXTiled, IntelYTiled}
 use Rattle.sysmem_formats.specs.declared.offer.Offer.{Offer}
 use Rattle.sysmem_formats.specs.declared.offer.Offer.TheVariants.{NoImage, Image}
-use Rattle.sysmem_formats.specs.Layout.{pixel_bytes, row_up_to, rows_of, plane_bytes, row_bytes_of, image_bytes_of}
+use Rattle.sysmem_formats.specs.Layout.{pixel_bytes, row_up_to, rows_of, sampled_bytes, sampling_of, plane_bytes, row_bytes_of, image_bytes_of}
 
 -- more bytes of a row are no fewer with their tile's part
 row_up_to_mono : (m : Modifier) (x y : ℕ) → x ≤ y → row_up_to m x ≤ row_up_to m y
@@ -23,11 +24,12 @@ rows_of_mono IntelYTiled x y h = omega arith
 
 -- more bytes of the first plane are no fewer with the other planes
 plane_bytes_mono : (f : PixelFormat) (x y : ℕ) → x ≤ y → plane_bytes f x ≤ plane_bytes f y
-plane_bytes_mono I420 x y h = omega arith
-plane_bytes_mono YV12 x y h = omega arith
-plane_bytes_mono NV12 x y h = omega arith
-plane_bytes_mono P010 x y h = omega arith
-plane_bytes_mono _ x y h = h
+plane_bytes_mono f x y h = by_sampling (sampling_of f) where
+  by_sampling : (s : Sampling) → sampled_bytes s x ≤ sampled_bytes s y
+  by_sampling Full = h
+  by_sampling HalfRow = h
+  by_sampling TwoPlanes = omega (arith, h)
+  by_sampling ThreePlanes = omega (arith, h)
 
 -- a wider row has no fewer bytes
 pub row_bytes_mono : (o : Offer) (w v : ℕ) → w ≤ v → row_bytes_of o w ≤ row_bytes_of o v

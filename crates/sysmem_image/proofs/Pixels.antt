@@ -1,5 +1,5 @@
 -- Rows that end at a pixel.
-use Rattle.std.proofs.Common.{◌≡◌, ◌↔◌, ℕ, zero, suc, ◌*◌, ◌%◌, ◌≤◌, ◌==◌, max, inl, inr, Bool, true, false, refl, sym, subst, arith}
+use Rattle.std.proofs.Common.{rules, ◌≡◌, ◌↔◌, ℕ, zero, suc, ◌*◌, ◌%◌, ◌≤◌, ◌==◌, max, inl, inr, Bool, true, false, refl, sym, subst, arith}
 use Rattle.std.specs.Prelude.{if◌then◌else◌}
 use Rattle.std.specs.Int.{◌∣◌}
 use Rattle.std.proofs.Math.Nat.{mul-dvd-mul_left, mul-dvd-mul_right, dvd-mul_left, dvd-mul_right, dvd_of_mul-dvd-mul_left, mul-pos}
@@ -9,7 +9,6 @@ use Rattle.sysmem_image.specs.Entries.{effective, pixel_multiple, row_divisor_as
 use Rattle.sysmem_formats.specs.declared.offer.Offer.{Offer}
 use Rattle.sysmem_formats.specs.declared.offer.Offer.TheVariants.{NoImage, Image}
 use Rattle.sysmem_formats.specs.declared.pixel_format.PixelFormat.{PixelFormat}
-use Rattle.sysmem_formats.specs.declared.pixel_format.PixelFormat.TheVariants.{R8G8B8A8, B8G8R8A8, R8G8B8X8, B8G8R8X8, R8G8B8, B8G8R8, R5G6B5, R8G8, YUY2, R8, L8, I420, YV12, NV12, P010}
 use Rattle.sysmem_formats.specs.Layout.{bytes_per_pixel_of, pixel_bytes}
 use Rattle.sysmem_image.specs.declared.entry.EntryBounds.{EntryBounds}
 use Rattle.sysmem_image.specs.Fields.{MinSize, MaxSize, SizeAlignment, MinBytesPerRow, MaxBytesPerRow, BytesPerRowDivisor, StartOffsetDivisor, DisplayRectAlignment, RequiredMinSize, RequiredMaxSize, MaxWidthTimesHeight, Width, Height, Keeps, rule_of, value}
@@ -103,21 +102,7 @@ pixel_some : (o : Offer) → (1 ≤ bytes_per_pixel_of o) × (bytes_per_pixel_of
 pixel_some NoImage = (omega arith, omega arith)
 pixel_some (Image pair colour) = of_format pair.format where
   of_format : (f : PixelFormat) → (1 ≤ pixel_bytes f) × (pixel_bytes f ≤ 4)
-  of_format R8G8B8A8 = (omega arith, omega arith)
-  of_format B8G8R8A8 = (omega arith, omega arith)
-  of_format R8G8B8X8 = (omega arith, omega arith)
-  of_format B8G8R8X8 = (omega arith, omega arith)
-  of_format R8G8B8 = (omega arith, omega arith)
-  of_format B8G8R8 = (omega arith, omega arith)
-  of_format R5G6B5 = (omega arith, omega arith)
-  of_format R8G8 = (omega arith, omega arith)
-  of_format YUY2 = (omega arith, omega arith)
-  of_format R8 = (omega arith, omega arith)
-  of_format L8 = (omega arith, omega arith)
-  of_format I420 = (omega arith, omega arith)
-  of_format YV12 = (omega arith, omega arith)
-  of_format NV12 = (omega arith, omega arith)
-  of_format P010 = (omega arith, omega arith)
+  of_format f = search rules
 
 -- a multiple of the row divisor that an entry puts on an offer is one of its own, and of a
 -- pixel's bytes where it asks for them

@@ -1,3 +1,4 @@
+pub mod Domains
 pub mod FirstRefusing
 pub mod LawProofs
 pub mod Joined

@@ -13,6 +13,13 @@ pub enum CoherencyDomain {
 }
 
 impl CoherencyDomain {
+    /// Each coherency domain, in the order in which they are tried.
+    pub const ALL: [CoherencyDomain; 3] = [
+        CoherencyDomain::Cpu,
+        CoherencyDomain::Ram,
+        CoherencyDomain::Inaccessible,
+    ];
+
     /// The domain's name in a script and in a report.
     pub fn name(self) -> &'static str
         ensures { result.now ≡ domain_name self }
@@ -28,12 +35,10 @@ impl CoherencyDomain {
     pub fn from_name(name: &str) -> Option<CoherencyDomain>
         ensures { (d : Domain) → (result ≡ Some d) ↔ (name.now ≡ domain_name d) }
     {
-        match name {
-            "cpu" => Some(CoherencyDomain::Cpu),
-            "ram" => Some(CoherencyDomain::Ram),
-            "inaccessible" => Some(CoherencyDomain::Inaccessible),
-            _ => None,
-        }
+        CoherencyDomain::ALL
+            .iter()
+            .find(|one| one.name() == name)
+            .copied()
     }
 }
 

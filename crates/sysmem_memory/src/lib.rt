@@ -21,4 +21,4 @@ pub use constraints::MemoryConstraints;
 pub use domain::{CoherencyDomain, CoherencyDomains};
 pub use heap::{Heap, HeapInfo};
 pub use place::Place;
-pub use refusal::{refuses, refuses_in};
+pub use refusal::{PLACE_FIELDS, refuses, refuses_in};

@@ -13,6 +13,17 @@ use crate::domain::CoherencyDomain;
 use crate::heap::{Heap, HeapInfo};
 use sysmem_counts::{Field, Usage};
 
+/// The fields that can refuse a place, in the order in which `refuses` asks them.
+pub const PLACE_FIELDS: [Field; 7] = [
+    Field::PermittedHeaps,
+    Field::PhysicallyContiguousRequired,
+    Field::SecureRequired,
+    Field::CpuDomainSupported,
+    Field::RamDomainSupported,
+    Field::InaccessibleDomainSupported,
+    Field::Usage,
+];
+
 /// The first field that refuses a participant of these constraints and this usage the coherency
 /// domain of the heap: permitted_heaps, physically_contiguous_required, secure_required, the
 /// domain's own field or usage, in this order. `None` where the participant accepts it.

@@ -16,6 +16,18 @@ use serde_json::Value;
 use std::alloc::Global;
 use sysmem_counts::{CountConstraints, Field};
 
+/// The fields of a participant's constraints.
+pub const CONSTRAINTS_FIELDS: [Field; 8] = [
+    Field::Usage,
+    Field::MinBufferCountForCamping,
+    Field::MinBufferCountForDedicatedSlack,
+    Field::MinBufferCountForSharedSlack,
+    Field::MinBufferCount,
+    Field::MaxBufferCount,
+    Field::BufferMemoryConstraints,
+    Field::ImageFormatConstraints,
+];
+
 fn counts_of(object: &Value) -> Result<CountConstraints, Fault>
     ensures { result ≡ counts_of (view object.now) }
 {
@@ -40,17 +52,7 @@ fn expect_participant(object: &Value) -> Result<(), Fault>
     ensures { seen_by (λ _. view object.now) result
         ≡ object_of Whole constraints_fields (view object.now) }
 {
-    let fields = [
-        Field::Usage,
-        Field::MinBufferCountForCamping,
-        Field::MinBufferCountForDedicatedSlack,
-        Field::MinBufferCountForSharedSlack,
-        Field::MinBufferCount,
-        Field::MaxBufferCount,
-        Field::BufferMemoryConstraints,
-        Field::ImageFormatConstraints,
-    ];
-    expect_object(object, FaultPlace::Whole, &fields)
+    expect_object(object, FaultPlace::Whole, &CONSTRAINTS_FIELDS)
 }
 
 fn participant_of(alloc: Global, object: &Value) -> Result<Constraints, Fault>

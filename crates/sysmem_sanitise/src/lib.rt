@@ -9,6 +9,6 @@
 
 mod constraints;
 
-pub use constraints::read_constraints;
+pub use constraints::{CONSTRAINTS_FIELDS, read_constraints};
 pub use negotiation_inputs::{Constraints, Platform, laws};
 pub use record_reading::{Code, Fault, FaultPlace, read_platform};

@@ -1,3 +1,4 @@
+pub mod KindList
 pub mod LeavingOut
 pub mod Leading
 pub mod Acting

@@ -1,5 +1,5 @@
 -- What an action asks of a node.
-use Rattle.std.specs.Prelude.{Bool, true, false, Option, option_map}
+use Rattle.std.specs.Prelude.{ℕ, Bool, true, false, List, Option, None, codes, option_map}
 use Rattle.std.specs.Arc.{arc_value}
 use Rattle.negotiation_inputs.specs.Participant.{Participant}
 use Rattle.sysmem_tree.specs.declared.action.Action.{Action}
@@ -34,6 +34,30 @@ deed_of (actions.SetConstraints shared) = sets (option_map (λ one. arc_value on
 deed_of actions.AttachToken = attaches_token
 deed_of actions.Release = releases
 deed_of actions.Close = closes
+
+-- the name of an action
+abbrev pub action_name : ActionKind → List ℕ
+action_name Duplicate = codes "duplicate"
+action_name CreateGroup = codes "create_group"
+action_name Bind = codes "bind"
+action_name CreateChild = codes "create_child"
+action_name AllChildrenPresent = codes "all_children_present"
+action_name SetConstraints = codes "set_constraints"
+action_name AttachToken = codes "attach_token"
+action_name Release = codes "release"
+action_name Close = codes "close"
+
+-- what an action of a kind asks, without constraints
+abbrev pub plain_deed : ActionKind → Deed
+plain_deed Duplicate = duplicates
+plain_deed CreateGroup = creates_group
+plain_deed Bind = binds
+plain_deed CreateChild = creates_child
+plain_deed AllChildrenPresent = has_all_children
+plain_deed SetConstraints = sets None
+plain_deed AttachToken = attaches_token
+plain_deed Release = releases
+plain_deed Close = closes
 
 -- which of the nine it is
 abbrev pub kind_of : Deed → ActionKind

@@ -1,7 +1,7 @@
 //! What is asked of a tree.
 
 ghost use Rattle.std.specs.Prelude.{◌≡◌};
-ghost use Rattle.sysmem_tree.specs.ActionKind.{deed_of, kind_of, ends_node};
+ghost use Rattle.sysmem_tree.specs.ActionKind.{action_name, deed_of, kind_of, ends_node, plain_deed};
 
 use crate::id::NodeId;
 use negotiation_inputs::Constraints;
@@ -56,6 +56,23 @@ pub enum ActionKind {
 }
 
 impl Action {
+    /// The action of a kind, without constraints.
+    pub fn plain(kind: ActionKind) -> Action
+        ensures { deed_of result ≡ plain_deed kind }
+    {
+        match kind {
+            ActionKind::Duplicate => Action::Duplicate,
+            ActionKind::CreateGroup => Action::CreateGroup,
+            ActionKind::Bind => Action::Bind,
+            ActionKind::CreateChild => Action::CreateChild,
+            ActionKind::AllChildrenPresent => Action::AllChildrenPresent,
+            ActionKind::SetConstraints => Action::SetConstraints(None),
+            ActionKind::AttachToken => Action::AttachToken,
+            ActionKind::Release => Action::Release,
+            ActionKind::Close => Action::Close,
+        }
+    }
+
     /// The action without the constraints that it sets.
     pub fn kind(&self) -> ActionKind
         ensures { result ≡ kind_of (deed_of self.now) }
@@ -75,6 +92,49 @@ impl Action {
 }
 
 impl ActionKind {
+    ghost use Rattle.std.specs.Prelude.{◌↔◌};
+    ghost use Rattle.sysmem_tree.specs.declared.action.ActionKind.{ActionKind as Kind};
+
+    /// Each kind of action.
+    pub const ALL: [ActionKind; 9] = [
+        ActionKind::Duplicate,
+        ActionKind::CreateGroup,
+        ActionKind::Bind,
+        ActionKind::CreateChild,
+        ActionKind::AllChildrenPresent,
+        ActionKind::SetConstraints,
+        ActionKind::AttachToken,
+        ActionKind::Release,
+        ActionKind::Close,
+    ];
+
+    /// The action's name, as `create_group`.
+    pub fn name(self) -> &'static str
+        ensures { result.now ≡ action_name self }
+    {
+        match self {
+            ActionKind::Duplicate => "duplicate",
+            ActionKind::CreateGroup => "create_group",
+            ActionKind::Bind => "bind",
+            ActionKind::CreateChild => "create_child",
+            ActionKind::AllChildrenPresent => "all_children_present",
+            ActionKind::SetConstraints => "set_constraints",
+            ActionKind::AttachToken => "attach_token",
+            ActionKind::Release => "release",
+            ActionKind::Close => "close",
+        }
+    }
+
+    /// The action of this name; `None` if none has it.
+    pub fn from_name(name: &str) -> Option<ActionKind>
+        ensures { (kind : Kind) → (result ≡ Some kind) ↔ (name.now ≡ action_name kind) }
+    {
+        ActionKind::ALL
+            .iter()
+            .find(|one| one.name() == name)
+            .copied()
+    }
+
     /// Whether it leaves its node gone. Such an action is never refused because of its domain.
     pub fn ends_node(self) -> bool
         ensures { result ≡ ends_node self }

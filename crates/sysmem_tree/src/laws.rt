@@ -1,7 +1,16 @@
 //! What is true of trees, whoever makes them.
 
+ghost use Rattle.list_lemmas.specs.Each.{ListsEach};
+ghost use Rattle.sysmem_tree.specs.ActionKind.{action_name};
 ghost use Rattle.sysmem_tree.specs.Laws.{OnePath, ActionIsStep, SameMapSameShape, OneForest, SoundStays, NumbersStay, ReadyStays, FailedStays, ForestStays, PathsInShapesDiffer, FewGroupsNest, SettledGrows, Counts, FirstGroup, SelectionsAreListed, OneIsEarlier, EarlierIsAnOrder, PrefixOfPrefix, Relabels, MapsOfLogs, InitialShape, Confluence};
 ghost use Rattle.sysmem_tree.specs.Members.{MembersStandOnce, MembersStay};
+
+use crate::action::ActionKind;
+
+/// `ActionKind::ALL` has each kind of action once.
+pub fn all_kinds()
+    ensures { ListsEach action_name ActionKind.ALL }
+{}
 
 /// Each node has one path.
 pub fn one_path()

@@ -6,7 +6,9 @@ use crate::wishes::{Side, Wish, Wishes};
 use explanation_text::{Gathered, Text, Words};
 use std::alloc::{AllocError, Global};
 use sysmem_counts::Field;
-use sysmem_formats::{Modifier, Offer, Sampling, bytes_per_pixel, own_alignment, own_row_divisor};
+use sysmem_formats::{
+    Modifier, Offer, Sampling, bytes_per_pixel, own_alignment, own_row_divisor, tiled_rows,
+};
 use sysmem_image::entry_for;
 
 /// A number, and where it comes from.
@@ -46,19 +48,14 @@ fn has_half_plane(offer: &Offer) -> bool {
 
 /// How many rows a tile has.
 fn tile_rows(offer: &Offer) -> u128 {
-    match modifier_of(offer) {
-        Modifier::Linear => 1,
-        Modifier::IntelXTiled => 8,
-        Modifier::IntelYTiled => 32,
-    }
+    u128::from(tiled_rows(modifier_of(offer), 1))
 }
 
 /// How many bytes a row of a tile has.
 fn tile_bytes(offer: &Offer) -> u128 {
     match modifier_of(offer) {
         Modifier::Linear => 1,
-        Modifier::IntelXTiled => 512,
-        Modifier::IntelYTiled => 128,
+        _ => u128::from(own_row_divisor(offer)),
     }
 }
 

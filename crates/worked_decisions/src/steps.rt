@@ -7,7 +7,7 @@ use std::alloc::Global;
 use std::sync::Arc;
 use std::test::Fail;
 use sysmem_sanitise::read_constraints;
-use sysmem_tree::Action;
+use sysmem_tree::{Action, ActionKind};
 
 const PLATFORM: &str =
     r#"{"heaps":[{"heap_type":"ram","domains":["cpu","ram"]},{"heap_type":"cma","contiguous":true,"domains":["cpu","ram"]},{"heap_type":"vault","contiguous":true,"secure":true,"domains":["inaccessible"]}],"pairs":[{"pixel_format":"B8G8R8A8"},{"pixel_format":"B8G8R8A8","pixel_format_modifier":"INTEL_I915_X_TILED"},{"pixel_format":"NV12"},{"pixel_format":"R8"},{"pixel_format":"R8G8B8A8"}],"color_spaces":["SRGB","REC709"]}"#;
@@ -118,15 +118,8 @@ pub(crate) fn asked(alloc: Global, word: &str) -> Result<Arc<Constraints>, Fail>
 
 /// What a word does to a node; one that names no action names the constraints that are set.
 pub(crate) fn action(alloc: Global, word: &str) -> Result<Action, Fail> {
-    Ok(match word {
-        "duplicate" => Action::Duplicate,
-        "create_group" => Action::CreateGroup,
-        "bind" => Action::Bind,
-        "create_child" => Action::CreateChild,
-        "all_children_present" => Action::AllChildrenPresent,
-        "attach_token" => Action::AttachToken,
-        "release" => Action::Release,
-        "close" => Action::Close,
-        _ => Action::SetConstraints(Some(asked(alloc, word)?)),
-    })
+    match ActionKind::from_name(word) {
+        Some(kind) if kind != ActionKind::SetConstraints => Ok(Action::plain(kind)),
+        _ => Ok(Action::SetConstraints(Some(asked(alloc, word)?))),
+    }
 }

@@ -6,7 +6,7 @@ ghost use Rattle.record_reading.specs.Reading.Bounds.{is_multiple};
 
 use constraint_edits::Amount;
 use sysmem_counts::Field;
-use sysmem_image::{EntryBounds, ImageBounds, Size};
+use sysmem_image::{EntryBounds, ImageBounds, Size, absent_bound, bounds_table};
 
 /// The greatest alignment or divisor that an entry may have: `most_multiple` of the definitions, to
 /// which `is_multiple` holds it.
@@ -29,6 +29,54 @@ fn is_multiple(number: u64) -> bool
     1 <= number && number <= u64::from(MOST_MULTIPLE)
 }
 
+macro_rules! numbers {
+    (($field:ident, $number:ident) $($name:ident: $shape:ident $rule:ident $bound:ident $absent:ident $range:ident,)*) => {
+        match $field {
+            $(Field::$bound => number_within!($shape $range $number),)*
+            _ => false,
+        }
+    };
+}
+
+macro_rules! number_within {
+    (size $range:ident $number:ident) => { false };
+    (number multiple $number:ident) => { is_multiple($number) };
+    (number $range:ident $number:ident) => { is_count($number) };
+    (large from_one $number:ident) => { 1 <= $number };
+}
+
+macro_rules! all_sides {
+    (($field:ident, $width:ident, $height:ident) $($name:ident: $shape:ident $rule:ident $bound:ident $absent:ident $range:ident,)*) => {
+        match $field {
+            $(Field::$bound => sides_within!($shape $range $width $height),)*
+            _ => false,
+        }
+    };
+}
+
+macro_rules! sides_within {
+    (size multiple $width:ident $height:ident) => { is_multiple($width) && is_multiple($height) };
+    (size $range:ident $width:ident $height:ident) => { is_count($width) && is_count($height) };
+    ($shape:ident $range:ident $width:ident $height:ident) => { false };
+}
+
+macro_rules! put_all {
+    (($bound:ident, $kept:ident) $($name:ident: $shape:ident $rule:ident $field:ident $absent:ident $range:ident,)*) => {
+        ImageBounds {
+            $($name: put_one!($shape $range $bound, Field::$field, $kept.$name, $absent),)*
+        }
+    };
+}
+
+macro_rules! put_one {
+    (number any $bound:ident, $field:expr, $kept:expr, $absent:ident) => { $bound.number($field, $kept, absent_bound!(number $absent)) };
+    (number some $bound:ident, $field:expr, $kept:expr, $absent:ident) => { $bound.some($field, $kept) };
+    (number multiple $bound:ident, $field:expr, $kept:expr, $absent:ident) => { $bound.divisor($field, $kept) };
+    (large from_one $bound:ident, $field:expr, $kept:expr, $absent:ident) => { $bound.large($field, $kept) };
+    (size any $bound:ident, $field:expr, $kept:expr, $absent:ident) => { $bound.sides($field, $kept, absent_bound!(number $absent)) };
+    (size $range:ident $bound:ident, $field:expr, $kept:expr, $absent:ident) => { $bound.some_sides($field, $kept, absent_bound!(number $absent)) };
+}
+
 impl Bound {
     /// Whether a record may state it so.
     pub(crate) fn may_be(&self) -> bool {
@@ -40,64 +88,21 @@ impl Bound {
     }
 
     fn may_be_number(&self, number: u64) -> bool {
-        match self.field {
-            Field::BytesPerRowDivisor | Field::StartOffsetDivisor => is_multiple(number),
-            Field::MinBytesPerRow | Field::MaxBytesPerRow => is_count(number),
-            Field::MaxWidthTimesHeight => 1 <= number,
-            _ => false,
-        }
+        let field = self.field;
+        bounds_table!(numbers!(field, number))
     }
 
     fn may_be_sides(&self, width: u64, height: u64) -> bool {
-        match self.field {
-            Field::SizeAlignment | Field::DisplayRectAlignment => {
-                is_multiple(width) && is_multiple(height)
-            }
-            Field::MinSize | Field::MaxSize | Field::RequiredMinSize | Field::RequiredMaxSize => {
-                is_count(width) && is_count(height)
-            }
-            _ => false,
-        }
+        let field = self.field;
+        bounds_table!(all_sides!(field, width, height))
     }
 
     /// The bounds with this one in the place of theirs.
     pub(crate) fn put(&self, bounds: &EntryBounds) -> EntryBounds {
+        let bound = self;
         let kept = &bounds.asked;
         EntryBounds {
-            asked: ImageBounds {
-                min_size: self.some_sides(Field::MinSize, kept.min_size, 1),
-                max_size: self.sides(Field::MaxSize, kept.max_size, u32::MAX),
-                size_alignment: self.some_sides(Field::SizeAlignment, kept.size_alignment, 1),
-                min_bytes_per_row: self.some(Field::MinBytesPerRow, kept.min_bytes_per_row),
-                max_bytes_per_row: self.number(
-                    Field::MaxBytesPerRow,
-                    kept.max_bytes_per_row,
-                    u32::MAX,
-                ),
-                bytes_per_row_divisor: self.divisor(
-                    Field::BytesPerRowDivisor,
-                    kept.bytes_per_row_divisor,
-                ),
-                start_offset_divisor: self.some(
-                    Field::StartOffsetDivisor,
-                    kept.start_offset_divisor,
-                ),
-                display_rect_alignment: self.some_sides(
-                    Field::DisplayRectAlignment,
-                    kept.display_rect_alignment,
-                    1,
-                ),
-                required_min_size: self.some_sides(
-                    Field::RequiredMinSize,
-                    kept.required_min_size,
-                    u32::MAX,
-                ),
-                required_max_size: self.sides(Field::RequiredMaxSize, kept.required_max_size, 0),
-                max_width_times_height: self.large(
-                    Field::MaxWidthTimesHeight,
-                    kept.max_width_times_height,
-                ),
-            },
+            asked: bounds_table!(put_all!(bound, kept)),
             at_pixel_boundary: bounds.at_pixel_boundary,
         }
     }

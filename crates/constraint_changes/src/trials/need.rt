@@ -2,7 +2,6 @@
 //! selected.
 
 use crate::trials::group::Group;
-use settings_reasons::DOMAINS;
 use std::alloc::{AllocError, Global};
 use sysmem_counts::BUFFER_COUNT_LIMIT;
 use sysmem_memory::{CoherencyDomain, HeapInfo, refuses};
@@ -91,7 +90,7 @@ pub(crate) fn need_too_many(
         return Ok(true);
     }
     for heap in group.scenario.platform.heaps() {
-        for coherency in DOMAINS {
+        for coherency in &CoherencyDomain::ALL {
             if heap.domains.has(*coherency)
                 && !need_in(alloc, group, people, Some((heap, *coherency)))?.is_too_great()
             {

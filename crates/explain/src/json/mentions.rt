@@ -3,8 +3,8 @@
 use crate::json::object::Object;
 use crate::json::scene::Scene;
 use crate::json::values::count_value;
+use drm_images::{bits_of, letters_of};
 use explanation_text::{Gathered, Mention, Thing};
-use report_json::{format_letters, modifier_digits};
 use serde_json::Value;
 use std::alloc::{AllocError, Global};
 use sysmem_counts::Field;
@@ -82,7 +82,7 @@ impl Mentions {
         let mut values = Gathered::new(alloc);
         for format in &self.formats {
             let mut object = Object::new(alloc);
-            match format_letters(*format) {
+            match letters_of(*format) {
                 Some(letters) => object.say("fourcc", letters)?,
                 None => object.put("fourcc", Value::Null)?,
             }
@@ -97,7 +97,8 @@ impl Mentions {
         let mut values = Gathered::new(alloc);
         for modifier in &self.modifiers {
             let mut object = Object::new(alloc);
-            object.say("drm_modifier", modifier_digits(*modifier))?;
+            let bits = bits_of(*modifier);
+            object.say("drm_modifier", &format!(in alloc; "0x{bits:016x}")?)?;
             object.say("modifier", modifier.name())?;
             values.add(object.into_value());
         }

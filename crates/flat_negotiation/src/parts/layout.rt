@@ -2,48 +2,21 @@
 
 ghost use Rattle.std.specs.Prelude.{◌≡◌, ◌<◌, ◌≤◌, ◌^◌, IfNone, IfSome, IsSome, Some};
 ghost use Rattle.sysmem_formats.specs.declared.offer.Pair.{Pair as Codes};
-ghost use Rattle.drm_images.specs.Codes.{fourcc, modifier_bits};
+ghost use Rattle.drm_images.specs.Codes.{fourcc};
 ghost use Rattle.drm_images.specs.Planes.{bytes_of, planes_of};
 ghost use Rattle.flat_negotiation.specs.Layout.{IsLayout, IsNoLayout, IsPairLayout, flat_plane, flat_planes, no_layout};
 
 use crate::parts::flat::{FlatLayout, FlatPlane};
 use crate::parts::pairs::pair_of;
-use drm_images::{Plane, image_bytes, plane_at};
-use sysmem_formats::{Modifier, Pair, PixelFormat, is_tiled_misfit};
+use drm_images::{Plane, code_of, image_bytes, plane_at};
+use sysmem_formats::{Pair, PixelFormat, is_tiled_misfit};
 
 /// The `DRM_FORMAT_*` code of a format that has one, as all have but `L8`.
-pub fn code_of(format: PixelFormat) -> u32
+pub fn format_code(format: PixelFormat) -> u32
     requires { IsSome (fourcc format) }
     ensures { fourcc format ≡ Some result }
 {
-    match format {
-        PixelFormat::R8G8B8A8 => 0x3432_4241,
-        PixelFormat::B8G8R8A8 => 0x3432_5241,
-        PixelFormat::R8G8B8X8 => 0x3432_4258,
-        PixelFormat::B8G8R8X8 => 0x3432_5258,
-        PixelFormat::R8G8B8 => 0x3432_4742,
-        PixelFormat::B8G8R8 => 0x3432_4752,
-        PixelFormat::R5G6B5 => 0x3631_4752,
-        PixelFormat::R8G8 => 0x3838_5247,
-        PixelFormat::YUY2 => 0x5659_5559,
-        PixelFormat::R8 => 0x2020_3852,
-        PixelFormat::I420 => 0x3231_5559,
-        PixelFormat::YV12 => 0x3231_5659,
-        PixelFormat::NV12 => 0x3231_564e,
-        PixelFormat::P010 => 0x3031_3050,
-        PixelFormat::L8 => 0,
-    }
-}
-
-/// The 64 bits of a modifier.
-pub fn modifier_code(modifier: Modifier) -> u64
-    ensures { result ≡ modifier_bits modifier }
-{
-    match modifier {
-        Modifier::Linear => 0,
-        Modifier::IntelXTiled => 0x0100_0000_0000_0001,
-        Modifier::IntelYTiled => 0x0100_0000_0000_0002,
-    }
+    code_of(format)
 }
 
 fn flat_plane(plane: Option<Plane>) -> FlatPlane

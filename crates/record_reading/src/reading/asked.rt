@@ -8,6 +8,7 @@ ghost use Rattle.record_reading.specs.Reading.Fields.{Reads, read_each, seen_by}
 
 use super::field::{add, expect_object, list_of, stated};
 use super::name::choice_of;
+use super::pair::PAIR_FIELDS;
 use crate::fault::{Code, Fault, FaultPlace};
 use negotiation_inputs::{AskedPair, MOST_ENTRIES, asks_misfit, is_asked_already, is_same_asked};
 use serde_json::Value;
@@ -105,11 +106,10 @@ fn add_further(entries: &[Entry], pairs: &mut Vec<AskedPair>, value: &Value) -> 
     ensures { Reads (λ lack. with_further lack entries.now pairs.old.items (view value.now))
         (seen_by (λ _. pairs.new.items) result) }
 {
-    let fields = [Field::PixelFormat, Field::PixelFormatModifier];
     expect_object(
         value,
         FaultPlace::At(Field::PixelFormatAndModifiers),
-        &fields,
+        &PAIR_FIELDS,
     )?;
     let asked = asked_of(value)?;
     add_asked(Field::PixelFormatAndModifiers, entries, pairs, asked)

@@ -62,14 +62,16 @@ macro_rules! entry_fields {
     };
 }
 
+/// The fields of an entry.
+pub const ENTRY_FIELDS: [Field; 16] = bounds_table!(entry_fields!());
+
 fn expect_entry(object: &Value) -> Result<(), Fault>
     ensures { seen_by (λ _. view object.now) result ≡ entry_object (view object.now) }
 {
-    let fields = bounds_table!(entry_fields!());
     expect_object(
         object,
         FaultPlace::At(Field::ImageFormatConstraints),
-        &fields,
+        &ENTRY_FIELDS,
     )
 }
 

@@ -37,11 +37,17 @@ pub(super) fn heap_name_of(alloc: Global, object: &Value) -> Result<Heap, Fault>
     Ok(Heap { heap_type, id })
 }
 
+/// The fields of a permitted heap.
+pub const HEAP_NAME_FIELDS: [Field; 2] = [Field::HeapType, Field::Id];
+
 fn permitted_heap(alloc: Global, object: &Value) -> Result<Heap, Fault>
     ensures { Reads (λ lack. permitted_heap lack (view object.now)) result }
 {
-    let fields = [Field::HeapType, Field::Id];
-    expect_object(object, FaultPlace::At(Field::PermittedHeaps), &fields)?;
+    expect_object(
+        object,
+        FaultPlace::At(Field::PermittedHeaps),
+        &HEAP_NAME_FIELDS,
+    )?;
     heap_name_of(alloc, object)
 }
 

@@ -66,17 +66,19 @@ fn domains_at(object: &Value) -> Result<CoherencyDomains, Fault>
     domains_of(stated(object, Code::WrongKind, Field::Domains)?)
 }
 
+/// The fields of a platform's heap.
+pub const HEAP_FIELDS: [Field; 5] = [
+    Field::HeapType,
+    Field::Id,
+    Field::Contiguous,
+    Field::Secure,
+    Field::Domains,
+];
+
 fn heap_of(alloc: Global, object: &Value) -> Result<HeapInfo, Fault>
     ensures { Reads (λ lack. heap_of lack (view object.now)) result }
 {
-    let fields = [
-        Field::HeapType,
-        Field::Id,
-        Field::Contiguous,
-        Field::Secure,
-        Field::Domains,
-    ];
-    expect_object(object, FaultPlace::At(Field::Heaps), &fields)?;
+    expect_object(object, FaultPlace::At(Field::Heaps), &HEAP_FIELDS)?;
     let heap = heap_name_of(alloc, object)?;
     let contiguous = flag_or(object, Field::Contiguous, false)?;
     let secure = flag_or(object, Field::Secure, false)?;

@@ -26,23 +26,25 @@ fn permitted_in(alloc: Global, object: &Value) -> Result<Vec<Heap>, Fault>
     }
 }
 
+/// The fields of memory constraints.
+pub const MEMORY_FIELDS: [Field; 8] = [
+    Field::MinSizeBytes,
+    Field::MaxSizeBytes,
+    Field::PhysicallyContiguousRequired,
+    Field::SecureRequired,
+    Field::CpuDomainSupported,
+    Field::RamDomainSupported,
+    Field::InaccessibleDomainSupported,
+    Field::PermittedHeaps,
+];
+
 fn memory_of(alloc: Global, object: &Value) -> Result<MemoryConstraints, Fault>
     ensures { Reads (λ lack. memory_of lack (view object.now)) result }
 {
-    let fields = [
-        Field::MinSizeBytes,
-        Field::MaxSizeBytes,
-        Field::PhysicallyContiguousRequired,
-        Field::SecureRequired,
-        Field::CpuDomainSupported,
-        Field::RamDomainSupported,
-        Field::InaccessibleDomainSupported,
-        Field::PermittedHeaps,
-    ];
     expect_object(
         object,
         FaultPlace::At(Field::BufferMemoryConstraints),
-        &fields,
+        &MEMORY_FIELDS,
     )?;
     Ok(MemoryConstraints {
         min_size_bytes: number_or(object, Field::MinSizeBytes, 0, u64::MAX)?,

@@ -29,14 +29,13 @@ fn modifier_in(object: &Value) -> Result<Modifier, Fault>
     }
 }
 
+/// The fields of a pair of a format and a modifier.
+pub const PAIR_FIELDS: [Field; 2] = [Field::PixelFormat, Field::PixelFormatModifier];
+
 fn pair_of(object: &Value) -> Result<Pair, Fault>
     ensures { result ≡ pair_of (view object.now) }
 {
-    expect_object(
-        object,
-        FaultPlace::At(Field::Pairs),
-        &[Field::PixelFormat, Field::PixelFormatModifier],
-    )?;
+    expect_object(object, FaultPlace::At(Field::Pairs), &PAIR_FIELDS)?;
     let format = stated(object, Code::WrongKind, Field::PixelFormat)?;
     Ok(Pair {
         format: name_of(format, Field::PixelFormat)?,

@@ -20,6 +20,9 @@ use sysmem_counts::Field;
 use sysmem_formats::{ColourSpace, Pair};
 use sysmem_memory::HeapInfo;
 
+/// The fields of a platform.
+pub const PLATFORM_FIELDS: [Field; 3] = [Field::Heaps, Field::Pairs, Field::ColorSpaces];
+
 /// The heaps of a record, which has to have them; so of its pairs and its colour spaces.
 fn heaps_in(alloc: Global, object: &Value) -> Result<Vec<HeapInfo>, Fault>
     ensures { Reads (λ lack. required Heaps (heaps_of lack) (view object.now))
@@ -45,11 +48,7 @@ fn colours_in(alloc: Global, object: &Value) -> Result<Vec<ColourSpace>, Fault>
 fn platform_of(alloc: Global, object: &Value) -> Result<Platform, Fault>
     ensures { Reads (λ lack. platform_with lack (view object.now)) result }
 {
-    expect_object(
-        object,
-        FaultPlace::Whole,
-        &[Field::Heaps, Field::Pairs, Field::ColorSpaces],
-    )?;
+    expect_object(object, FaultPlace::Whole, &PLATFORM_FIELDS)?;
     let heaps = heaps_in(alloc, object)?;
     let pairs = pairs_in(alloc, object)?;
     let colours = colours_in(alloc, object)?;

@@ -1,9 +1,10 @@
 //! What is wrong with a value, in words.
 
-use crate::record::keys::{Due, due_at, range_of};
+use crate::record::keys::{kind_at, range_of};
 use explanation_text::Words;
 use serde_json::{Number, Value};
 use std::alloc::Global;
+use sysmem_counts::Kind;
 
 /// What a value is, in words.
 fn kind_of(value: &Value) -> &'static str {
@@ -26,25 +27,17 @@ pub(crate) fn wrong_value(
     written: &[u8],
     is_item: bool,
 ) -> Words {
-    match due_at(field) {
-        Due::Flag => wrong_kind(alloc, value, "true or false is"),
-        Due::Size => wrong_kind(alloc, value, "an object is"),
-        Due::Object => wrong_kind(alloc, value, "an object is"),
-        Due::Number => {
+    match kind_at(field) {
+        Kind::Flag => wrong_kind(alloc, value, "true or false is"),
+        Kind::Sides | Kind::Object => wrong_kind(alloc, value, "an object is"),
+        Kind::Number | Kind::Limit => {
             let (least, most) = range_of(field);
             wrong_number(alloc, value, written, least, most)
         }
-        Due::Name => wrong_name(alloc, value),
-        Due::List if is_item => wrong_kind(alloc, value, item_of(field)),
-        Due::List => wrong_kind(alloc, value, "a list is"),
-    }
-}
-
-/// What the items of a field's list are.
-fn item_of(field: &str) -> &'static str {
-    match field {
-        "usage" | "color_spaces" | "domains" => "a name is",
-        _ => "an object is",
+        Kind::Name => wrong_name(alloc, value),
+        Kind::Names if is_item => wrong_kind(alloc, value, "a name is"),
+        Kind::Objects if is_item => wrong_kind(alloc, value, "an object is"),
+        Kind::Names | Kind::Objects => wrong_kind(alloc, value, "a list is"),
     }
 }
 

@@ -1,75 +1,60 @@
 //! The names of the profile, and other people's names for what it has.
 
 use crate::record::keys::{Table, found, is_one_of};
+use bitflags::Flags;
+use drm_images::letters_of;
 use explanation_text::wording::put_joined;
 use explanation_text::{Words, nearest};
 use std::alloc::{AllocError, Global};
-
-pub(crate) const USAGES: &[&str] = &["none", "cpu", "vulkan", "display", "video"];
-
-pub(crate) const DOMAINS: &[&str] = &["cpu", "ram", "inaccessible"];
+use sysmem_counts::{Field, Usage};
+use sysmem_formats::{ColourSpace, Modifier, PixelFormat};
+use sysmem_memory::CoherencyDomain;
 
 /// What constraints name where any will do; no platform does.
-const ANY: &str = "DO_NOT_CARE";
-
-const FORMATS: &[&str] = &[
-    "R8G8B8A8", "B8G8R8A8", "R8G8B8X8", "B8G8R8X8", "R8G8B8", "B8G8R8", "R5G6B5", "R8G8", "YUY2",
-    "R8", "L8", "I420", "YV12", "NV12", "P010", ANY,
-];
-
-pub(crate) const MODIFIERS: &[&str] = &["LINEAR", "INTEL_I915_X_TILED", "INTEL_I915_Y_TILED", ANY];
-
-const COLOURS: &[&str] = &[
-    "SRGB",
-    "REC601_NTSC",
-    "REC601_NTSC_FULL_RANGE",
-    "REC601_PAL",
-    "REC601_PAL_FULL_RANGE",
-    "REC709",
-    "REC2020",
-    "REC2100",
-    ANY,
-];
+pub(crate) const ANY: &str = "DO_NOT_CARE";
 
 /// The names that a field takes, in a platform or in constraints; none where it takes no names.
-pub(crate) fn names_for(field: &str, is_platform: bool) -> &'static [&'static str] {
-    match names_of(field) {
-        [names @ .., ANY] if is_platform => names,
-        names => names,
+pub(crate) fn names_for(
+    alloc: Global,
+    field: Field,
+    is_platform: bool,
+) -> Result<Vec<&'static str>, AllocError> {
+    let mut names: Vec<&'static str> = match field {
+        Field::Usage => return Usage::flags().iter().map(|flag| flag.name).collect(alloc),
+        Field::Domains => {
+            return CoherencyDomain::ALL
+                .iter()
+                .map(|one| one.name())
+                .collect(alloc);
+        }
+        Field::ColorSpaces => ColourSpace::ALL
+            .iter()
+            .map(|one| one.name())
+            .collect(alloc)?,
+        Field::PixelFormat => PixelFormat::ALL
+            .iter()
+            .map(|one| one.name())
+            .collect(alloc)?,
+        Field::PixelFormatModifier => Modifier::ALL.iter().map(|one| one.name()).collect(alloc)?,
+        _ => return Ok(Vec::new(alloc)),
+    };
+    if !is_platform {
+        names.push(ANY)?;
     }
+    Ok(names)
 }
 
-fn names_of(field: &str) -> &'static [&'static str] {
-    match field {
-        "usage" => USAGES,
-        "domains" => DOMAINS,
-        "color_spaces" => COLOURS,
-        "pixel_format" => FORMATS,
-        "pixel_format_modifier" => MODIFIERS,
-        _ => &[],
-    }
-}
-
-/// Formats as DRM names them, without its prefix, each with its name in the profile.
+/// Formats as DRM names them, without its prefix, where that isn't their code's letters; each with its
+/// name in the profile.
 const FORMATS_OF_DRM: Table = &[
     ("ABGR8888", "R8G8B8A8"),
-    ("AB24", "R8G8B8A8"),
     ("ARGB8888", "B8G8R8A8"),
-    ("AR24", "B8G8R8A8"),
     ("XBGR8888", "R8G8B8X8"),
-    ("XB24", "R8G8B8X8"),
     ("XRGB8888", "B8G8R8X8"),
-    ("XR24", "B8G8R8X8"),
     ("BGR888", "R8G8B8"),
-    ("BG24", "R8G8B8"),
     ("RGB888", "B8G8R8"),
-    ("RG24", "B8G8R8"),
     ("RGB565", "R5G6B5"),
-    ("RG16", "R5G6B5"),
-    ("GR88", "R8G8"),
-    ("YUYV", "YUY2"),
     ("YUV420", "I420"),
-    ("YU12", "I420"),
     ("YVU420", "YV12"),
 ];
 
@@ -118,11 +103,11 @@ const COLOURS_OF_WORDS: Table = &[
 
 /// Other people's names for those that a field takes, each with the name of the profile; of formats
 /// see `FORMATS_OF_DRM`.
-fn others_for(field: &str) -> Table {
+fn others_for(field: Field) -> Table {
     match field {
-        "pixel_format_modifier" => MODIFIERS_OF_DRM,
-        "usage" => USAGES_OF_WORDS,
-        "color_spaces" => COLOURS_OF_WORDS,
+        Field::PixelFormatModifier => MODIFIERS_OF_DRM,
+        Field::Usage => USAGES_OF_WORDS,
+        Field::ColorSpaces => COLOURS_OF_WORDS,
         _ => &[],
     }
 }
@@ -139,9 +124,20 @@ const LEFT_OUT: &[&str] = &[
 ];
 
 /// What an unknown name at a field may mean, in words; or else the names that the field takes.
-pub(crate) fn hint_of_name(alloc: Global, field: &str, name: &str, is_platform: bool) -> Words {
-    let known = names_for(field, is_platform);
-    if field == "pixel_format" {
+pub(crate) fn hint_of_name(alloc: Global, field: Field, name: &str, is_platform: bool) -> Words {
+    match names_for(alloc, field, is_platform) {
+        Ok(known) => hint_among(alloc, field, name, &known),
+        Err(AllocError) => {
+            let mut words = Words::new(alloc);
+            words.refuse();
+            words
+        }
+    }
+}
+
+/// The same, where the field takes these names.
+fn hint_among(alloc: Global, field: Field, name: &str, known: &[&str]) -> Words {
+    if field == Field::PixelFormat {
         return hint_of_format(alloc, name, known);
     }
     match found(others_for(field), name) {
@@ -154,15 +150,30 @@ pub(crate) fn hint_of_name(alloc: Global, field: &str, name: &str, is_platform: 
     }
 }
 
+/// The name of the format that DRM names so, without its prefix, if that is another name.
+fn format_of_drm(name: &str) -> Option<&'static str> {
+    if let Some(format) = found(FORMATS_OF_DRM, name) {
+        return Some(format);
+    }
+    let format = PixelFormat::ALL
+        .iter()
+        .find(|one| letters_of(**one) == Some(name))
+        .copied()?;
+    if format.name() == name {
+        return None;
+    }
+    Some(format.name())
+}
+
 /// The same of a format.
 fn hint_of_format(alloc: Global, name: &str, known: &[&str]) -> Words {
     let drm = name.strip_prefix("DRM_FORMAT_").unwrap_or(name);
-    if let Some(format) = found(FORMATS_OF_DRM, drm) {
+    if let Some(format) = format_of_drm(drm) {
         let mut words = Words::of(alloc, "DRM's ");
         words.put(drm).put(" is ").put(format).put(" here");
         return words;
     }
-    if is_one_of(drm, names_for("pixel_format", true)) {
+    if PixelFormat::from_name(drm).is_some() {
         let mut words = Words::of(alloc, "it is written ");
         words.put(drm);
         return words;

@@ -3,19 +3,22 @@
 use crate::record::alike::begins_alike;
 use crate::record::document::{Document, RecordPart};
 use crate::record::firsts::put_first_like;
-use crate::record::keys::{
-    CONSTRAINTS, Due, ENTRY, HEAP_NAME, MEMORY, PAIR, PLATFORM, PLATFORM_HEAP, SIZE, allowed,
-    due_at, is_one_of,
-};
+use crate::record::keys::{SIZE, is_field_of, is_one_of, kind_at, names_of, put_allowed};
 use crate::record::kinds::{is_number_within, wrong_kind, wrong_number, wrong_value};
 use crate::record::names::{hint_of_name, listed};
 use crate::record::paths::{Path, joined, with};
 use crate::record::record_place::place_of;
 use crate::record::unknown::{first_unknown, key_of};
 use explanation_text::{Gathered, Items, Step, Words, nearest};
-use record_reading::{Code, Fault};
+use record_reading::{
+    Code, ENTRY_FIELDS, Fault, FaultPlace, HEAP_FIELDS, HEAP_NAME_FIELDS, MEMORY_FIELDS,
+    PAIR_FIELDS, PLATFORM_FIELDS,
+};
 use serde_json::Value;
 use std::alloc::{AllocError, Global};
+use sysmem_counts::{Field, Kind};
+use sysmem_formats::PixelFormat;
+use sysmem_sanitise::CONSTRAINTS_FIELDS;
 
 /// The first fault of a record, and where it is.
 #[derive(Clone, Copy)]
@@ -74,7 +77,7 @@ fn tell_value<'a>(
     faulty: Faulty<'a, '_>,
     value: &'a Value,
 ) -> Result<(), AllocError> {
-    let is_size = due_at(faulty.fault.at.name()) == Due::Size;
+    let is_size = kind_at(faulty.fault.at.name()) == Kind::Sides;
     match faulty.fault.code {
         Code::UnknownField => tell_object(items, faulty, value)?,
         Code::WrongKind if is_size && value.is_object() => tell_object(items, faulty, value)?,
@@ -87,9 +90,15 @@ fn tell_value<'a>(
 }
 
 /// What is allowed at a field, after a word.
-fn help_allowed(alloc: Global, word: &str, at: &str, is_platform: bool) -> Words {
+fn help_allowed(alloc: Global, word: &str, at: FaultPlace, is_platform: bool) -> Words {
     let mut words = Words::of(alloc, word);
-    words.put(": ").put(allowed(at, is_platform));
+    words.put(": ");
+    match at {
+        FaultPlace::At(field) => put_allowed(&mut words, field, is_platform),
+        FaultPlace::Whole => {
+            words.put("an object");
+        }
+    }
     words
 }
 
@@ -101,38 +110,43 @@ fn missing_note(alloc: Global, name: &str) -> Words {
 
 /// A field that isn't there: the object that lacks it is pointed at.
 fn tell_missing(items: &mut Items, faulty: Faulty<'_, '_>) {
-    let at = faulty.fault.at.name();
+    let at = faulty.fault.at;
     let last = faulty.path.len().saturating_sub(1);
     let object = faulty.path.get(..last).unwrap_or(&[]);
     let help = help_allowed(items.alloc(), "needed", at, faulty.is_platform);
-    let note = missing_note(items.alloc(), at);
+    let note = missing_note(items.alloc(), at.name());
     faulty
         .document
         .tell(items, faulty.depth, object, RecordPart::Begin, note, help)
 }
 
 /// The keys that an object at a place may have.
-fn keys_at(at: &str, path: &[Step<'_>], is_platform: bool) -> &'static [&'static str] {
+fn keys_at(
+    alloc: Global,
+    at: FaultPlace,
+    path: &[Step<'_>],
+    is_platform: bool,
+) -> Result<Vec<&'static str>, AllocError> {
     let last = path.iter().rev().find_map(|step| match *step {
         Step::Key(key) => Some(key),
         Step::Item(_) => None,
     });
-    if last.is_some_and(|key| due_at(key) == Due::Size) {
-        return SIZE;
+    if last.is_some_and(|key| kind_at(key) == Kind::Sides) {
+        return Vec::from_slice(alloc, SIZE);
     }
-    if is_platform {
-        return match at {
-            "heaps" => PLATFORM_HEAP,
-            "pairs" => PAIR,
-            _ => PLATFORM,
-        };
-    }
+    names_of(alloc, fields_at(at, is_platform))
+}
+
+/// The fields of the object that a field has, or of the whole record.
+fn fields_at(at: FaultPlace, is_platform: bool) -> &'static [Field] {
     match at {
-        "buffer_memory_constraints" => MEMORY,
-        "permitted_heaps" => HEAP_NAME,
-        "image_format_constraints" => ENTRY,
-        "pixel_format_and_modifiers" => PAIR,
-        _ => CONSTRAINTS,
+        FaultPlace::At(Field::Heaps) => &HEAP_FIELDS,
+        FaultPlace::At(Field::Pairs | Field::PixelFormatAndModifiers) => &PAIR_FIELDS,
+        FaultPlace::At(Field::BufferMemoryConstraints) => &MEMORY_FIELDS,
+        FaultPlace::At(Field::PermittedHeaps) => &HEAP_NAME_FIELDS,
+        FaultPlace::At(Field::ImageFormatConstraints) => &ENTRY_FIELDS,
+        _ if is_platform => &PLATFORM_FIELDS,
+        _ => &CONSTRAINTS_FIELDS,
     }
 }
 
@@ -142,9 +156,10 @@ fn tell_object<'a>(
     faulty: Faulty<'a, '_>,
     value: &'a Value,
 ) -> Result<(), AllocError> {
-    let keys = keys_at(faulty.fault.at.name(), faulty.path, faulty.is_platform);
-    match first_unknown(items.alloc(), faulty.document, faulty.path, keys)? {
-        Some(unknown) => tell_key(items, faulty, &unknown, keys),
+    let alloc = items.alloc();
+    let keys = keys_at(alloc, faulty.fault.at, faulty.path, faulty.is_platform)?;
+    match first_unknown(alloc, faulty.document, faulty.path, &keys)? {
+        Some(unknown) => tell_key(items, faulty, &unknown, &keys),
         None => tell_side(items, faulty, value),
     }
 }
@@ -153,7 +168,7 @@ fn tell_key(
     items: &mut Items,
     faulty: Faulty<'_, '_>,
     path: &[Step<'_>],
-    keys: &'static [&'static str],
+    keys: &[&'static str],
 ) -> Result<(), AllocError> {
     let document = faulty.document;
     let note = "unknown key";
@@ -174,7 +189,7 @@ fn wrong_side(size: &Value, least: u64, most: u64) -> &'static str {
 
 /// A width or a height that is missing or wrong.
 fn tell_side(items: &mut Items, faulty: Faulty<'_, '_>, value: &Value) -> Result<(), AllocError> {
-    let at = faulty.fault.at.name();
+    let at = faulty.fault.at;
     let side = wrong_side(value, 0, 4294967295);
     match value.get(side) {
         Some(number) => {
@@ -217,8 +232,10 @@ fn tell_number(
 
 fn tell_name(items: &mut Items, faulty: Faulty<'_, '_>, value: &Value) {
     let name = value.as_str().unwrap_or("");
-    let at = faulty.fault.at.name();
-    let hint = hint_of_name(items.alloc(), at, name, faulty.is_platform);
+    let FaultPlace::At(field) = faulty.fault.at else {
+        return;
+    };
+    let hint = hint_of_name(items.alloc(), field, name, faulty.is_platform);
     faulty.document.advise(
         items,
         faulty.depth,
@@ -230,10 +247,10 @@ fn tell_name(items: &mut Items, faulty: Faulty<'_, '_>, value: &Value) {
 }
 
 fn tell_kind(items: &mut Items, faulty: Faulty<'_, '_>, value: &Value) -> Result<(), AllocError> {
-    let at = faulty.fault.at.name();
+    let at = faulty.fault.at;
     let is_item = matches!(faulty.path.last(), Some(Step::Item(_)));
     let written = faulty.document.written(items.alloc(), faulty.path)?;
-    let note = wrong_value(items.alloc(), at, value, written, is_item);
+    let note = wrong_value(items.alloc(), at.name(), value, written, is_item);
     let help = help_allowed(items.alloc(), "allowed", at, faulty.is_platform);
     faulty.document.tell(
         items,
@@ -301,20 +318,28 @@ fn helps_of_list(
     faulty: Faulty<'_, '_>,
     is_empty: bool,
 ) -> Result<Vec<String>, AllocError> {
-    let at = faulty.fault.at.name();
+    let at = faulty.fault.at;
     let help = match faulty.fault.code {
         Code::NotAnObject => return Ok(Vec::new(alloc)),
         Code::TooMany => Words::of(alloc, "allowed: at most 64"),
-        Code::TiledMisfit => Words::of(
-            alloc,
-            "tiles go with formats of 4 bytes: R8G8B8A8, B8G8R8A8, R8G8B8X8 and B8G8R8X8",
-        ),
-        Code::BadUsage => help_allowed(alloc, "allowed", "usage", false),
+        Code::TiledMisfit => tiled_formats(alloc)?,
+        Code::BadUsage => help_allowed(alloc, "allowed", FaultPlace::At(Field::Usage), false),
         _ if is_empty => help_allowed(alloc, "needed", at, faulty.is_platform),
         code => return first_like(alloc, faulty, code),
     };
     let help = help.done()?;
     Ok(vec![in alloc; help]?)
+}
+
+/// The formats that go with tiles, in words.
+fn tiled_formats(alloc: Global) -> Result<Words, AllocError> {
+    let mut names = Vec::new(alloc);
+    for format in &PixelFormat::ALL {
+        if format.pixel_bytes() == 4 {
+            names.push(format.name())?;
+        }
+    }
+    Ok(listed(alloc, "tiles go with formats of 4 bytes: ", &names, "and"))
 }
 
 /// Where what is given twice stands first, and which names count as equal.
@@ -349,7 +374,7 @@ fn first_words(
 fn help_of_key(
     alloc: Global,
     key: &str,
-    keys: &'static [&'static str],
+    keys: &[&'static str],
     is_platform: bool,
 ) -> Result<Option<Words>, AllocError> {
     match owner_of(key, keys) {
@@ -381,10 +406,10 @@ fn keys_here(alloc: Global, keys: &[&str]) -> Option<Words> {
 }
 
 /// The objects of constraints, with their keys.
-const OBJECTS: &[(&str, &[&str])] = &[
-    ("the constraints themselves", CONSTRAINTS),
-    ("buffer_memory_constraints", MEMORY),
-    ("an entry of image_format_constraints", ENTRY),
+const OBJECTS: &[(&str, &[Field])] = &[
+    ("the constraints themselves", &CONSTRAINTS_FIELDS),
+    ("buffer_memory_constraints", &MEMORY_FIELDS),
+    ("an entry of image_format_constraints", &ENTRY_FIELDS),
 ];
 
 /// The object into which a key belongs, if it isn't one of these.
@@ -393,7 +418,7 @@ fn owner_of(key: &str, keys: &[&str]) -> Option<&'static str> {
         return None;
     }
     for (name, others) in OBJECTS {
-        if is_one_of(key, others) {
+        if is_field_of(key, others) {
             return Some(*name);
         }
     }
@@ -404,7 +429,7 @@ fn owner_of(key: &str, keys: &[&str]) -> Option<&'static str> {
 fn help_elsewhere(
     alloc: Global,
     key: &str,
-    keys: &'static [&'static str],
+    keys: &[&'static str],
 ) -> Result<Option<Words>, AllocError> {
     if let Some((near, name)) = near_elsewhere(alloc, key, keys)? {
         let mut words = did_you_mean(alloc, near);
@@ -424,10 +449,11 @@ fn near_elsewhere(
     keys: &[&str],
 ) -> Result<Option<(&'static str, &'static str)>, AllocError> {
     for (name, others) in OBJECTS {
+        let others = names_of(alloc, others)?;
         if others.first() == keys.first() {
             continue;
         }
-        if let Some(near) = nearest(alloc, key, others)? {
+        if let Some(near) = nearest(alloc, key, &others)? {
             return Ok(Some((near, *name)));
         }
     }

@@ -1,13 +1,16 @@
 //! Where in a record its first fault stands.
 
 use crate::record::cutting::Narrowing;
-use crate::record::keys::{ENTRY, HEAP_NAME, MEMORY, PAIR, PLATFORM_HEAP, is_one_of};
-use crate::record::names::MODIFIERS;
+use crate::record::names::ANY;
 use crate::record::paths::{Path, joined, with};
 use explanation_text::{Step, value_at};
-use record_reading::Fault;
+use record_reading::{
+    ENTRY_FIELDS, Fault, FaultPlace, HEAP_FIELDS, HEAP_NAME_FIELDS, MEMORY_FIELDS, PAIR_FIELDS,
+};
 use serde_json::Value;
 use std::alloc::{AllocError, Global};
+use sysmem_counts::Field;
+use sysmem_formats::Modifier;
 
 /// The path from a record to the value that its first fault is about, or to where it would stand.
 pub(crate) fn place_of(
@@ -16,10 +19,9 @@ pub(crate) fn place_of(
     fault: Fault,
     is_platform: bool,
 ) -> Result<Path<'static>, AllocError> {
-    let at = fault.at.name();
-    if at == "whole" {
+    let FaultPlace::At(at) = fault.at else {
         return Ok(Vec::new(alloc));
-    }
+    };
     let mut cut = Narrowing::new(alloc, record, fault, is_platform)?;
     if is_platform {
         return place_in_platform(alloc, &mut cut, at);
@@ -31,16 +33,16 @@ fn place_in_constraints(
     alloc: Global,
     record: &Value,
     cut: &mut Narrowing,
-    at: &'static str,
+    at: Field,
 ) -> Result<Path<'static>, AllocError> {
-    if at == "usage" {
+    if at == Field::Usage {
         in_member(alloc, cut, at, &[])
-    } else if is_one_of(at, MEMORY) || is_one_of(at, HEAP_NAME) {
+    } else if MEMORY_FIELDS.contains(&at) || HEAP_NAME_FIELDS.contains(&at) {
         place_in_memory(alloc, cut, at)
-    } else if is_one_of(at, ENTRY) || at == "image_format_constraints" {
+    } else if ENTRY_FIELDS.contains(&at) || at == Field::ImageFormatConstraints {
         place_in_entries(alloc, record, cut, at)
     } else {
-        Vec::from_slice(alloc, &[Step::Key(at)])
+        Vec::from_slice(alloc, &[Step::Key(at.name())])
     }
 }
 
@@ -48,25 +50,25 @@ fn place_in_constraints(
 fn in_member(
     alloc: Global,
     cut: &mut Narrowing,
-    key: &'static str,
+    key: Field,
     rest: &[Step<'static>],
 ) -> Result<Path<'static>, AllocError> {
-    cut.in_list(Vec::from_slice(alloc, &[Step::Key(key)])?, rest)
+    cut.in_list(Vec::from_slice(alloc, &[Step::Key(key.name())])?, rest)
 }
 
 fn place_in_platform(
     alloc: Global,
     cut: &mut Narrowing,
-    at: &'static str,
+    at: Field,
 ) -> Result<Path<'static>, AllocError> {
-    if is_one_of(at, PAIR) {
-        return in_member(alloc, cut, "pairs", &[Step::Key(at)]);
+    if PAIR_FIELDS.contains(&at) {
+        return in_member(alloc, cut, Field::Pairs, &[Step::Key(at.name())]);
     }
-    if !is_one_of(at, PLATFORM_HEAP) {
+    if !HEAP_FIELDS.contains(&at) {
         return in_member(alloc, cut, at, &[]);
     }
-    let path = in_member(alloc, cut, "heaps", &[Step::Key(at)])?;
-    if at == "domains" {
+    let path = in_member(alloc, cut, Field::Heaps, &[Step::Key(at.name())])?;
+    if at == Field::Domains {
         return cut.in_list(path, &[]);
     }
     Ok(path)
@@ -75,16 +77,19 @@ fn place_in_platform(
 fn place_in_memory(
     alloc: Global,
     cut: &mut Narrowing,
-    at: &'static str,
+    at: Field,
 ) -> Result<Path<'static>, AllocError> {
-    let is_heap = is_one_of(at, HEAP_NAME);
-    let key = if is_heap { "permitted_heaps" } else { at };
-    let steps = [Step::Key("buffer_memory_constraints"), Step::Key(key)];
+    let is_heap = HEAP_NAME_FIELDS.contains(&at);
+    let key = if is_heap { Field::PermittedHeaps } else { at };
+    let steps = [
+        Step::Key("buffer_memory_constraints"),
+        Step::Key(key.name()),
+    ];
     let path = Vec::from_slice(alloc, &steps)?;
     if is_heap {
-        return cut.in_list(path, &[Step::Key(at)]);
+        return cut.in_list(path, &[Step::Key(at.name())]);
     }
-    if at == "permitted_heaps" {
+    if at == Field::PermittedHeaps {
         return cut.in_list(path, &[]);
     }
     Ok(path)
@@ -94,13 +99,13 @@ fn place_in_entries(
     alloc: Global,
     record: &Value,
     cut: &mut Narrowing,
-    at: &'static str,
+    at: Field,
 ) -> Result<Path<'static>, AllocError> {
-    let path = in_member(alloc, cut, "image_format_constraints", &[])?;
-    if at == "image_format_constraints" {
+    let path = in_member(alloc, cut, Field::ImageFormatConstraints, &[])?;
+    if at == Field::ImageFormatConstraints {
         return Ok(path);
     }
-    if is_one_of(at, PAIR) || at == "pixel_format_and_modifiers" {
+    if PAIR_FIELDS.contains(&at) || at == Field::PixelFormatAndModifiers {
         if let Some(further) = place_in_pairs(alloc, record, cut, &path, at)? {
             return Ok(further);
         }
@@ -112,11 +117,11 @@ fn place_in_entries(
 fn place_in_entry(
     cut: &mut Narrowing,
     entry: Path<'static>,
-    at: &'static str,
+    at: Field,
 ) -> Result<Path<'static>, AllocError> {
     let mut path = entry;
-    path.push(Step::Key(at))?;
-    if at == "color_spaces" {
+    path.push(Step::Key(at.name()))?;
+    if at == Field::ColorSpaces {
         return cut.in_list(path, &[]);
     }
     Ok(path)
@@ -128,9 +133,9 @@ fn place_in_pairs(
     record: &Value,
     cut: &mut Narrowing,
     entry: &[Step<'static>],
-    at: &'static str,
+    at: Field,
 ) -> Result<Option<Path<'static>>, AllocError> {
-    if at == "pixel_format_modifier" && has_wrong_modifier(value_at(record, entry)) {
+    if at == Field::PixelFormatModifier && has_wrong_modifier(value_at(record, entry)) {
         return Ok(None);
     }
     let pairs = with(alloc, entry, Step::Key("pixel_format_and_modifiers"))?;
@@ -159,10 +164,10 @@ fn pair_path(
     alloc: Global,
     pairs: &[Step<'static>],
     index: usize,
-    at: &'static str,
+    at: Field,
 ) -> Result<Path<'static>, AllocError> {
-    if is_one_of(at, PAIR) {
-        return joined(alloc, pairs, &[Step::Item(index), Step::Key(at)]);
+    if PAIR_FIELDS.contains(&at) {
+        return joined(alloc, pairs, &[Step::Item(index), Step::Key(at.name())]);
     }
     with(alloc, pairs, Step::Item(index))
 }
@@ -180,7 +185,7 @@ fn has_wrong_modifier(entry: Option<&Value>) -> bool {
     match entry.and_then(|entry| entry.get("pixel_format_modifier")) {
         None => false,
         Some(modifier) => match modifier.as_str() {
-            Some(name) => !is_one_of(name, MODIFIERS),
+            Some(name) => name != ANY && Modifier::from_name(name).is_none(),
             None => true,
         },
     }

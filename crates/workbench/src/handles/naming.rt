@@ -1,7 +1,7 @@
 //! Calls by their names in a script.
 
 use record_reading::Fault;
-use script_reading::{Act, Call};
+use script_reading::Call;
 use std::alloc::AllocError;
 use std::fmt::Write;
 use sysmem_tree::Refusal;
@@ -42,22 +42,6 @@ impl Reply {
     }
 }
 
-fn name_of(act: &Act<'_>) -> &'static str {
-    match act {
-        Act::Duplicate(_) => "duplicate",
-        Act::Bind => "bind",
-        Act::SetConstraints(_) => "set_constraints",
-        Act::CreateGroup(_) => "create_group",
-        Act::CreateChild(_) => "create_child",
-        Act::AllChildrenPresent => "all_children_present",
-        Act::AttachToken(_) => "attach_token",
-        Act::Release => "release",
-        Act::Close => "close",
-        Act::Check => "check",
-        Act::Wait => "wait",
-    }
-}
-
 /// Puts the line of a call after the text: `7 duplicate root a ok`.
 pub(crate) fn put_call(
     text: &mut String,
@@ -65,7 +49,7 @@ pub(crate) fn put_call(
     call: &Call<'_>,
     reply: Reply,
 ) -> Result<(), AllocError> {
-    let (act, on) = (name_of(&call.act), call.on);
+    let (act, on) = (call.act.name(), call.on);
     match call.act.name_made() {
         Some(name) => write!(text, "{number} {act} {on} {name}")?,
         None => write!(text, "{number} {act} {on}")?,

@@ -6,23 +6,18 @@ use serde_json::Value;
 use std::alloc::{AllocError, Global};
 use std::sync::Arc;
 use sysmem_sanitise::read_constraints;
-use sysmem_tree::{Action, Fate, Tree};
+use sysmem_tree::{Action, ActionKind, Fate, Tree};
 
 /// The action of this word. Constraints are those of a participant with the usage cpu; `set_none`
 /// sets none.
 pub(super) fn action_of(alloc: Global, word: &str) -> Result<Action, Failure> {
     Ok(match word {
-        "duplicate" => Action::Duplicate,
-        "create_group" => Action::CreateGroup,
-        "bind" => Action::Bind,
-        "create_child" => Action::CreateChild,
-        "all_children_present" => Action::AllChildrenPresent,
-        "attach_token" => Action::AttachToken,
         "set_constraints" => Action::SetConstraints(Some(cpu(alloc)?)),
         "set_none" => Action::SetConstraints(None),
-        "release" => Action::Release,
-        "close" => Action::Close,
-        _ => return Err(Failure::NoSuchWord),
+        _ => match ActionKind::from_name(word) {
+            Some(kind) => Action::plain(kind),
+            None => return Err(Failure::NoSuchWord),
+        },
     })
 }
 

@@ -1,0 +1,15 @@
+use Rattle.std.proofs.Common.{rules, tests}
+use Rattle.std.proofs.lemmas.Iterator.{YieldsList-from_slice}
+use Rattle.std.proofs.lemmas.Iterator.Search.{find_from_yields_List}
+use Rattle.std.specs.Prelude.{bytes_eq}
+use Rattle.list_lemmas.proofs.Each.{found_each}
+use Rattle.sysmem_formats.specs.Formats.{format_name}
+use Rattle.sysmem_formats.specs.declared.pixel_format.TheConstants.PixelFormat.{ALL}
+use Rattle.sysmem_formats.proofs.Lists.{listed_formats}
+use Rattle.sysmem_formats.proofs.pixel_format.PixelFormat.from_name.Goals as goal
+
+pub returns : goal.returns
+returns c =
+    let found = find_from_yields_List (λ one. bytes_eq (format_name one) c.args.name.now) _ _ c.find.result c.find.ensures.ran
+    (YieldsList-from_slice ALL c.iter.ensures.rest) (λ x b q k. search (rules, tests)) in
+    found_each format_name ALL listed_formats c.args.name.now c.copied.result (search (rules, tests))
