@@ -111,6 +111,11 @@ fn allowed_outside_bounds(field: Field) -> &'static str {
     }
 }
 
+/// What may stand at a field that lists no names.
+fn allowed_at(field: Field) -> &'static str {
+    bounds_table!(bounds_allowed!(field))
+}
+
 /// Puts what may stand at a field after a text.
 pub(crate) fn put_allowed(text: &mut Words, field: Field, is_platform: bool) {
     match field {
@@ -139,7 +144,7 @@ pub(crate) fn put_allowed(text: &mut Words, field: Field, is_platform: bool) {
         }
         Field::PixelFormatModifier => put_names(text, field, is_platform, 0, "or"),
         _ => {
-            text.put(bounds_table!(bounds_allowed!(field)));
+            text.put(allowed_at(field));
         }
     }
 }
