@@ -43,7 +43,7 @@ type Slot<L> = Mutex<Option<Token<L, NoGate>>>;
 
 /// What a participant was told, and what is left of its handle.
 #[derive(Drop)]
-struct Part<L: Ledger> {
+struct Outcome<L: Ledger> {
     told: Result<Settings, Refusal>,
     stub: Stub<L>,
 }
@@ -59,10 +59,10 @@ struct Slots<L: Ledger> {
 #[derive(Drop)]
 struct Parts<L: Ledger> {
     app: Option<Stub<L>>,
-    camera: Option<Part<L>>,
-    encoder: Option<Part<L>>,
+    camera: Option<Outcome<L>>,
+    encoder: Option<Outcome<L>>,
     /// `None` where it wasn't let in.
-    recorder: Option<Part<L>>,
+    recorder: Option<Outcome<L>>,
 }
 
 /// A camera and an encoder share buffers, and once they have them a recorder is let in.
@@ -225,18 +225,18 @@ fn take_part<L: Ledger, R: Threads + Wait + Sync>(
     rt: &R,
     token: Option<Token<L, NoGate>>,
     asked: &Arc<Constraints>,
-) -> Option<Part<L>> {
+) -> Option<Outcome<L>> {
     let mut collection = match token?.bind(rt) {
         Ok(collection) => collection,
         Err((token, refusal)) => {
-            return Some(Part {
+            return Some(Outcome {
                 told: Err(refusal),
                 stub: token.close(rt).0,
             });
         }
     };
     let told = negotiate(rt, &mut collection, asked);
-    Some(Part {
+    Some(Outcome {
         told,
         stub: collection.close(rt).0,
     })
@@ -284,7 +284,7 @@ fn audited<L: Ledger, R: Threads + Wait + Sync>(
 /// the others' stubs.
 fn told_to<L: Ledger>(
     stubs: &mut Vec<Stub<L>>,
-    late: Option<Part<L>>,
+    late: Option<Outcome<L>>,
 ) -> Result<Option<Result<Settings, Refusal>>, Failure> {
     let Some(part) = late else {
         return Ok(None);

@@ -1,5 +1,5 @@
 -- One line more in a list that is told.
-use Rattle.std.proofs.Common.{arith, ◌≡◌, ◌<◌, ◌≤◌, ◌+◌, ℕ, suc, Bool, true, false, ◌++◌, List, ◌∷◌, All, Contains, Option, Some, drop, get_or, length, map, nat_lt, slice_get, sym, subst, ap, ◌∙◌, append_assoc, lt-ltb}
+use Rattle.std.proofs.Common.{arith, ◌≡◌, ◌<◌, ◌≤◌, ◌+◌, ℕ, Bool, true, false, ◌++◌, List, ◌∷◌, All, Contains, Some, drop, get_or, length, map, nat_lt, slice_get, sym, subst, ap, ◌∙◌, append_assoc, lt-ltb}
 use Rattle.std.specs.Int.{from_bool}
 use Rattle.std.proofs.lemmas.List.{drop_more}
 use Rattle.std.proofs.lemmas.Option.{same_Some}
@@ -21,19 +21,15 @@ one_line lines at line told whole inside is all =
     ∙ append_assoc told (comma ++ text) rest ∙ ap (λ s. told ++ s) (append_assoc comma text rest)
     ∙ sym (ap (λ ls. told ++ items_text (nat_lt 0 at) (items_of (map line_data ls))) left) ∙ all
 
--- what holds of the line before holds of this one, where this is that once more
-pub line_again : (P : LineFacts → Type 0) (lines : List LineFacts) (again : List ℕ) (at : ℕ) (line : LineFacts) → All (IsAgain lines) again → Contains again at → slice_get lines at ≡ Some line
-    → ((k : ℕ) (l : LineFacts) → at ≡ suc k → slice_get lines k ≡ Some l → P l) → P line
-line_again P lines again at line all (k, below, is) here last =
-    let known : IsAgain lines at = subst (IsAgain lines) is (all k at below) in
-    let same : known.line ≡ line = same_Some known.line line (sym known.same ∙ here) in
-    last known.before line known.next (known.first ∙ ap (λ l. Some l) same)
-
--- the line that was told is the one before the next
-pub line_before : (P : LineFacts → Type 0) (lines : List LineFacts) (at k : ℕ) (line l : LineFacts) → P line → slice_get lines at ≡ Some line → at + 1 ≡ suc k → slice_get lines k ≡ Some l → P l
-line_before P lines at k line l is here next there =
-    let same : k ≡ at = omega (arith, next) in
-    subst P (same_Some line l (sym here ∙ ap (slice_get lines) (sym same) ∙ there)) is
+-- what holds of a line holds of the next, where this is known to be that once more
+pub line_after : (P : LineFacts → Type 0) (lines : List LineFacts) (again : List ℕ) (at : ℕ) (line l : LineFacts) → All (IsAgain lines) again → Contains again (at + 1)
+    → slice_get lines at ≡ Some line → slice_get lines (at + 1) ≡ Some l → P line → P l
+line_after P lines again at line l all (k, below, is) here there holds =
+    let known : IsAgain lines (at + 1) = subst (IsAgain lines) is (all k (at + 1) below) in
+    let before : known.before ≡ at = omega (arith, known.next) in
+    let first : line ≡ known.line = same_Some line known.line (sym here ∙ sym (ap (slice_get lines) before) ∙ known.first) in
+    let same : known.line ≡ l = same_Some known.line l (sym known.same ∙ there) in
+    subst P (first ∙ same) holds
 
 -- a place is passed at most
 pub one_more : (b : Bool) → from_bool b ≤ 1

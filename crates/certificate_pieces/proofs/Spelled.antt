@@ -1,5 +1,5 @@
 -- The texts of the parts of a certificate, one after the other.
-use Rattle.std.proofs.Common.{◌≡◌, ◌≢◌, ℕ, suc, ◌+◌, ◌/◌, ◌%◌, ◌^◌, ◌<◌, ◌≤◌, Bool, true, false, ◌++◌, List, [], ◌∷◌, Option, Some, None, Fits, w32, get_or, drop, map, length, codes, decimal, refl, sym, ap, ◌∙◌, arith, append_assoc, length-append}
+use Rattle.std.proofs.Common.{◌≡◌, ◌≢◌, ℕ, suc, ◌+◌, ◌/◌, ◌%◌, ◌^◌, ◌<◌, ◌≤◌, Bool, true, ◌++◌, List, [], ◌∷◌, Option, Some, None, Fits, w32, get_or, drop, map, length, codes, decimal, refl, sym, ap, ◌∙◌, arith, append_assoc, length-append}
 use Rattle.std.proofs.lemmas.Fmt.{decimal_digit, decimal_step}
 use Rattle.std.proofs.lemmas.List.{drop_more}
 use Rattle.json.specs.Print.{escape, escape_byte}
@@ -19,9 +19,7 @@ use Rattle.verdict_claims.specs.Line.{LineFacts}
 use Rattle.certificate_text.specs.Certificate.{certificate_text}
 use Rattle.certificate_text.specs.Paths.{path_text, steps_text}
 use Rattle.certificate_text.specs.Told.{claim_data, conflict_data, decision_data, earlier_data, item_data, lines_data, list_data, named_data, path_data, paths_data, verdict_members, verdict_name}
-use Rattle.certificate_text.proofs.LineText.{fixed_plain, line_middle, named_put, split_put}
-use Rattle.certificate_text.proofs.NamesRead.{field_plain}
-use Rattle.certificate_text.proofs.Plain.{path_plain}
+use Rattle.certificate_text.proofs.CallerLemmas.{field_plain, fixed_plain, line_middle, named_put, path_plain, split_put}
 use Rattle.certificate_pieces.specs.Texts.{bare_data, head_text, joined, named_front, proof_of, proof_text, verdict_of}
 
 -- ---- paths
@@ -123,10 +121,10 @@ decision_told platform path None = claim_told platform path (verdict_of None) pr
 
 -- a certificate with one decision, which has no proof
 pub bare_told : (platform : PlatformFacts) (path : List ℕ) (claim : Option Claim)
-    → certificate_text (bare_data platform path claim ∷ []) ≡ 91 ∷ (head_text path ++ (tail_text platform (verdict_of claim) ++ 93 ∷ 10 ∷ []))
+    → certificate_text (bare_data platform path (verdict_of claim) ∷ []) ≡ 91 ∷ (head_text path ++ (tail_text platform (verdict_of claim) ++ 93 ∷ 10 ∷ []))
 bare_told platform path claim =
     let tail = tail_text platform (verdict_of claim) in
-    ap (λ s. 91 ∷ s) (append_assoc (compact_text (bare_data platform path claim)) (93 ∷ []) (10 ∷ [])
+    ap (λ s. 91 ∷ s) (append_assoc (compact_text (bare_data platform path (verdict_of claim))) (93 ∷ []) (10 ∷ [])
     ∙ ap (λ s. s ++ 93 ∷ 10 ∷ []) (sym (claim_told platform path (verdict_of claim) proves.Nothing)) ∙ append_assoc (head_text path) tail (93 ∷ 10 ∷ []))
 
 -- its head, the proof that is kept and its tail

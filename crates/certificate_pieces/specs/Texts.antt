@@ -1,5 +1,5 @@
 -- The texts of which a certificate is made.
-use Rattle.std.specs.Prelude.{◌≡◌, ℕ, List, [], ◌∷◌, ◌++◌, Bool, true, false, Option, Some, None, codes, option_map}
+use Rattle.std.specs.Prelude.{ℕ, List, [], ◌∷◌, ◌++◌, Bool, true, false, Option, Some, None, codes, option_map}
 use Rattle.std.specs.Arc.{arc_value}
 use Rattle.serde_json.specs.Written.{comma_if, compact_text}
 use Rattle.verdict_claims.specs.declared.certificate.Claim.{Claim}
@@ -43,9 +43,9 @@ abbrev pub proof_of : Option Claim → Proof
 proof_of (Some claim) = claim.proof
 proof_of None = proves.Nothing
 
--- a decision whose proof is left out
-abbrev pub bare_data : PlatformFacts → List ℕ → Option Claim → Data
-bare_data platform path claim = claim_data platform path (verdict_of claim) proves.Nothing
+-- a verdict with nothing that proves it
+abbrev pub bare_data : PlatformFacts → List ℕ → Verdict → Data
+bare_data platform path verdict = claim_data platform path verdict proves.Nothing
 
 -- `{"domain":"/0"`
 abbrev pub head_text : List ℕ → List ℕ

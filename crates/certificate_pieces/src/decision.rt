@@ -3,7 +3,7 @@
 ghost use Rattle.std.specs.Prelude.{◌≡◌, ◌≤◌, ◌+◌, ◌++◌, [], ◌∷◌, ℕ, List, length, option_map, IfOk};
 ghost use Rattle.std.specs.Arc.{arc_value};
 ghost use Rattle.certificate_pieces.specs.Telling.{Tells};
-ghost use Rattle.certificate_pieces.specs.Texts.{bare_data, decision_text, head_text};
+ghost use Rattle.certificate_pieces.specs.Texts.{bare_data, decision_text, head_text, verdict_of};
 ghost use Rattle.certificate_text.specs.Certificate.{certificate_text};
 ghost use Rattle.certificate_text.specs.Told.{decision_data};
 ghost use Rattle.serde_json.specs.Written.{compact_text};
@@ -12,14 +12,13 @@ use crate::kept::Kept;
 use crate::list::Tell;
 use crate::piece::Piece;
 use crate::proof::put_proof;
-use crate::verdict::bare;
 use byte_transfer::Sink;
 use certificate_text::{CertificateWriter, push_path};
 use negotiation_inputs::Platform;
 use std::alloc::{AllocError, Global};
 use std::sync::Arc;
 use sysmem_tree::Path;
-use verdict_claims::Claim;
+use verdict_claims::{Claim, Verdict};
 
 /// What is kept of a decision: the text before its proof, the claim that has the proof, and the
 /// text behind it.
@@ -79,26 +78,27 @@ fn bare_text(
     claim: &Option<Arc<Claim>>,
 ) -> Result<Vec<u8>, AllocError>
     ensures { IfOk result (λ text. text.items ≡ certificate_text
-        (bare_data platform.now path.now (option_map (λ shared. arc_value shared) claim.now) ∷ [])) }
+        (bare_data platform.now path.now
+        (verdict_of (option_map (λ shared. arc_value shared) claim.now)) ∷ [])) }
 {
     match claim {
-        Some(shared) => text_of(alloc, platform, path, Some(&bare(&shared.verdict))),
-        None => text_of(alloc, platform, path, None),
+        Some(shared) => text_of(alloc, platform, path, &shared.verdict),
+        None => text_of(alloc, platform, path, &Verdict::NoMemory),
     }
 }
 
-/// The text of a certificate with this decision alone.
+/// The text of a certificate with this verdict alone, and nothing that proves it.
 fn text_of(
     alloc: Global,
     platform: &Platform,
     path: &Path,
-    claim: Option<&Claim>,
+    verdict: &Verdict,
 ) -> Result<Vec<u8>, AllocError>
     ensures { IfOk result (λ text. text.items ≡ certificate_text
-        (decision_data platform.now path.now (option_map (λ c. c.now) claim.entry) ∷ [])) }
+        (bare_data platform.now path.now verdict.now ∷ [])) }
 {
     let mut writer = CertificateWriter::new(alloc)?;
-    writer.put(platform, path, claim)?;
+    writer.put_verdict(platform, path, verdict)?;
     writer.finish()
 }
 

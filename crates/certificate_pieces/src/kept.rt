@@ -9,8 +9,8 @@ use crate::kept_line::KeptLine;
 use std::alloc::{AllocError, Global};
 use verdict_claims::Line;
 
-/// The text of the last line with few paths, and of the last with many: a line that names one
-/// participant stands between lines that name all.
+/// The text of the last line with few paths that comes again, and of the last with many: a line
+/// that names one participant stands between lines that name all.
 #[derive(Drop)]
 pub(crate) struct Kept {
     few: KeptLine,
@@ -26,11 +26,15 @@ impl Kept {
         })
     }
 
-    /// Whether the line's text is kept now. It isn't if it is too long.
-    pub(crate) fn keeps(&mut self, line: &Line) -> bool
+    /// Whether the line's text is kept now. It isn't if it is too long; nor if the line has few
+    /// paths and isn't known to come again: to tell such a line takes no longer than to compare it.
+    pub(crate) fn keeps(&mut self, line: &Line, comes_again: bool) -> bool
         ensures { IsTrue result → kept_text self.new line.now ≡ compact_text (line_data line.now) }
     {
         if line.nodes().is_small() {
+            if !comes_again {
+                return false;
+            }
             return self.few.keeps(line);
         }
         self.many.keeps(line)

@@ -18,6 +18,5 @@ mod path;
 mod piece;
 mod pieces;
 mod proof;
-mod verdict;
 
 pub use pieces::CertificatePieces;

@@ -21,13 +21,13 @@ pub(crate) fn put_lines<P: Sink>(out: &mut Piece, sink: &mut P, kept: &mut Kept,
 {
     let again = lines.again();
     let mut next = 0;
-    let mut is_kept = false;
+    let mut is_there = false;
     out.put_byte(sink, b'[');
     for (index, line) in lines.as_slice().iter().enumerate() {
         put_comma(out, sink, index > 0);
-        let is_again = is_next(again, next, index);
-        next += usize::from(is_again);
-        is_kept = put_next(out, sink, kept, line, is_again, is_kept);
+        let comes_again = is_next(again, next, index + 1);
+        next += usize::from(comes_again);
+        is_there = put_next(out, sink, kept, line, is_there, comes_again);
     }
     out.put_byte(sink, b']');
 }
@@ -43,29 +43,29 @@ fn is_next(again: &[u8], next: usize, index: usize) -> bool
     }
 }
 
-/// Tells a line, which is the one before once more, or perhaps another; and whether its text is
-/// kept then, as that of the one before was or wasn't.
+/// Tells a line, whose text is there already, or perhaps not. Answers whether it is there for the
+/// next line too, which it is only if that is known to be this one once more.
 fn put_next<P: Sink>(
     out: &mut Piece,
     sink: &mut P,
     kept: &mut Kept,
     line: &Line,
-    is_again: bool,
-    is_kept: bool,
+    is_there: bool,
+    comes_again: bool,
 ) -> bool
-    requires { IsTrue is_again → IsTrue is_kept
-        → kept_text kept.old line.now ≡ compact_text (line_data line.now) }
+    requires { IsTrue is_there → kept_text kept.old line.now ≡ compact_text (line_data line.now) }
+    ensures again { IsTrue result → IsTrue comes_again }
     ensures kept { IsTrue result → kept_text kept.new line.now ≡ compact_text (line_data line.now) }
     ensures told { Tells (P.contents sink.old) (P.failures sink.old) out.old
         (P.contents sink.new) (P.failures sink.new) out.new (compact_text (line_data line.now)) }
 {
-    if is_again && is_kept {
+    if is_there {
         out.put(sink, kept.text(line));
-        return true;
+        return comes_again;
     }
-    if kept.keeps(line) {
+    if kept.keeps(line, comes_again) {
         out.put(sink, kept.text(line));
-        return true;
+        return comes_again;
     }
     put_line(out, sink, b"{\"field\":\"", line);
     false

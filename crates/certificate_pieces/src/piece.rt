@@ -97,7 +97,8 @@ impl Piece {
     fn takes(&mut self, bytes: &[u8]) -> bool
         ensures { Takes result self.old self.new bytes.now }
     {
-        if bytes.len() > MOST.saturating_sub(self.waiting.len()) {
+        let room = self.waiting.capacity().saturating_sub(self.waiting.len());
+        if bytes.len() > room {
             return false;
         }
         self.waiting.extend_from_slice(bytes).is_ok()
@@ -107,10 +108,11 @@ impl Piece {
     fn takes_byte(&mut self, byte: u8) -> bool
         ensures { Takes result self.old self.new (byte ∷ []) }
     {
-        if self.waiting.len() >= MOST {
+        if self.waiting.len() >= self.waiting.capacity() {
             return false;
         }
-        self.waiting.push(byte).is_ok()
+        self.waiting.push_reserved(byte);
+        true
     }
 
     /// Writes the bytes that wait.

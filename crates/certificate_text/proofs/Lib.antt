@@ -1,4 +1,5 @@
 pub mod BoundsLemmas
+pub mod CallerLemmas
 pub mod Members
 pub mod Names
 pub mod PathsBack
@@ -10,7 +11,6 @@ pub mod Ordinals
 pub mod Shapes
 pub mod ProofsFit
 pub mod ClaimsFit
-pub mod NewLine
 pub mod Readable
 pub mod NamesRead
 pub mod TextsBack

@@ -1,5 +1,5 @@
 -- The text of a line.
-use Rattle.std.proofs.Common.{◌≡◌, ℕ, ◌++◌, List, [], ◌∷◌, codes, decimal, false, map, Result, OnOk, refl, sym, subst, ap, ap₂, ◌∙◌, append_assoc}
+use Rattle.std.proofs.Common.{◌≡◌, ℕ, ◌++◌, List, [], ◌∷◌, codes, decimal, false, map, Result, OnOk, refl, sym, subst, ap, ◌∙◌, append_assoc}
 use Rattle.json.specs.Print.{escape, escape_byte}
 use Rattle.serde_json.specs.Data.{Data, object, member, no_members}
 use Rattle.serde_json.specs.View.{items_of}

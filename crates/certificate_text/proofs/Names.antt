@@ -1,5 +1,5 @@
 -- The field that a name names.
-use Rattle.std.proofs.Common.{rules, ◌≡◌, ℕ, true, List, Option, Some, refl, sym, ap, ◌∙◌, ◌↔◌, bytes_eq}
+use Rattle.std.proofs.Common.{rules, ◌≡◌, ℕ, true, List, Option, Some, sym, ap, ◌∙◌, ◌↔◌, bytes_eq}
 use Rattle.std.proofs.lemmas.Slice.Eq.{bytes_eq-Decides}
 use Rattle.serde_json.specs.Data.{Data}
 use Rattle.serde_json.specs.Find.{as_str}

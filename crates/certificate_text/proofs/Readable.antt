@@ -11,6 +11,7 @@ use Rattle.json.specs.Tree as tree
 use Rattle.json.proofs.Printed.Decimals.{IsNumber-decimal}
 use Rattle.json.proofs.Printed.Trees.{value-json_tokens, ArePrintable-json_tokens}
 use Rattle.json.proofs.Printed.Utf8.{IsUtf8-are_ascii, IsUtf8-quoted}
+use Rattle.json_lemmas.proofs.CallerLemmas.{plain_line}
 use Rattle.serde_json.specs.Data.{Data, null, number, string, array, object, Items, no_items, item, Members, no_members, member, put}
 use Rattle.serde_json.specs.Read.{read, max_depth, of_json, of_items, of_members}
 use Rattle.serde_json.specs.View.{items_of}
@@ -20,7 +21,6 @@ use Rattle.serde_json.proofs.Texts.{print-outline}
 use Rattle.certificate_text.specs.Bounds.{count_data}
 use Rattle.certificate_text.specs.Laws.{IsTextOf}
 use Rattle.certificate_text.specs.Told.{list_data}
-use Rattle.certificate_text.proofs.NewLine.{tokens-line}
 
 -- lists and objects nest no deeper, each number is of 64 bits, and
 -- each object has its keys in order
@@ -37,7 +37,7 @@ read_line n d few h =
     let shallow : tree.depth (outline d) ≤ max_depth = omega (arith, h.shallow, few) in
     ap (λ t. read (t ++ 10 ∷ [])) (sym (print-outline d))
     ∙ ap (λ ts. option_and_then of_json (option_and_then (λ p. json.if_last p.0 p.1) (json.value max_depth ts)))
-    (tokens-line (tree.json_tokens j) (ArePrintable-json_tokens j h.numbers) ∙ sym (append-nil (tree.json_tokens j)))
+    (plain_line (tree.json_tokens j) (ArePrintable-json_tokens j h.numbers) ∙ sym (append-nil (tree.json_tokens j)))
     ∙ ap (λ o. option_and_then of_json (option_and_then (λ p. json.if_last p.0 p.1) o)) (value-json_tokens j max_depth [] shallow)
     ∙ h.same
 

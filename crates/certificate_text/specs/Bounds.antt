@@ -3,7 +3,7 @@ use Rattle.std.specs.Prelude.{ℕ, List, [], ◌∷◌, codes, if◌then◌else�
 use Rattle.serde_json.specs.Data.{Data, number, unsigned, object, Members, no_members, member, put}
 use Rattle.sysmem_counts.specs.Field.{field_name}
 use Rattle.sysmem_image.specs.declared.bounds.ImageBounds.{ImageBounds}
-use Rattle.sysmem_image.specs.Fields.{Bound, Side, all_bounds, field_of, is_size, value}
+use Rattle.sysmem_image.specs.Fields.{Bound, all_bounds, field_of, is_size, value}
 use Rattle.sysmem_image.specs.Fields as side
 
 -- a whole number

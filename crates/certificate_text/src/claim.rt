@@ -67,7 +67,8 @@ pub(crate) fn put_decision(
     }
 }
 
-fn put_claim(
+/// Puts the claim about the domain whose root is at the path: its verdict, and what is to prove it.
+pub(crate) fn put_claim(
     out: &mut Writer,
     text: &mut String,
     platform: &Platform,

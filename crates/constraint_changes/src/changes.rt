@@ -7,16 +7,16 @@ ghost use Rattle.constraint_changes.specs.Edited.{IsPromised};
 
 use crate::exchanges::try_exchanges;
 use crate::trials::{
-    Change, Found, Group, Party, Stated, Trial, are_sized, can_help, change_leaves_none,
-    entries_behind, has_groups, is_worth, leaves_none, parties_of, put_choice,
+    Change, Group, Party, RestatedConstraints, Trial, TrialResult, are_sized, can_help,
+    change_leaves_none, entries_behind, has_groups, is_worth, leaves_none, parties_of, put_choice,
 };
 use constraint_edits::{Edit, changes, edited, is_absurd};
 use domain_reasons::{choices_in, room_needed};
-use explanation_text::{Items, Text, Words};
+use explanation_text::{Items, Text, TextBuilder};
 use script_story::{Effort, Milestone, Story, asked_in};
 use std::alloc::{AllocError, Global};
 use std::slice::from_ref;
-use value_sources::Asked;
+use value_sources::NamedParticipant;
 
 /// How many changes are told.
 const MOST: usize = 5;
@@ -56,7 +56,7 @@ impl Search<'_, '_> {
 /// Tells the changes of one field of one participant with which the domain at a path would have
 /// settings, each with the decision that would come: the line of the report of the changed script;
 /// of one participant an entry put first, and of two the exchange. Says whether there is one.
-pub fn tell_changes(
+pub fn list_changes(
     items: &mut Items,
     group: Group<'_, '_>,
     index: usize,
@@ -69,7 +69,7 @@ pub fn tell_changes(
         count: 0,
         tried: 0,
         absurd: 0,
-        is_sized: are_sized(group.people),
+        is_sized: are_sized(group.participants),
     };
     try_all(&mut search, group, index, edits)?;
     put_head(items, &search, group.scenario.effort);
@@ -87,7 +87,7 @@ fn try_all(
 ) -> Result<(), AllocError> {
     try_exchanges(search, group, index, true)?;
     try_room(search, group, index)?;
-    for one in group.people {
+    for one in group.participants {
         try_entries(search, group, one)?;
     }
     for edit in edits {
@@ -115,11 +115,11 @@ fn try_room(
         Some(node) => node.domain,
         None => 0,
     };
-    let people = asked_in(alloc, story, above, true)?;
+    let participants = asked_in(alloc, story, above, true)?;
     let before = search.count;
-    try_count(search, group, &people, host, true, count)?;
+    try_count(search, group, &participants, host, true, count)?;
     if search.count == before {
-        try_count(search, group, &people, host, false, count)?;
+        try_count(search, group, &participants, host, false, count)?;
     }
     Ok(())
 }
@@ -128,13 +128,13 @@ fn try_room(
 fn try_count(
     search: &mut Search<'_, '_>,
     group: Group<'_, '_>,
-    people: &[Asked<'_>],
+    participants: &[NamedParticipant<'_>],
     node: usize,
     is_there: bool,
     count: u32,
 ) -> Result<(), AllocError> {
     let before = search.count;
-    for one in people {
+    for one in participants {
         if search.count == before && (one.node == node) == is_there {
             try_one(search, group, one, Edit::LeastCount(count))?;
         }
@@ -152,7 +152,7 @@ fn host_of(story: &Story<'_>, index: usize) -> Option<usize> {
 fn try_entries(
     search: &mut Search<'_, '_>,
     group: Group<'_, '_>,
-    one: &Asked<'_>,
+    one: &NamedParticipant<'_>,
 ) -> Result<(), AllocError> {
     let alloc = search.found.alloc();
     let before = search.count;
@@ -171,15 +171,15 @@ fn try_edit(
     edit: Edit,
 ) -> Result<(), AllocError> {
     let few = if has_groups(group.story) {
-        group.people.len()
+        group.participants.len()
     } else {
         1
     };
-    for one in group.people {
+    for one in group.participants {
         if search.is_done(group.scenario.effort) {
             break;
         }
-        if is_worth(edit, one, group.people, few) {
+        if is_worth(edit, one, group.participants, few) {
             try_one(search, group, one, edit)?;
         }
     }
@@ -190,7 +190,7 @@ fn try_edit(
 fn try_one(
     search: &mut Search<'_, '_>,
     group: Group<'_, '_>,
-    one: &Asked<'_>,
+    one: &NamedParticipant<'_>,
     edit: Edit,
 ) -> Result<(), AllocError> {
     let Some(number) = group.story.milestone(one.node, Milestone::SetConstraints) else {
@@ -209,7 +209,7 @@ fn try_change(
     search: &mut Search<'_, '_>,
     group: Group<'_, '_>,
     trial: Trial<'_, '_>,
-    one: &Asked<'_>,
+    one: &NamedParticipant<'_>,
     edit: Edit,
 ) -> Result<(), AllocError> {
     let alloc = search.found.alloc();
@@ -230,7 +230,7 @@ fn try_change(
         return Ok(());
     };
     let (value_then, words) = change.into_parts();
-    let stated = Stated {
+    let stated = RestatedConstraints {
         place: trial.place,
         value: value_then,
     };
@@ -240,23 +240,23 @@ fn try_change(
     let Some(line) = trial.outcome(alloc, &stated.value)? else {
         return Ok(());
     };
-    let found = Found {
+    let found = TrialResult {
         words,
         line,
         value: stated.into_value(),
     };
     let least = trial.least(alloc, group, search.parties, value, edit, found)?;
-    tell_found(search, group, trial, one, edit, least)
+    put_found(search, group, trial, one, edit, least)
 }
 
 /// Tells a change that helps, if it may be meant.
-fn tell_found(
+fn put_found(
     search: &mut Search<'_, '_>,
     group: Group<'_, '_>,
     trial: Trial<'_, '_>,
-    one: &Asked<'_>,
+    one: &NamedParticipant<'_>,
     edit: Edit,
-    found: Found,
+    found: TrialResult,
 ) -> Result<(), AllocError>
     requires { IsPromised trial.scenario.now.platform.now
         (map call_seen trial.scenario.now.calls.now) trial.place trial.path.now
@@ -281,7 +281,7 @@ fn leaves_none_unstated(
     alloc: Global,
     search: &Search<'_, '_>,
     group: Group<'_, '_>,
-    one: &Asked<'_>,
+    one: &NamedParticipant<'_>,
     edit: Edit,
 ) -> Result<Option<bool>, AllocError> {
     if !can_help(search.parties, one.node) {
@@ -299,8 +299,8 @@ fn put_head(items: &mut Items, search: &Search<'_, '_>, effort: &Effort) {
     items.say(1, "change", words)
 }
 
-fn head_of(alloc: Global, search: &Search<'_, '_>) -> Words {
-    let mut words = Words::new(alloc);
+fn head_of(alloc: Global, search: &Search<'_, '_>) -> TextBuilder {
+    let mut words = TextBuilder::new(alloc);
     match search.count {
         0 => {
             words
@@ -330,13 +330,13 @@ fn put_change(
     trial: Trial<'_, '_>,
     label: &'static str,
     who: &Text,
-    found: Found,
+    found: TrialResult,
 )
     requires { IsPromised trial.scenario.now.platform.now
         (map call_seen trial.scenario.now.calls.now) trial.place trial.path.now
         (string_bytes found.line) }
 {
-    let mut words = Words::of_text(items.alloc(), who);
+    let mut words = TextBuilder::of_text(items.alloc(), who);
     words.put(": ").put_text(&found.words);
     items.say(2, label, words);
     items.promise(3, found.into_line())

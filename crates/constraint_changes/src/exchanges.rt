@@ -6,13 +6,15 @@ ghost use Rattle.script_reading.specs.Seen.{call_seen};
 ghost use Rattle.constraint_changes.specs.Edited.{IsPromisedSo};
 
 use crate::changes::Search;
-use crate::trials::{Group, Stated, chosen_with, leaves_none, put_choice, put_line, restated};
+use crate::trials::{
+    Group, RestatedConstraints, chosen_with, leaves_none, put_choice, put_line, restated,
+};
 use domain_reasons::{are_exchanged, choices_in};
-use explanation_text::{Gathered, Words};
+use explanation_text::{ListBuilder, TextBuilder};
 use script_story::{Milestone, Scenario, Story, asked_in};
 use serde_json::Value;
 use std::alloc::{AllocError, Global};
-use value_sources::Asked;
+use value_sources::NamedParticipant;
 
 /// How many pairs of participants are tried.
 const MOST: usize = 24;
@@ -20,7 +22,7 @@ const MOST: usize = 24;
 /// Another participant, with the index of its domain.
 #[derive(Clone, Copy)]
 struct Partner<'a> {
-    one: Asked<'a>,
+    one: NamedParticipant<'a>,
     domain: usize,
 }
 
@@ -36,7 +38,7 @@ pub(crate) fn try_exchanges(
     let story = group.story;
     let partners = partners_in(search.found.alloc(), story)?;
     let mut pairs = 0usize;
-    for one in group.people {
+    for one in group.participants {
         for partner in &partners {
             if pairs >= MOST || search.is_done(group.scenario.effort) {
                 return Ok(());
@@ -54,7 +56,7 @@ pub(crate) fn try_exchanges(
 
 /// All participants, by domain.
 fn partners_in<'a>(alloc: Global, story: &Story<'a>) -> Result<Vec<Partner<'a>>, AllocError> {
-    let mut partners = Gathered::new(alloc);
+    let mut partners = ListBuilder::new(alloc);
     for domain in 0..story.domains.len() {
         for one in &asked_in(alloc, story, domain, false)? {
             partners.add(Partner { one: *one, domain });
@@ -65,7 +67,12 @@ fn partners_in<'a>(alloc: Global, story: &Story<'a>) -> Result<Vec<Partner<'a>>,
 
 /// Whether a participant of the domain of an index can gain by another's constraints: in one domain
 /// only where one of them lies below a group, and each two once.
-fn can_matter(story: &Story<'_>, one: Asked<'_>, partner: Partner<'_>, index: usize) -> bool {
+fn can_matter(
+    story: &Story<'_>,
+    one: NamedParticipant<'_>,
+    partner: Partner<'_>,
+    index: usize,
+) -> bool {
     let other = partner.one;
     partner.domain != index
         || (one.node < other.node
@@ -92,7 +99,7 @@ fn is_below_group(story: &Story<'_>, node: usize) -> bool {
 fn try_exchange(
     search: &mut Search<'_, '_>,
     group: Group<'_, '_>,
-    one: Asked<'_>,
+    one: NamedParticipant<'_>,
     partner: Partner<'_>,
 ) -> Result<(), AllocError> {
     let alloc = search.found.alloc();
@@ -104,7 +111,7 @@ fn try_exchange(
     }
     search.tried = search.tried.saturating_add(1);
     match outcome_of(alloc, search, group, partner, &stated)? {
-        Some(line) => tell_exchange(search, group, one, partner.one, line),
+        Some(line) => write_exchange(search, group, one, partner.one, line),
         None => Ok(()),
     }
 }
@@ -116,7 +123,7 @@ fn outcome_of(
     search: &Search<'_, '_>,
     group: Group<'_, '_>,
     partner: Partner<'_>,
-    stated: &[Stated],
+    stated: &[RestatedConstraints],
 ) -> Result<Option<String>, AllocError>
     ensures { IfOk result (λ said. IfSome said (λ what. IsPromisedSo
         group.entry.scenario.now.platform.now (map call_seen group.entry.scenario.now.calls.now)
@@ -136,11 +143,11 @@ fn outcome_of(
 }
 
 /// Tells that two participants' constraints exchanged help, and the decision that comes so.
-fn tell_exchange(
+fn write_exchange(
     search: &mut Search<'_, '_>,
     group: Group<'_, '_>,
-    one: Asked<'_>,
-    other: Asked<'_>,
+    one: NamedParticipant<'_>,
+    other: NamedParticipant<'_>,
     line: String,
 ) -> Result<(), AllocError>
     requires { IsPromisedSo group.scenario.now.platform.now
@@ -148,22 +155,22 @@ fn tell_exchange(
 {
     let alloc = search.found.alloc();
     let choice = choices_in(alloc, group.story, group.root, &line)?;
-    say_exchange(search, group, one, other)?;
+    put_exchange(search, group, one, other)?;
     put_line(&mut search.found, group, 3, line);
     put_choice(&mut search.found, 3, choice);
     Ok(())
 }
 
-fn say_exchange(
+fn put_exchange(
     search: &mut Search<'_, '_>,
     group: Group<'_, '_>,
-    one: Asked<'_>,
-    other: Asked<'_>,
+    one: NamedParticipant<'_>,
+    other: NamedParticipant<'_>,
 ) -> Result<(), AllocError> {
     let alloc = search.found.alloc();
     let who = group.who(alloc, &one)?;
     let whom = group.who(alloc, &other)?;
-    let mut words = Words::of_text(alloc, &who);
+    let mut words = TextBuilder::of_text(alloc, &who);
     words
         .put(" and ")
         .put_text(&whom)
@@ -178,9 +185,9 @@ fn say_exchange(
 fn exchanged(
     alloc: Global,
     story: &Story<'_>,
-    one: Asked<'_>,
-    other: Asked<'_>,
-) -> Result<Option<Vec<Stated>>, AllocError> {
+    one: NamedParticipant<'_>,
+    other: NamedParticipant<'_>,
+) -> Result<Option<Vec<RestatedConstraints>>, AllocError> {
     let (Some(mine), Some(its)) = (one.stated, other.stated) else {
         return Ok(None);
     };
@@ -199,10 +206,14 @@ fn exchanged(
 }
 
 /// Adds that the call of a number states constraints.
-fn add_stated(stated: &mut Vec<Stated>, number: usize, value: &Value) -> Result<(), AllocError> {
+fn add_stated(
+    stated: &mut Vec<RestatedConstraints>,
+    number: usize,
+    value: &Value,
+) -> Result<(), AllocError> {
     let place = number.saturating_sub(1);
     let value = value.clone()?;
-    stated.push(Stated { place, value })?;
+    stated.push(RestatedConstraints { place, value })?;
     Ok(())
 }
 
@@ -210,7 +221,7 @@ fn add_stated(stated: &mut Vec<Stated>, number: usize, value: &Value) -> Result<
 fn outcome(
     alloc: Global,
     scenario: &Scenario<'_>,
-    stated: &[Stated],
+    stated: &[RestatedConstraints],
     path: &str,
 ) -> Result<Option<String>, AllocError>
     ensures { IfOk result (λ said. IfSome said (λ what. IsPromisedSo

@@ -1,33 +1,33 @@
 //! What participants ask after changes.
 
-use crate::parts::Part;
+use crate::parts::PartyChange;
 use negotiation_inputs::Constraints;
 use std::alloc::{AllocError, Global};
 
 /// What a participant asks after some changes of its own.
 #[derive(Drop)]
-struct Row {
+struct CachedRecord {
     person: usize,
-    parts: Vec<Part>,
+    parts: Vec<PartyChange>,
     asked: Constraints,
 }
 
 /// What participants ask after changes, each read once.
 #[derive(Drop)]
-pub(crate) struct Shelf {
-    rows: Vec<Row>,
+pub(crate) struct RecordCache {
+    rows: Vec<CachedRecord>,
 }
 
-impl Shelf {
+impl RecordCache {
     /// One on which nothing is kept.
-    pub(crate) fn new(alloc: Global) -> Shelf {
-        Shelf {
+    pub(crate) fn new(alloc: Global) -> RecordCache {
+        RecordCache {
             rows: Vec::new(alloc),
         }
     }
 
     /// Where it is kept what the participant of an index asks after these changes, if it is.
-    pub(crate) fn place_of(&self, person: usize, parts: &[Part]) -> Option<usize> {
+    pub(crate) fn place_of(&self, person: usize, parts: &[PartyChange]) -> Option<usize> {
         for (place, row) in self.rows.iter().enumerate() {
             if row.person == person && row.parts.as_slice() == parts {
                 return Some(place);
@@ -40,11 +40,11 @@ impl Shelf {
     pub(crate) fn keep(
         &mut self,
         person: usize,
-        parts: Vec<Part>,
+        parts: Vec<PartyChange>,
         asked: Constraints,
     ) -> Result<usize, AllocError> {
         let place = self.rows.len();
-        self.rows.push(Row {
+        self.rows.push(CachedRecord {
             person,
             parts,
             asked,
@@ -62,36 +62,36 @@ impl Shelf {
 /// Where it is kept what participants ask in the place of what they state, by index; nothing of
 /// those who ask what they state.
 #[derive(Drop)]
-pub(crate) struct Known {
-    people: Vec<Option<usize>>,
+pub(crate) struct RestatedParticipants {
+    participants: Vec<Option<usize>>,
 }
 
-impl Known {
+impl RestatedParticipants {
     /// What nobody asks.
-    pub(crate) fn new(alloc: Global) -> Known {
-        Known {
-            people: Vec::new(alloc),
+    pub(crate) fn new(alloc: Global) -> RestatedParticipants {
+        RestatedParticipants {
+            participants: Vec::new(alloc),
         }
     }
 
     /// Adds one more participant.
     pub(crate) fn push(&mut self, place: Option<usize>) -> Result<(), AllocError> {
-        self.people.push(place)?;
+        self.participants.push(place)?;
         Ok(())
     }
 
     /// Where it is kept what the participant of an index asks, if that isn't what it states.
     pub(crate) fn place(&self, person: usize) -> Option<usize> {
-        match self.people.get(person) {
+        match self.participants.get(person) {
             Some(place) => *place,
             None => None,
         }
     }
 
     /// Learns what some participants ask by now.
-    pub(crate) fn learn(&mut self, others: &Known) {
-        for (person, place) in others.people.iter().enumerate() {
-            match self.people.get_mut(person) {
+    pub(crate) fn learn(&mut self, others: &RestatedParticipants) {
+        for (person, place) in others.participants.iter().enumerate() {
+            match self.participants.get_mut(person) {
                 Some(one) if place.is_some() => *one = *place,
                 _ => {}
             }

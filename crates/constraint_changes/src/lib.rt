@@ -3,9 +3,9 @@
 //! exchanged; and several together, the fewest found, each as small as it can be.
 //!
 //! ```
-//! let does_one = tell_changes(&mut items, group, 0, &edits)?;
+//! let does_one = list_changes(&mut items, group, 0, &edits)?;
 //! if !does_one {
-//!     tell_together(&mut items, group, &edits)?;
+//!     add_together(&mut items, group, &edits)?;
 //! }
 //! print!(rt; "{}", text_of(rt.alloc(), &items.into_list()?)?)?;
 //! ```
@@ -19,6 +19,6 @@ mod together;
 mod trials;
 mod walk;
 
-pub use changes::tell_changes;
-pub use together::tell_together;
+pub use changes::list_changes;
+pub use together::add_together;
 pub use trials::{Group, Trial, entry_place, line_at, put_choice};

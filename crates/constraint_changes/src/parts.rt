@@ -2,19 +2,19 @@
 
 use crate::trials::{Change, asked_after, read_asked};
 use crate::walk::Run;
-use constraint_edits::{Amount, Changed, Edit, edited, edited_to, leave_out};
-use explanation_text::Gathered;
+use constraint_edits::{Amount, Edit, EditedConstraints, edited, edited_to, leave_out};
+use explanation_text::ListBuilder;
 use negotiation_inputs::Constraints;
 use serde_json::{Value, put};
 use std::alloc::{AllocError, Global};
 use sysmem_memory::HeapInfo;
-use value_sources::Asked;
+use value_sources::NamedParticipant;
 
 const MEMORY: &str = "buffer_memory_constraints";
 
 /// A change of a participant.
 #[derive(Clone, Copy, PartialEq, Eq)]
-pub(crate) struct Part {
+pub(crate) struct PartyChange {
     /// Its index among the participants.
     pub(crate) person: usize,
     pub(crate) edit: Edit,
@@ -23,7 +23,7 @@ pub(crate) struct Part {
     pub(crate) amount: Option<Amount>,
 }
 
-impl Part {
+impl PartyChange {
     /// Constraints with the change, on a platform with these heaps; `None` where they are so
     /// already.
     pub(crate) fn changed(
@@ -31,7 +31,7 @@ impl Part {
         alloc: Global,
         value: &Value,
         heaps: &[HeapInfo],
-    ) -> Result<Option<Changed>, AllocError> {
+    ) -> Result<Option<EditedConstraints>, AllocError> {
         match self.amount {
             Some(amount) => edited_to(alloc, value, self.edit, amount),
             None => edited(alloc, value, self.edit, heaps),
@@ -40,7 +40,11 @@ impl Part {
 }
 
 /// The parts without those of a run.
-pub(crate) fn all_but(alloc: Global, parts: &[Part], run: Run) -> Result<Vec<Part>, AllocError> {
+pub(crate) fn all_but(
+    alloc: Global,
+    parts: &[PartyChange],
+    run: Run,
+) -> Result<Vec<PartyChange>, AllocError> {
     let mut others = Vec::new(alloc);
     for (k, part) in parts.iter().enumerate() {
         if k < run.start || run.end <= k {
@@ -51,7 +55,10 @@ pub(crate) fn all_but(alloc: Global, parts: &[Part], run: Run) -> Result<Vec<Par
 }
 
 /// The parts without those that take the use by a CPU away.
-pub(crate) fn with_cpu(alloc: Global, parts: &[Part]) -> Result<Vec<Part>, AllocError> {
+pub(crate) fn with_cpu(
+    alloc: Global,
+    parts: &[PartyChange],
+) -> Result<Vec<PartyChange>, AllocError> {
     let mut plain = Vec::new(alloc);
     for part in parts {
         if part.edit != Edit::NoCpu {
@@ -62,7 +69,7 @@ pub(crate) fn with_cpu(alloc: Global, parts: &[Part]) -> Result<Vec<Part>, Alloc
 }
 
 /// Whether one of some parts takes the use by a CPU away.
-pub(crate) fn takes_cpu(parts: &[Part]) -> bool {
+pub(crate) fn takes_cpu(parts: &[PartyChange]) -> bool {
     for part in parts {
         if part.edit == Edit::NoCpu {
             return true;
@@ -72,7 +79,7 @@ pub(crate) fn takes_cpu(parts: &[Part]) -> bool {
 }
 
 /// Whether one of some parts is a participant's own.
-pub(crate) fn has_own(parts: &[Part], person: usize) -> bool {
+pub(crate) fn has_own(parts: &[PartyChange], person: usize) -> bool {
     for part in parts {
         if part.person == person {
             return true;
@@ -84,9 +91,9 @@ pub(crate) fn has_own(parts: &[Part], person: usize) -> bool {
 /// Those of some parts that are a participant's own.
 pub(crate) fn own_of(
     alloc: Global,
-    parts: &[Part],
+    parts: &[PartyChange],
     person: usize,
-) -> Result<Vec<Part>, AllocError> {
+) -> Result<Vec<PartyChange>, AllocError> {
     let mut own = Vec::new(alloc);
     for part in parts {
         if part.person == person {
@@ -99,11 +106,11 @@ pub(crate) fn own_of(
 /// What a participant asks after changes of its own; `None` where that has a fault.
 pub(crate) fn asked_with(
     alloc: Global,
-    one: &Asked<'_>,
-    own: &[Part],
+    one: &NamedParticipant<'_>,
+    own: &[PartyChange],
     heaps: &[HeapInfo],
 ) -> Result<Option<Constraints>, AllocError> {
-    let mut changes = Gathered::new(alloc);
+    let mut changes = ListBuilder::new(alloc);
     for part in own {
         changes.add(Change {
             edit: part.edit,
@@ -129,7 +136,7 @@ pub(crate) fn after(
     alloc: Global,
     value: &Value,
     person: usize,
-    parts: &[Part],
+    parts: &[PartyChange],
     heaps: &[HeapInfo],
 ) -> Result<Value, AllocError> {
     let mut now = value.clone()?;
@@ -142,7 +149,12 @@ pub(crate) fn after(
 }
 
 /// Makes a change of constraints.
-fn make(alloc: Global, now: &mut Value, part: Part, heaps: &[HeapInfo]) -> Result<(), AllocError> {
+fn make(
+    alloc: Global,
+    now: &mut Value,
+    part: PartyChange,
+    heaps: &[HeapInfo],
+) -> Result<(), AllocError> {
     if part.amount.is_none() && leave_out(now, part.edit) {
         return Ok(());
     }
@@ -169,7 +181,7 @@ fn support(alloc: Global, value: &mut Value, edit: Edit) -> Result<bool, AllocEr
 }
 
 /// Gives the part of an index another value.
-pub(crate) fn set_amount(parts: &mut [Part], index: usize, amount: Option<Amount>) {
+pub(crate) fn set_amount(parts: &mut [PartyChange], index: usize, amount: Option<Amount>) {
     if let Some(part) = parts.get_mut(index) {
         part.amount = amount;
     }

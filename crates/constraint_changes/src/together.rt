@@ -5,22 +5,22 @@ ghost use Rattle.std.specs.String.{string_bytes};
 ghost use Rattle.script_reading.specs.Seen.{call_seen};
 ghost use Rattle.constraint_changes.specs.Edited.{IsPromisedSo};
 
-use crate::known::{Known, Shelf};
+use crate::known::{RecordCache, RestatedParticipants};
 use crate::parts::{
-    Part, after, all_but, asked_with, has_own, own_of, set_amount, takes_cpu, with_cpu,
+    PartyChange, after, all_but, asked_with, has_own, own_of, set_amount, takes_cpu, with_cpu,
 };
 use crate::trials::{
-    Group, MOST_HALVINGS, Party, Read, Stated, are_sized, chosen_with, is_worth, leave_none,
-    parties_of, put_choice, put_line, restated,
+    Group, MOST_HALVINGS, Party, ReadRecord, RestatedConstraints, are_sized, chosen_with, is_worth,
+    leave_none, parties_of, put_choice, put_line, restated,
 };
 use crate::walk::{Run, Walk};
 use constraint_edits::{Amount, Edit, Halving, changes, is_absurd};
 use domain_reasons::choices_in;
-use explanation_text::{Gathered, Items, Text, Words};
+use explanation_text::{Items, ListBuilder, Text, TextBuilder};
 use script_story::Milestone;
 use serde_json::Value;
 use std::alloc::{AllocError, Global};
-use value_sources::Asked;
+use value_sources::NamedParticipant;
 
 /// How many changes are made at once at most.
 const MOST: usize = 96;
@@ -35,7 +35,7 @@ const TOLD: usize = 6;
 /// settings, and the decision that would come: the line of the report of the changed script. Where
 /// others do that take the use by a CPU away, those are told beside them. Where nothing is found
 /// before nothing more is to be tried, it says so.
-pub fn tell_together(
+pub fn add_together(
     items: &mut Items,
     group: Group<'_, '_>,
     edits: &[Edit],
@@ -44,33 +44,33 @@ pub fn tell_together(
         return Ok(());
     }
     let before = items.len();
-    tell_all(items, group, edits)?;
+    add_all(items, group, edits)?;
     if items.len() == before && group.scenario.effort.is_spent() {
-        items.say_text(1, "change", "to try several together would take long");
+        items.list_text(1, "change", "to try several together would take long");
     }
     Ok(())
 }
 
 /// Tells the same, as far as it is tried.
-fn tell_all(items: &mut Items, group: Group<'_, '_>, edits: &[Edit]) -> Result<(), AllocError> {
+fn add_all(items: &mut Items, group: Group<'_, '_>, edits: &[Edit]) -> Result<(), AllocError> {
     let alloc = items.alloc();
     let parties = parties_of(alloc, group)?;
-    let joint = Joint {
+    let joint = CombinedChange {
         group,
         parties: &parties,
     };
     let all = joint.parts(alloc, edits)?;
-    let mut shelf = Shelf::new(alloc);
-    joint.tell_plain(items, &mut shelf, &all)?;
-    joint.tell_others(items, &mut shelf, &all)
+    let mut shelf = RecordCache::new(alloc);
+    joint.put_plain(items, &mut shelf, &all)?;
+    joint.put_others(items, &mut shelf, &all)
 }
 
 /// Tells changes that help together, each as small as it can be.
-fn tell_parts(
+fn list_parts(
     items: &mut Items,
-    joint: Joint<'_, '_>,
-    shelf: &mut Shelf,
-    fewest: &[Part],
+    joint: CombinedChange<'_, '_>,
+    shelf: &mut RecordCache,
+    fewest: &[PartyChange],
     before: &str,
 ) -> Result<(), AllocError> {
     if fewest.len() < 2 || fewest.len() > TOLD {
@@ -91,65 +91,65 @@ fn tell_parts(
 
 /// Changes made together, for those of a group.
 #[derive(Clone, Copy)]
-struct Joint<'a, 'b> {
+struct CombinedChange<'a, 'b> {
     group: Group<'a, 'b>,
     parties: &'b [Party<'a>],
 }
 
-impl Joint<'_, '_> {
+impl CombinedChange<'_, '_> {
     /// Tells the fewest of some changes that help without taking the use by a CPU away.
-    fn tell_plain(
+    fn put_plain(
         &self,
         items: &mut Items,
-        shelf: &mut Shelf,
-        all: &[Part],
+        shelf: &mut RecordCache,
+        all: &[PartyChange],
     ) -> Result<(), AllocError> {
         let plain = with_cpu(items.alloc(), all)?;
         if !self.does(items.alloc(), &plain)? {
             return Ok(());
         }
         let fewest = self.fewest(shelf, items.alloc(), &plain)?;
-        tell_parts(items, *self, shelf, &fewest, "")
+        list_parts(items, *self, shelf, &fewest, "")
     }
 
     /// Tells the fewest of all changes that help, where they take the use by a CPU away.
-    fn tell_others(
+    fn put_others(
         &self,
         items: &mut Items,
-        shelf: &mut Shelf,
-        all: &[Part],
+        shelf: &mut RecordCache,
+        all: &[PartyChange],
     ) -> Result<(), AllocError> {
         if !takes_cpu(all) || !self.does(items.alloc(), all)? {
             return Ok(());
         }
         let others = self.needed(shelf, items.alloc(), all, false)?;
         if takes_cpu(&others) {
-            tell_parts(items, *self, shelf, &others, "or ")?;
+            list_parts(items, *self, shelf, &others, "or ")?;
         }
         Ok(())
     }
 
     /// Each change of each participant that is worth a try, of the first where there are very many.
-    fn parts(&self, alloc: Global, edits: &[Edit]) -> Result<Vec<Part>, AllocError> {
-        let mut parts: Vec<Part> = Vec::new(alloc);
+    fn parts(&self, alloc: Global, edits: &[Edit]) -> Result<Vec<PartyChange>, AllocError> {
+        let mut parts: Vec<PartyChange> = Vec::new(alloc);
         for edit in edits {
             self.add_parts(&mut parts, *edit)?;
         }
         Ok(parts)
     }
 
-    fn add_parts(&self, parts: &mut Vec<Part>, edit: Edit) -> Result<(), AllocError> {
+    fn add_parts(&self, parts: &mut Vec<PartyChange>, edit: Edit) -> Result<(), AllocError> {
         let alloc = *parts.allocator();
         let heaps = self.group.scenario.platform.heaps();
-        for (person, one) in self.group.people.iter().enumerate() {
+        for (person, one) in self.group.participants.iter().enumerate() {
             let Some(value) = one.stated else {
                 continue;
             };
             if parts.len() < MOST
-                && is_worth(edit, one, self.group.people, FEW)
+                && is_worth(edit, one, self.group.participants, FEW)
                 && changes(alloc, value, edit, heaps)?
             {
-                parts.push(Part {
+                parts.push(PartyChange {
                     person,
                     edit,
                     amount: None,
@@ -162,10 +162,10 @@ impl Joint<'_, '_> {
     /// Of changes that help together some without each of which the others don't.
     fn fewest(
         &self,
-        shelf: &mut Shelf,
+        shelf: &mut RecordCache,
         alloc: Global,
-        all: &[Part],
-    ) -> Result<Vec<Part>, AllocError> {
+        all: &[PartyChange],
+    ) -> Result<Vec<PartyChange>, AllocError> {
         let likely = self.needed(shelf, alloc, all, true)?;
         let others = self.needed(shelf, alloc, all, false)?;
         if others.len() < likely.len() {
@@ -179,11 +179,11 @@ impl Joint<'_, '_> {
     /// only where that isn't so.
     fn needed(
         &self,
-        shelf: &mut Shelf,
+        shelf: &mut RecordCache,
         alloc: Global,
-        all: &[Part],
+        all: &[PartyChange],
         from_last: bool,
-    ) -> Result<Vec<Part>, AllocError> {
+    ) -> Result<Vec<PartyChange>, AllocError> {
         let mut known = self.known_of(shelf, alloc, all, all)?;
         if known.is_some() {
             let kept = self.left_of(shelf, alloc, all, from_last, &mut known)?;
@@ -199,12 +199,12 @@ impl Joint<'_, '_> {
     /// settings; else that is run.
     fn left_of(
         &self,
-        shelf: &mut Shelf,
+        shelf: &mut RecordCache,
         alloc: Global,
-        all: &[Part],
+        all: &[PartyChange],
         from_last: bool,
-        known: &mut Option<Known>,
-    ) -> Result<Vec<Part>, AllocError> {
+        known: &mut Option<RestatedParticipants>,
+    ) -> Result<Vec<PartyChange>, AllocError> {
         let mut kept = Vec::from_slice(alloc, all)?;
         let mut walk = Walk::over(all.len(), from_last);
         for _step in 0..MOST_STEPS {
@@ -236,11 +236,11 @@ impl Joint<'_, '_> {
     /// they do.
     fn do_others(
         &self,
-        shelf: &mut Shelf,
+        shelf: &mut RecordCache,
         alloc: Global,
-        known: &mut Option<Known>,
-        back: &[Part],
-        others: &[Part],
+        known: &mut Option<RestatedParticipants>,
+        back: &[PartyChange],
+        others: &[PartyChange],
     ) -> Result<bool, AllocError> {
         let Some(known) = known else {
             return self.does(alloc, others);
@@ -259,10 +259,10 @@ impl Joint<'_, '_> {
     /// known.
     fn are_kept(
         &self,
-        shelf: &Shelf,
+        shelf: &RecordCache,
         alloc: Global,
-        known: &Known,
-        changed: &Known,
+        known: &RestatedParticipants,
+        changed: &RestatedParticipants,
     ) -> Result<bool, AllocError> {
         let read = self.read(shelf, alloc, known, changed)?;
         Ok(!leave_none(alloc, self.group, self.parties, &read)?)
@@ -271,17 +271,17 @@ impl Joint<'_, '_> {
     /// What participants ask, of whom some ask otherwise than is known.
     fn read<'c>(
         &self,
-        shelf: &'c Shelf,
+        shelf: &'c RecordCache,
         alloc: Global,
-        known: &Known,
-        changed: &Known,
-    ) -> Result<Vec<Read<'c>>, AllocError> {
+        known: &RestatedParticipants,
+        changed: &RestatedParticipants,
+    ) -> Result<Vec<ReadRecord<'c>>, AllocError> {
         let mut read = Vec::new(alloc);
-        for (person, one) in self.group.people.iter().enumerate() {
+        for (person, one) in self.group.participants.iter().enumerate() {
             let place = changed.place(person).or(known.place(person));
             if let Some(asked) = shelf.asked(place) {
                 let node = one.node;
-                read.push(Read { node, asked })?;
+                read.push(ReadRecord { node, asked })?;
             }
         }
         Ok(read)
@@ -291,13 +291,13 @@ impl Joint<'_, '_> {
     /// has a fault, or nothing more is to be tried.
     fn known_of(
         &self,
-        shelf: &mut Shelf,
+        shelf: &mut RecordCache,
         alloc: Global,
-        others: &[Part],
-        parts: &[Part],
-    ) -> Result<Option<Known>, AllocError> {
-        let mut known = Known::new(alloc);
-        for (person, one) in self.group.people.iter().enumerate() {
+        others: &[PartyChange],
+        parts: &[PartyChange],
+    ) -> Result<Option<RestatedParticipants>, AllocError> {
+        let mut known = RestatedParticipants::new(alloc);
+        for (person, one) in self.group.participants.iter().enumerate() {
             let mut place = None;
             if one.stated.is_some() && has_own(others, person) {
                 if self.group.scenario.effort.is_spent() {
@@ -317,11 +317,11 @@ impl Joint<'_, '_> {
     /// is read; `None` where that has a fault.
     fn place_after(
         &self,
-        shelf: &mut Shelf,
+        shelf: &mut RecordCache,
         alloc: Global,
         person: usize,
-        one: &Asked<'_>,
-        parts: &[Part],
+        one: &NamedParticipant<'_>,
+        parts: &[PartyChange],
     ) -> Result<Option<usize>, AllocError> {
         let own = own_of(alloc, parts, person)?;
         if let Some(place) = shelf.place_of(person, &own) {
@@ -336,7 +336,7 @@ impl Joint<'_, '_> {
     }
 
     /// Adds that the constraints of a participant are changed so often.
-    fn add_changes(&self, one: &Asked<'_>, times: usize) {
+    fn add_changes(&self, one: &NamedParticipant<'_>, times: usize) {
         let number = self
             .group
             .story
@@ -351,9 +351,9 @@ impl Joint<'_, '_> {
     /// field out gives this line; and what comes then, if it can be less.
     fn lessen(
         &self,
-        shelf: &mut Shelf,
+        shelf: &mut RecordCache,
         alloc: Global,
-        parts: &mut [Part],
+        parts: &mut [PartyChange],
         index: usize,
         line: &str,
     ) -> Result<Option<String>, AllocError> {
@@ -376,12 +376,12 @@ impl Joint<'_, '_> {
     /// ask, with which they aren't known to leave no settings.
     fn least(
         &self,
-        shelf: &mut Shelf,
+        shelf: &mut RecordCache,
         alloc: Global,
-        parts: &mut [Part],
+        parts: &mut [PartyChange],
         index: usize,
         line: &str,
-        others: Option<&Known>,
+        others: Option<&RestatedParticipants>,
     ) -> Result<Option<Amount>, AllocError> {
         let mut best = None;
         let Some(mut halving) = self.halving(parts.get(index), line) else {
@@ -408,9 +408,9 @@ impl Joint<'_, '_> {
     }
 
     /// The values that a part leaves between, where leaving its field out gives this line.
-    fn halving(&self, part: Option<&Part>, line: &str) -> Option<Halving> {
+    fn halving(&self, part: Option<&PartyChange>, line: &str) -> Option<Halving> {
         let part = part?;
-        let value = self.group.people.get(part.person)?.stated?;
+        let value = self.group.participants.get(part.person)?.stated?;
         Halving::of(value, part.edit, line)
     }
 
@@ -418,11 +418,11 @@ impl Joint<'_, '_> {
     /// is known what others ask.
     fn does_unrun(
         &self,
-        shelf: &mut Shelf,
+        shelf: &mut RecordCache,
         alloc: Global,
-        parts: &[Part],
+        parts: &[PartyChange],
         index: usize,
-        known: &Known,
+        known: &RestatedParticipants,
     ) -> Result<bool, AllocError> {
         let own = parts.get(index..index.saturating_add(1)).unwrap_or(&[]);
         match self.known_of(shelf, alloc, own, parts)? {
@@ -432,12 +432,12 @@ impl Joint<'_, '_> {
     }
 
     /// Whether the domain is chosen by some changes, with a row that may be meant.
-    fn does(&self, alloc: Global, parts: &[Part]) -> Result<bool, AllocError> {
+    fn does(&self, alloc: Global, parts: &[PartyChange]) -> Result<bool, AllocError> {
         Ok(self.outcome(alloc, parts)?.is_some())
     }
 
     /// What the domain becomes by some changes, if it is chosen then with a row that may be meant.
-    fn outcome(&self, alloc: Global, parts: &[Part]) -> Result<Option<String>, AllocError>
+    fn outcome(&self, alloc: Global, parts: &[PartyChange]) -> Result<Option<String>, AllocError>
         ensures { IfOk result (λ said. IfSome said (λ what. IsPromisedSo
             self.now.group.scenario.now.platform.now
             (map call_seen self.now.group.scenario.now.calls.now)
@@ -451,7 +451,11 @@ impl Joint<'_, '_> {
     }
 
     /// The same where participants state this.
-    fn outcome_of(&self, alloc: Global, stated: &[Stated]) -> Result<Option<String>, AllocError>
+    fn outcome_of(
+        &self,
+        alloc: Global,
+        stated: &[RestatedConstraints],
+    ) -> Result<Option<String>, AllocError>
         ensures { IfOk result (λ said. IfSome said (λ what. IsPromisedSo
             self.now.group.scenario.now.platform.now
             (map call_seen self.now.group.scenario.now.calls.now)
@@ -465,8 +469,8 @@ impl Joint<'_, '_> {
     }
 
     /// Whether participants have no settings after some changes; only a yes says something.
-    fn leave_none_after(&self, alloc: Global, parts: &[Part]) -> Result<bool, AllocError> {
-        let mut shelf = Shelf::new(alloc);
+    fn leave_none_after(&self, alloc: Global, parts: &[PartyChange]) -> Result<bool, AllocError> {
+        let mut shelf = RecordCache::new(alloc);
         match self.known_of(&mut shelf, alloc, parts, parts)? {
             Some(changed) => {
                 let read = self.read(&shelf, alloc, &changed, &changed)?;
@@ -477,9 +481,13 @@ impl Joint<'_, '_> {
     }
 
     /// The constraints of each participant after some changes.
-    fn stated(&self, alloc: Global, parts: &[Part]) -> Result<Vec<Stated>, AllocError> {
-        let mut stated = Gathered::new(alloc);
-        for person in 0..self.group.people.len() {
+    fn stated(
+        &self,
+        alloc: Global,
+        parts: &[PartyChange],
+    ) -> Result<Vec<RestatedConstraints>, AllocError> {
+        let mut stated = ListBuilder::new(alloc);
+        for person in 0..self.group.participants.len() {
             if has_own(parts, person) {
                 self.add_stated(&mut stated, person, parts)?;
             }
@@ -490,11 +498,11 @@ impl Joint<'_, '_> {
     /// Adds the constraints of a participant after some changes, if it has stated some.
     fn add_stated(
         &self,
-        stated: &mut Gathered<Stated>,
+        stated: &mut ListBuilder<RestatedConstraints>,
         person: usize,
-        parts: &[Part],
+        parts: &[PartyChange],
     ) -> Result<(), AllocError> {
-        let Some(one) = self.group.people.get(person) else {
+        let Some(one) = self.group.participants.get(person) else {
             return Ok(());
         };
         let number = self
@@ -509,17 +517,22 @@ impl Joint<'_, '_> {
         scenario.effort.change(place, 1);
         let heaps = scenario.platform.heaps();
         let value = after(stated.alloc(), value, person, parts, heaps)?;
-        stated.add(Stated { place, value });
+        stated.add(RestatedConstraints { place, value });
         Ok(())
     }
 
     /// Tells changes, and the decision that comes by them.
-    fn tell(&self, items: &mut Items, parts: &[Part], before: &str) -> Result<(), AllocError> {
+    fn tell(
+        &self,
+        items: &mut Items,
+        parts: &[PartyChange],
+        before: &str,
+    ) -> Result<(), AllocError> {
         let alloc = items.alloc();
         let Some(line) = self.outcome(alloc, parts)? else {
             return Ok(());
         };
-        if is_absurd(&line, are_sized(self.group.people)) {
+        if is_absurd(&line, are_sized(self.group.participants)) {
             return Ok(());
         }
         self.put_parts(items, parts, before)?;
@@ -530,9 +543,14 @@ impl Joint<'_, '_> {
     }
 
     /// Puts changes that help together, each by what those before it leave.
-    fn put_parts(&self, items: &mut Items, parts: &[Part], before: &str) -> Result<(), AllocError> {
+    fn put_parts(
+        &self,
+        items: &mut Items,
+        parts: &[PartyChange],
+        before: &str,
+    ) -> Result<(), AllocError> {
         let count = parts.len();
-        let mut words = Words::of(items.alloc(), before);
+        let mut words = TextBuilder::of(items.alloc(), before);
         words
             .put("these ")
             .put_number(count)
@@ -545,12 +563,17 @@ impl Joint<'_, '_> {
     }
 
     /// Puts the change of an index, as it is once those before it were made.
-    fn put_part(&self, items: &mut Items, parts: &[Part], index: usize) -> Result<(), AllocError> {
+    fn put_part(
+        &self,
+        items: &mut Items,
+        parts: &[PartyChange],
+        index: usize,
+    ) -> Result<(), AllocError> {
         let alloc = items.alloc();
         let (Some(part), Some(earlier)) = (parts.get(index), parts.get(..index)) else {
             return Ok(());
         };
-        let Some(one) = self.group.people.get(part.person) else {
+        let Some(one) = self.group.participants.get(part.person) else {
             return Ok(());
         };
         let Some(value) = one.stated else {
@@ -571,15 +594,15 @@ impl Joint<'_, '_> {
                     .who_changes(alloc, &then, part.edit, &change.value)?
             }
         };
-        say_change(items, &who, &change.words);
+        add_change(items, &who, &change.words);
         Ok(())
     }
 }
 
 /// A participant as it states something else.
-fn stating<'a>(one: &Asked<'a>, value: &'a Value) -> Asked<'a> {
+fn stating<'a>(one: &NamedParticipant<'a>, value: &'a Value) -> NamedParticipant<'a> {
     let stated = Some(value);
-    Asked {
+    NamedParticipant {
         node: one.node,
         name: one.name,
         asked: one.asked,
@@ -588,8 +611,8 @@ fn stating<'a>(one: &Asked<'a>, value: &'a Value) -> Asked<'a> {
 }
 
 /// Tells a participant, and what it changes.
-fn say_change(items: &mut Items, who: &Text, change: &Text) {
-    let mut words = Words::of_text(items.alloc(), who);
+fn add_change(items: &mut Items, who: &Text, change: &Text) {
+    let mut words = TextBuilder::of_text(items.alloc(), who);
     words.put(": ").put_text(change);
     items.say(2, "and", words)
 }

@@ -1,8 +1,8 @@
 //! The value of a field of constraints, and values between two.
 
-use crate::edits::{Changed, Edit};
+use crate::edits::{Edit, EditedConstraints};
 use crate::objects::{ENTRIES, MEMORY, entries_of, exact_value, values_in, with};
-use explanation_text::{Gathered, Words};
+use explanation_text::{ListBuilder, TextBuilder};
 use serde_json::Value;
 use std::alloc::{AllocError, Global};
 use std::fmt;
@@ -173,7 +173,7 @@ pub(crate) fn with_amount(
     edit: Edit,
     stated: Amount,
     amount: Amount,
-) -> Result<Changed, AllocError> {
+) -> Result<EditedConstraints, AllocError> {
     let left_out = edit.left_out();
     let name = left_out.map_or("", Field::name);
     let changed = match edit {
@@ -184,7 +184,7 @@ pub(crate) fn with_amount(
         }
         _ => with(alloc, Some(value), name, amount.value(alloc)?)?,
     };
-    let mut words = Words::new(alloc);
+    let mut words = TextBuilder::new(alloc);
     if let Some(field) = left_out {
         words.field(field);
     }
@@ -194,7 +194,7 @@ pub(crate) fn with_amount(
         _ => words.put_number(stated),
     };
     words.put(" becomes ").put_number(amount);
-    Ok(Changed {
+    Ok(EditedConstraints {
         value: changed,
         words: words.into_text()?,
     })
@@ -207,7 +207,7 @@ pub fn edited_to(
     value: &Value,
     edit: Edit,
     amount: Amount,
-) -> Result<Option<Changed>, AllocError> {
+) -> Result<Option<EditedConstraints>, AllocError> {
     match amount_in(value, edit) {
         Some(stated) => Ok(Some(with_amount(alloc, value, edit, stated, amount)?)),
         None => Ok(None),
@@ -220,7 +220,7 @@ fn with_bound(
     key: &str,
     amount: Amount,
 ) -> Result<Value, AllocError> {
-    let mut copy = Gathered::new(alloc);
+    let mut copy = ListBuilder::new(alloc);
     for entry in entries_of(value) {
         copy.add(entry_with(alloc, entry, key, amount)?);
     }

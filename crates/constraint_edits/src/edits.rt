@@ -7,7 +7,7 @@ use crate::objects::{ENTRIES, MEMORY, entries_of, have, lacking, values_in, with
 use crate::permitting::{meaning, means, permits_more, permitting};
 use crate::taking::{lacks_colour, putting_first, taking_colour, taking_pair};
 use crate::using::{asking_for, asks_for, has_cpu, without_cpu};
-use explanation_text::{Gathered, Text, Words};
+use explanation_text::{ListBuilder, Text, TextBuilder};
 use serde_json::Value;
 use std::alloc::{AllocError, Global};
 use sysmem_counts::Field;
@@ -118,23 +118,23 @@ pub fn edits_on(
 }
 
 /// Constraints after a change, with what is changed in words.
-pub struct Changed {
+pub struct EditedConstraints {
     pub value: Value,
     pub words: Text,
 }
 
-impl Drop for Changed {
+impl Drop for EditedConstraints {
     fn drop(self) {
-        let Changed { value: _, words: _ } = self;
+        let EditedConstraints { value: _, words: _ } = self;
     }
 }
 
-impl Changed {
+impl EditedConstraints {
     /// The constraints alone.
     pub fn into_value(self) -> Value
         ensures { result ≡ self.value }
     {
-        let Changed { value, words: _ } = self;
+        let EditedConstraints { value, words: _ } = self;
         value
     }
 
@@ -143,7 +143,7 @@ impl Changed {
         ensures value { result.0 ≡ self.value }
         ensures words { result.1 ≡ self.words }
     {
-        let Changed { value, words } = self;
+        let EditedConstraints { value, words } = self;
         (value, words)
     }
 
@@ -152,12 +152,12 @@ impl Changed {
         self,
         alloc: Global,
         constraints: &Value,
-    ) -> Result<Changed, AllocError>
+    ) -> Result<EditedConstraints, AllocError>
         ensures { IfOk result (λ made. made.words ≡ self.words) }
     {
         let (memory, words) = self.into_parts();
         let value = with(alloc, Some(constraints), MEMORY, memory)?;
-        Ok(Changed { value, words })
+        Ok(EditedConstraints { value, words })
     }
 }
 
@@ -167,7 +167,7 @@ pub fn edited(
     value: &Value,
     edit: Edit,
     heaps: &[HeapInfo],
-) -> Result<Option<Changed>, AllocError> {
+) -> Result<Option<EditedConstraints>, AllocError> {
     match edit {
         Edit::MeansHeap(index) => meaning(alloc, value, heaps, index),
         Edit::Exchanges(least, most) => exchanged(alloc, value, least, most),
@@ -215,7 +215,11 @@ fn is_unsupported(value: &Value, field: Field) -> bool {
     }
 }
 
-fn supporting(alloc: Global, value: &Value, field: Field) -> Result<Option<Changed>, AllocError> {
+fn supporting(
+    alloc: Global,
+    value: &Value,
+    field: Field,
+) -> Result<Option<EditedConstraints>, AllocError> {
     let key = field.name();
     let was = match memory_of(value, key) {
         Some(Value::Bool(true)) => return Ok(None),
@@ -224,9 +228,9 @@ fn supporting(alloc: Global, value: &Value, field: Field) -> Result<Option<Chang
         None => "(absent, so false)",
     };
     let object = with(alloc, value.get(MEMORY), key, Value::Bool(true))?;
-    let mut words = Words::new(alloc);
+    let mut words = TextBuilder::new(alloc);
     words.field(field).put(" ").put(was).put(" becomes true");
-    Ok(Some(Changed {
+    Ok(Some(EditedConstraints {
         value: with(alloc, Some(value), MEMORY, object)?,
         words: words.into_text()?,
     }))
@@ -237,12 +241,16 @@ fn memory_of<'a>(value: &'a Value, key: &str) -> Option<&'a Value> {
     value.get(MEMORY)?.get(key)
 }
 
-fn without(alloc: Global, value: &Value, field: Field) -> Result<Option<Changed>, AllocError> {
+fn without(
+    alloc: Global,
+    value: &Value,
+    field: Field,
+) -> Result<Option<EditedConstraints>, AllocError> {
     let key = field.name();
     let Some(member) = value.get(key) else {
         return Ok(None);
     };
-    Ok(Some(Changed {
+    Ok(Some(EditedConstraints {
         value: lacking(alloc, value, key)?,
         words: words_without(alloc, field, member).into_text()?,
     }))
@@ -252,7 +260,7 @@ fn without_memory(
     alloc: Global,
     value: &Value,
     field: Field,
-) -> Result<Option<Changed>, AllocError> {
+) -> Result<Option<EditedConstraints>, AllocError> {
     let Some(memory) = value.get(MEMORY) else {
         return Ok(None);
     };
@@ -266,17 +274,17 @@ fn without_bound(
     alloc: Global,
     value: &Value,
     field: Field,
-) -> Result<Option<Changed>, AllocError> {
+) -> Result<Option<EditedConstraints>, AllocError> {
     let key = field.name();
     if !have(value, key) {
         return Ok(None);
     }
-    let mut copy = Gathered::new(alloc);
+    let mut copy = ListBuilder::new(alloc);
     for entry in entries_of(value) {
         copy.add(lacking(alloc, entry, key)?);
     }
     let was = values_in(alloc, entries_of(value), key)?;
-    let mut words = Words::new(alloc);
+    let mut words = TextBuilder::new(alloc);
     words.field(field).put(" ").put_words(&was).put(" left out");
     with_entries(alloc, value, copy.done()?, words.into_text()?)
 }
@@ -287,11 +295,11 @@ pub(crate) fn with_entries(
     value: &Value,
     entries: Vec<Value>,
     words: Text,
-) -> Result<Option<Changed>, AllocError> {
+) -> Result<Option<EditedConstraints>, AllocError> {
     if words.is_empty() {
         return Ok(None);
     }
-    Ok(Some(Changed {
+    Ok(Some(EditedConstraints {
         value: with(alloc, Some(value), ENTRIES, Value::Array(entries))?,
         words,
     }))

@@ -1,9 +1,9 @@
 //! Constraints that contradict themselves, with a least and a greatest value exchanged.
 
 use crate::amount::amount_of;
-use crate::edits::{Changed, with_entries};
+use crate::edits::{EditedConstraints, with_entries};
 use crate::objects::{MEMORY, entries_of, have, with};
-use explanation_text::{Gathered, Text, Words};
+use explanation_text::{ListBuilder, Text, TextBuilder};
 use serde_json::Value;
 use std::alloc::{AllocError, Global};
 use sysmem_counts::Field;
@@ -15,7 +15,7 @@ pub(crate) fn exchanged(
     value: &Value,
     least: Field,
     most: Field,
-) -> Result<Option<Changed>, AllocError> {
+) -> Result<Option<EditedConstraints>, AllocError> {
     if let Some(change) = exchanged_in(alloc, value, least, most)? {
         return Ok(Some(change));
     }
@@ -28,7 +28,7 @@ pub(crate) fn exchanged(
         return Ok(None);
     }
     let mut words = Text::new(alloc);
-    let mut copy = Gathered::new(alloc);
+    let mut copy = ListBuilder::new(alloc);
     for entry in entries_of(value) {
         match exchanged_in(alloc, entry, least, most)? {
             Some(change) => {
@@ -48,7 +48,7 @@ fn exchanged_in(
     object: &Value,
     least: Field,
     most: Field,
-) -> Result<Option<Changed>, AllocError> {
+) -> Result<Option<EditedConstraints>, AllocError> {
     let found = (object.get(least.name()), object.get(most.name()));
     let (Some(low), Some(high)) = found else {
         return Ok(None);
@@ -60,10 +60,10 @@ fn exchanged_in(
         return Ok(None);
     }
     let lowered = with(alloc, Some(object), least.name(), high.clone()?)?;
-    let mut words = Words::new(alloc);
+    let mut words = TextBuilder::new(alloc);
     words.field(least).put(" ").put_number(a).put(" and ");
     words.field(most).put(" ").put_number(b).put(" exchanged");
-    Ok(Some(Changed {
+    Ok(Some(EditedConstraints {
         value: with(alloc, Some(&lowered), most.name(), low.clone()?)?,
         words: words.into_text()?,
     }))

@@ -1,7 +1,7 @@
 //! The least change of a field that makes a decision possible, once leaving the field out does.
 
 use crate::amount::{Amount, amount_in, with_amount};
-use crate::edits::{Changed, Edit};
+use crate::edits::{Edit, EditedConstraints};
 use serde_json::Value;
 use std::alloc::{AllocError, Global};
 use sysmem_counts::Field;
@@ -9,7 +9,7 @@ use sysmem_image::bounds_table;
 
 /// What a decision says of its buffers.
 #[derive(Clone, Copy)]
-struct Said {
+struct DecisionLine {
     count: u64,
     size: u64,
     width: u64,
@@ -18,8 +18,8 @@ struct Said {
 }
 
 /// Reads what a report's line says of a decision that chose.
-fn said_by(line: &str) -> Said {
-    let mut said = Said {
+fn said_by(line: &str) -> DecisionLine {
+    let mut said = DecisionLine {
         count: 0,
         size: 0,
         width: 0,
@@ -172,7 +172,7 @@ impl Halving {
         alloc: Global,
         value: &Value,
         amount: Amount,
-    ) -> Result<Changed, AllocError> {
+    ) -> Result<EditedConstraints, AllocError> {
         with_amount(alloc, value, self.edit, self.stated, amount)
     }
 }

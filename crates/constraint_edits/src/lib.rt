@@ -21,6 +21,6 @@ mod taking;
 mod using;
 
 pub use amount::{Amount, edited_to};
-pub use edits::{Changed, Edit, changes, edited, edits_on};
+pub use edits::{Edit, EditedConstraints, changes, edited, edits_on};
 pub use halving::{Halving, is_absurd};
 pub use leaving::leave_out;

@@ -1,7 +1,7 @@
 //! Values of JSON with a member put in or left out, and their words.
 
 use explanation_text::wording::put_few;
-use explanation_text::{Gathered, Words};
+use explanation_text::{ListBuilder, TextBuilder};
 use serde_json::{Map, Number, Value};
 use std::alloc::{AllocError, Global};
 use sysmem_counts::Field;
@@ -77,7 +77,7 @@ pub(crate) fn have(value: &Value, key: &str) -> bool {
 }
 
 /// Puts a value in short after a text: a size as `1920x1080`.
-fn put_value(text: &mut Words, value: &Value) {
+fn put_value(text: &mut TextBuilder, value: &Value) {
     if let (Some(width), Some(height)) = (value.get("width"), value.get("height")) {
         if let (Some(width), Some(height)) = (width.as_u64(), height.as_u64()) {
             text.put_number(width).put("x").put_number(height);
@@ -93,11 +93,15 @@ fn put_value(text: &mut Words, value: &Value) {
 }
 
 /// The values in short that a key has in entries, each once: `1280x720 and 4096x2160`.
-pub(crate) fn values_in(alloc: Global, entries: &[Value], key: &str) -> Result<Words, AllocError> {
+pub(crate) fn values_in(
+    alloc: Global,
+    entries: &[Value],
+    key: &str,
+) -> Result<TextBuilder, AllocError> {
     let mut texts: Vec<String> = Vec::new(alloc);
     for entry in entries {
         if let Some(member) = entry.get(key) {
-            let mut words = Words::new(alloc);
+            let mut words = TextBuilder::new(alloc);
             put_value(&mut words, member);
             let text = words.done()?;
             if !texts.contains(&text) {
@@ -105,18 +109,18 @@ pub(crate) fn values_in(alloc: Global, entries: &[Value], key: &str) -> Result<W
             }
         }
     }
-    let mut names = Gathered::new(alloc);
+    let mut names = ListBuilder::new(alloc);
     for text in &texts {
         names.add(text.as_str());
     }
-    let mut joined = Words::new(alloc);
+    let mut joined = TextBuilder::new(alloc);
     put_few(&mut joined, &names.done()?, 3);
     Ok(joined)
 }
 
 /// `max_size 1920x1080 left out`.
-pub(crate) fn words_without(alloc: Global, field: Field, value: &Value) -> Words {
-    let mut words = Words::new(alloc);
+pub(crate) fn words_without(alloc: Global, field: Field, value: &Value) -> TextBuilder {
+    let mut words = TextBuilder::new(alloc);
     words.field(field).put(" ");
     put_value(&mut words, value);
     words.put(" left out");

@@ -1,8 +1,8 @@
 //! Constraints that permit a heap more, or another in the place of one that nearly has its name.
 
-use crate::edits::Changed;
+use crate::edits::EditedConstraints;
 use crate::objects::{MEMORY, exact_value, text_value, with};
-use explanation_text::{Gathered, Words, nearest};
+use explanation_text::{ListBuilder, TextBuilder, nearest};
 use serde_json::Value;
 use std::alloc::{AllocError, Global};
 use sysmem_counts::Field;
@@ -80,7 +80,7 @@ pub(crate) fn permitting(
     alloc: Global,
     value: &Value,
     info: Option<&HeapInfo>,
-) -> Result<Option<Changed>, AllocError> {
+) -> Result<Option<EditedConstraints>, AllocError> {
     let Some(info) = info else {
         return Ok(None);
     };
@@ -88,12 +88,12 @@ pub(crate) fn permitting(
     let Some(list) = others_than(value, heap) else {
         return Ok(None);
     };
-    let mut copy = Gathered::new(alloc);
+    let mut copy = ListBuilder::new(alloc);
     for item in list {
         copy.add(item.clone()?);
     }
     copy.add(heap_value(alloc, heap)?);
-    let mut words = Words::new(alloc);
+    let mut words = TextBuilder::new(alloc);
     words.field(Field::PermittedHeaps).put(" with ");
     words.put(&heap.heap_type).put("#").put_number(heap.id);
     words.put(" too");
@@ -104,10 +104,10 @@ fn permitted(
     alloc: Global,
     value: &Value,
     list: Vec<Value>,
-    words: Words,
-) -> Result<Option<Changed>, AllocError> {
+    words: TextBuilder,
+) -> Result<Option<EditedConstraints>, AllocError> {
     let memory = with(alloc, value.get(MEMORY), HEAPS, Value::Array(list))?;
-    Ok(Some(Changed {
+    Ok(Some(EditedConstraints {
         value: with(alloc, Some(value), MEMORY, memory)?,
         words: words.into_text()?,
     }))
@@ -137,7 +137,7 @@ pub(crate) fn meaning(
     value: &Value,
     heaps: &[HeapInfo],
     index: usize,
-) -> Result<Option<Changed>, AllocError> {
+) -> Result<Option<EditedConstraints>, AllocError> {
     let Some(info) = heaps.get(index) else {
         return Ok(None);
     };
@@ -148,8 +148,8 @@ pub(crate) fn meaning(
     let Some(place) = near_in(alloc, list, heap, heaps)? else {
         return Ok(None);
     };
-    let mut copy = Gathered::new(alloc);
-    let mut words = Words::new(alloc);
+    let mut copy = ListBuilder::new(alloc);
+    let mut words = TextBuilder::new(alloc);
     for (index, item) in list.iter().enumerate() {
         if index == place {
             words = words_for(alloc, heap, item);
@@ -162,8 +162,8 @@ pub(crate) fn meaning(
 }
 
 /// `permitted_heaps with cma#0 in the place of cmma#0`.
-fn words_for(alloc: Global, heap: &Heap, item: &Value) -> Words {
-    let mut words = Words::new(alloc);
+fn words_for(alloc: Global, heap: &Heap, item: &Value) -> TextBuilder {
+    let mut words = TextBuilder::new(alloc);
     words.field(Field::PermittedHeaps).put(" with ");
     words.put(&heap.heap_type).put("#").put_number(heap.id);
     words.put(" in the place of ");

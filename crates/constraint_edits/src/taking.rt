@@ -1,10 +1,10 @@
 //! Constraints that take a colour space, or a format with a modifier, more, or have another entry
 //! first.
 
-use crate::edits::{Changed, with_entries};
+use crate::edits::{EditedConstraints, with_entries};
 use crate::objects::{entries_of, lacking, text_value, with};
 use explanation_text::wording::put_few;
-use explanation_text::{Gathered, Text, Words};
+use explanation_text::{ListBuilder, Text, TextBuilder};
 use serde_json::Value;
 use std::alloc::{AllocError, Global};
 use sysmem_counts::Field;
@@ -32,9 +32,9 @@ pub(crate) fn taking_colour(
     alloc: Global,
     value: &Value,
     colour: &str,
-) -> Result<Option<Changed>, AllocError> {
+) -> Result<Option<EditedConstraints>, AllocError> {
     let mut words = Text::new(alloc);
-    let mut copy = Gathered::new(alloc);
+    let mut copy = ListBuilder::new(alloc);
     for entry in entries_of(value) {
         let names = names_in(alloc, entry.get(COLOURS))?;
         if names.contains(&colour) {
@@ -60,8 +60,8 @@ pub(crate) fn lacks_colour(alloc: Global, value: &Value, colour: &str) -> Result
 }
 
 /// `color_spaces SRGB, with REC709 too`.
-fn words_beside(alloc: Global, colour: &str, names: &[&str]) -> Words {
-    let mut words = Words::new(alloc);
+fn words_beside(alloc: Global, colour: &str, names: &[&str]) -> TextBuilder {
+    let mut words = TextBuilder::new(alloc);
     words.field(Field::ColorSpaces).put(" ");
     put_few(&mut words, names, 3);
     words.put(", with ").put(colour).put(" too");
@@ -69,7 +69,7 @@ fn words_beside(alloc: Global, colour: &str, names: &[&str]) -> Words {
 }
 
 fn with_colour(alloc: Global, entry: &Value, colour: &str) -> Result<Value, AllocError> {
-    let mut list = Gathered::new(alloc);
+    let mut list = ListBuilder::new(alloc);
     if let Some(items) = entry.get(COLOURS).and_then(Value::as_array) {
         for item in items {
             list.add(item.clone()?);
@@ -86,14 +86,14 @@ pub(crate) fn taking_pair(
     alloc: Global,
     value: &Value,
     pair: Pair,
-) -> Result<Option<Changed>, AllocError> {
+) -> Result<Option<EditedConstraints>, AllocError> {
     let entries = entries_of(value);
     let format = pair.format.name();
     let index = first_naming(entries, format);
     let Some(like) = entries.get(index) else {
         return Ok(None);
     };
-    let mut copy = Gathered::new(alloc);
+    let mut copy = ListBuilder::new(alloc);
     copy.add(naming(alloc, like, pair)?);
     for entry in entries {
         copy.add(entry.clone()?);
@@ -126,7 +126,7 @@ pub(crate) fn putting_first(
     alloc: Global,
     value: &Value,
     index: usize,
-) -> Result<Option<Changed>, AllocError> {
+) -> Result<Option<EditedConstraints>, AllocError> {
     let entries = entries_of(value);
     let Some(entry) = entries.get(index) else {
         return Ok(None);
@@ -134,7 +134,7 @@ pub(crate) fn putting_first(
     if index == 0 {
         return Ok(None);
     }
-    let mut copy = Gathered::new(alloc);
+    let mut copy = ListBuilder::new(alloc);
     copy.add(entry.clone()?);
     for (k, other) in entries.iter().enumerate() {
         if k != index {
@@ -142,7 +142,7 @@ pub(crate) fn putting_first(
         }
     }
     let shown = index.saturating_add(1);
-    let mut words = Words::of(alloc, "entry ");
+    let mut words = TextBuilder::of(alloc, "entry ");
     words.put_number(shown).put(" (");
     put_named(&mut words, entry);
     words.put(") put first");
@@ -160,8 +160,8 @@ fn naming(alloc: Global, entry: &Value, pair: Pair) -> Result<Value, AllocError>
 
 /// `pixel_format NV12 LINEAR too, in an entry before the others that is else like the first
 /// (YUY2)`, or `like entry 2 (..)`.
-fn words_on(alloc: Global, like: &Value, index: usize, pair: Pair) -> Words {
-    let mut words = Words::new(alloc);
+fn words_on(alloc: Global, like: &Value, index: usize, pair: Pair) -> TextBuilder {
+    let mut words = TextBuilder::new(alloc);
     words.field(Field::PixelFormat).put(" ");
     words.format(pair.format).put(" ").modifier(pair.modifier);
     words.put(" too, in an entry before the others that is else like ");
@@ -177,7 +177,7 @@ fn words_on(alloc: Global, like: &Value, index: usize, pair: Pair) -> Words {
 }
 
 /// Puts the format and the modifier that an entry names after a text.
-fn put_named(text: &mut Words, entry: &Value) {
+fn put_named(text: &mut TextBuilder, entry: &Value) {
     let name = text_in(entry, FORMAT).unwrap_or("several pairs");
     match PixelFormat::from_name(name) {
         Some(format) => text.format(format),

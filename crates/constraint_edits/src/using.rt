@@ -1,8 +1,8 @@
 //! Constraints of one whose buffers no CPU uses, or who asks for more of them.
 
-use crate::edits::Changed;
+use crate::edits::EditedConstraints;
 use crate::objects::{exact_value, text_value, with};
-use explanation_text::Words;
+use explanation_text::TextBuilder;
 use serde_json::Value;
 use std::alloc::{AllocError, Global};
 use sysmem_counts::Field;
@@ -11,7 +11,10 @@ const USAGE: &str = "usage";
 
 /// The constraints without the use by a CPU; `None` where there is none. Nothing else used is the
 /// usage `none`.
-pub(crate) fn without_cpu(alloc: Global, value: &Value) -> Result<Option<Changed>, AllocError> {
+pub(crate) fn without_cpu(
+    alloc: Global,
+    value: &Value,
+) -> Result<Option<EditedConstraints>, AllocError> {
     let Some(usages) = value.get(USAGE).and_then(Value::as_array) else {
         return Ok(None);
     };
@@ -30,9 +33,9 @@ pub(crate) fn without_cpu(alloc: Global, value: &Value) -> Result<Option<Changed
     } else {
         "usage without cpu"
     };
-    Ok(Some(Changed {
+    Ok(Some(EditedConstraints {
         value: with(alloc, Some(value), USAGE, Value::Array(others))?,
-        words: Words::of(alloc, words).into_text()?,
+        words: TextBuilder::of(alloc, words).into_text()?,
     }))
 }
 
@@ -72,19 +75,19 @@ pub(crate) fn asking_for(
     alloc: Global,
     value: &Value,
     count: u32,
-) -> Result<Option<Changed>, AllocError> {
+) -> Result<Option<EditedConstraints>, AllocError> {
     if asks_for(value, count) {
         return Ok(None);
     }
     let name = Field::MinBufferCount.name();
-    let mut words = Words::new(alloc);
+    let mut words = TextBuilder::new(alloc);
     words.field(Field::MinBufferCount);
     match value.get(name).and_then(Value::as_u64) {
         Some(least) => words.put(" ").put_number(least),
         None => words.put(" (absent)"),
     };
     words.put(" becomes ").put_number(count);
-    Ok(Some(Changed {
+    Ok(Some(EditedConstraints {
         value: with(alloc, Some(value), name, exact_value(u64::from(count)))?,
         words: words.into_text()?,
     }))

@@ -1,13 +1,13 @@
 //! What the calls of a script came to, in one line.
 
-use explanation_text::Words;
+use explanation_text::TextBuilder;
 use explanation_text::wording::put_count;
-use script_story::{Made, Story, put_domain, refused_calls};
+use script_story::{MadeCall, Story, put_domain, refused_calls};
 use std::alloc::{AllocError, Global};
 
 /// The answer: how many calls were refused, and what became of each domain.
-pub fn answer_of(alloc: Global, story: &Story<'_>) -> Words {
-    let mut words = Words::new(alloc);
+pub fn answer_of(alloc: Global, story: &Story<'_>) -> TextBuilder {
+    let mut words = TextBuilder::new(alloc);
     put_count(&mut words, story.calls.len(), "call", "calls");
     match refused_calls(story) {
         0 => words.put(", none refused"),
@@ -36,7 +36,7 @@ fn odd_answers(story: &Story<'_>) -> usize {
 }
 
 /// Whether a verdict was asked for in vain, where the domain's own section doesn't tell why.
-fn is_odd_answer(story: &Story<'_>, call: &Made<'_>) -> bool {
+fn is_odd_answer(story: &Story<'_>, call: &MadeCall<'_>) -> bool {
     if !call.asks() {
         return false;
     }
@@ -48,12 +48,12 @@ fn is_odd_answer(story: &Story<'_>, call: &Made<'_>) -> bool {
 }
 
 /// The call after which the domain of a call's node had its verdict.
-fn verdict_of(story: &Story<'_>, call: &Made<'_>) -> Option<usize> {
+fn verdict_of(story: &Story<'_>, call: &MadeCall<'_>) -> Option<usize> {
     story.domain_of(call.node?)?.ended
 }
 
 /// Puts what became of each domain after a text.
-fn put_verdicts(text: &mut Words, story: &Story<'_>) {
+fn put_verdicts(text: &mut TextBuilder, story: &Story<'_>) {
     let all = story.domains.len();
     let most = if all > 9 { 8 } else { all };
     for index in 0..most {
@@ -65,7 +65,7 @@ fn put_verdicts(text: &mut Words, story: &Story<'_>) {
     }
 }
 
-fn put_verdict(text: &mut Words, story: &Story<'_>, index: usize) {
+fn put_verdict(text: &mut TextBuilder, story: &Story<'_>, index: usize) {
     if let Some(domain) = story.domains.get(index) {
         text.put("; ");
         put_domain(text, story, domain.root);

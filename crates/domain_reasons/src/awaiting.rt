@@ -1,7 +1,7 @@
 //! Who is awaited, and what helps.
 
 use explanation_text::wording::put_count;
-use explanation_text::{Gathered, Items, Text, Words};
+use explanation_text::{Items, ListBuilder, Text, TextBuilder};
 use script_reading::Act;
 use script_story::{Domain, Milestone, Story, put_domain};
 use std::alloc::{AllocError, Global};
@@ -19,23 +19,23 @@ struct Awaited {
 }
 
 /// Tells who a domain waits for.
-pub(crate) fn tell_pending(
+pub(crate) fn add_pending(
     items: &mut Items,
     story: &Story<'_>,
     index: usize,
     domain: &Domain<'_>,
 ) -> Result<(), AllocError> {
     let awaited = all_awaited(items.alloc(), story, index)?;
-    tell_awaited(items, story, &awaited);
+    add_awaited(items, story, &awaited);
     if let Some(above) = awaited_host(story, domain) {
-        tell_host(items, story, domain, above);
+        add_host(items, story, domain, above);
     }
     Ok(())
 }
 
 /// Whom the domain of an index waits for.
 fn all_awaited(alloc: Global, story: &Story<'_>, index: usize) -> Result<Vec<Awaited>, AllocError> {
-    let mut awaited = Gathered::new(alloc);
+    let mut awaited = ListBuilder::new(alloc);
     for node in &story.awaited(alloc, index, usize::MAX)? {
         awaited.add(awaited_of(alloc, story, *node)?);
     }
@@ -43,8 +43,8 @@ fn all_awaited(alloc: Global, story: &Story<'_>, index: usize) -> Result<Vec<Awa
 }
 
 /// Tells that the domain of a root is awaited, to which this one was attached.
-fn tell_host(items: &mut Items, story: &Story<'_>, domain: &Domain<'_>, above: usize) {
-    let mut words = Words::new(items.alloc());
+fn add_host(items: &mut Items, story: &Story<'_>, domain: &Domain<'_>, above: usize) {
+    let mut words = TextBuilder::new(items.alloc());
     put_domain(&mut words, story, above);
     words
         .put(", to which ")
@@ -92,10 +92,10 @@ fn is_one_refused(story: &Story<'_>, nodes: &[usize]) -> bool {
 }
 
 /// Tells who is awaited, those for whom the same helps together.
-fn tell_awaited(items: &mut Items, story: &Story<'_>, awaited: &[Awaited]) {
+fn add_awaited(items: &mut Items, story: &Story<'_>, awaited: &[Awaited]) {
     for (k, first) in awaited.iter().enumerate() {
         if !helps_before(awaited, k, &first.help) {
-            tell_those(items, story, awaited, &first.help);
+            add_those(items, story, awaited, &first.help);
         }
     }
 }
@@ -111,7 +111,7 @@ fn helps_before(awaited: &[Awaited], count: usize, help: &Text) -> bool {
 }
 
 /// Tells those who are awaited for whom this helps.
-fn tell_those(items: &mut Items, story: &Story<'_>, awaited: &[Awaited], help: &Text) {
+fn add_those(items: &mut Items, story: &Story<'_>, awaited: &[Awaited], help: &Text) {
     let mut seen = 0usize;
     for one in awaited {
         if one.help != *help {
@@ -119,19 +119,19 @@ fn tell_those(items: &mut Items, story: &Story<'_>, awaited: &[Awaited], help: &
         }
         seen = seen.saturating_add(1);
         if seen <= MOST_ROWS {
-            tell_one(items, story, one);
+            add_one(items, story, one);
         }
     }
     let more = seen.saturating_sub(MOST_ROWS);
     if more > 0 {
-        let mut words = Words::new(items.alloc());
+        let mut words = TextBuilder::new(items.alloc());
         words.put_number(more).put(" more: ").put_text(help);
         items.say(1, "awaits", words);
     }
 }
 
-fn tell_one(items: &mut Items, story: &Story<'_>, one: &Awaited) {
-    let mut words = Words::of_name(items.alloc(), story.called(one.node));
+fn add_one(items: &mut Items, story: &Story<'_>, one: &Awaited) {
+    let mut words = TextBuilder::of_name(items.alloc(), story.called(one.node));
     words.put(" ").put(story.path(one.node));
     words
         .put(", a ")
@@ -175,8 +175,8 @@ fn what_of(
     node: usize,
     kind: NodeKind,
     tried: Option<usize>,
-) -> Words {
-    let mut words = Words::new(alloc);
+) -> TextBuilder {
+    let mut words = TextBuilder::new(alloc);
     put_what(&mut words, story, node, kind);
     if let Some(call) = story.call(tried.unwrap_or(0)) {
         words.put(", whose ").put(call.name()).put(" was refused");
@@ -185,7 +185,7 @@ fn what_of(
 }
 
 /// Puts what an awaited node is after a text: `a token of call 3 (main)`, without the article.
-fn put_what(text: &mut Words, story: &Story<'_>, node: usize, kind: NodeKind) {
+fn put_what(text: &mut TextBuilder, story: &Story<'_>, node: usize, kind: NodeKind) {
     let (what, origin) = match kind {
         NodeKind::Token => ("token", story.maker(node)),
         NodeKind::Collection => ("collection", story.milestone(node, Milestone::Bind)),
@@ -199,7 +199,7 @@ fn put_what(text: &mut Words, story: &Story<'_>, node: usize, kind: NodeKind) {
 }
 
 /// Puts how many children a group has after a text.
-fn put_children(text: &mut Words, story: &Story<'_>, node: usize) {
+fn put_children(text: &mut TextBuilder, story: &Story<'_>, node: usize) {
     match story.children(text.alloc(), node) {
         Ok(children) => {
             text.put(" of ");
@@ -209,7 +209,7 @@ fn put_children(text: &mut Words, story: &Story<'_>, node: usize) {
     }
 }
 
-fn put_origin(text: &mut Words, story: &Story<'_>, number: Option<usize>) {
+fn put_origin(text: &mut TextBuilder, story: &Story<'_>, number: Option<usize>) {
     match number {
         Some(number) => {
             let actor = story.actor(number);
@@ -239,7 +239,7 @@ fn help_of(
             "all_children_present"
         },
     };
-    Words::of(alloc, help).into_text()
+    TextBuilder::of(alloc, help).into_text()
 }
 
 /// What helps after the call of a number was refused.
@@ -249,12 +249,12 @@ fn help_after(
     node: usize,
     kind: NodeKind,
     number: usize,
-) -> Words {
+) -> TextBuilder {
     let is_set = match story.call(number) {
         Some(call) => matches!(call.act, Act::SetConstraints(_)),
         None => false,
     };
-    let mut words = Words::new(alloc);
+    let mut words = TextBuilder::new(alloc);
     if is_set && kind == NodeKind::Token {
         words.put("bind it before call ").call(number);
     } else if is_set && story.kind_before(node, number) == NodeKind::Token {

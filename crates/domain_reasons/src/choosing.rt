@@ -1,47 +1,47 @@
 //! What was chosen in a domain, and what decided it.
 
-use crate::passed_over::tell_passed_over;
-use crate::selecting::{Empty, tell_left_out};
+use crate::passed_over::add_passed_over;
+use crate::selecting::{DomainView, add_left_out};
 use explanation_text::wording::put_few;
-use explanation_text::{Gathered, Items, Text, Words};
+use explanation_text::{Items, ListBuilder, Text, TextBuilder};
 use negotiation_inputs::Platform;
 use script_story::{Domain, Story, asked_in, put_domain};
-use settings_reasons::tell_settings;
+use settings_reasons::add_settings;
 use std::alloc::{AllocError, Global};
 
 /// How many choices are named.
 pub(crate) const MOST_CHOICES: usize = 6;
 
 /// Tells what was chosen in a domain, and why: of the initial one.
-pub(crate) fn tell_choice(
+pub(crate) fn add_choice(
     items: &mut Items,
     platform: &Platform,
     story: &Story<'_>,
     index: usize,
     domain: &Domain<'_>,
 ) -> Result<(), AllocError> {
-    tell_children(items, story, index)?;
+    add_children(items, story, index)?;
     if let Some(host) = domain.host {
-        tell_from(items, story, host);
+        add_from(items, story, host);
         return Ok(());
     }
-    let selections = Empty {
+    let selections = DomainView {
         platform,
         story,
         root: domain.root,
     };
-    tell_left_out(items, selections)?;
-    tell_passed_over(items, selections)?;
-    let people = asked_in(items.alloc(), story, index, true)?;
+    add_left_out(items, selections)?;
+    add_passed_over(items, selections)?;
+    let participants = asked_in(items.alloc(), story, index, true)?;
     match &domain.settings {
-        Some(settings) => tell_settings(items, platform, &people, settings),
+        Some(settings) => add_settings(items, platform, &participants, settings),
         None => Ok(()),
     }
 }
 
 /// Tells from which domain an attached one has its settings.
-fn tell_from(items: &mut Items, story: &Story<'_>, host: usize) {
-    let mut words = Words::new(items.alloc());
+fn add_from(items: &mut Items, story: &Story<'_>, host: usize) {
+    let mut words = TextBuilder::new(items.alloc());
     if let Some(above) = story.domain_of(host) {
         put_domain(&mut words, story, above.root);
     }
@@ -50,13 +50,13 @@ fn tell_from(items: &mut Items, story: &Story<'_>, host: usize) {
 }
 
 /// Tells which child was chosen of each group that is selected.
-fn tell_children(items: &mut Items, story: &Story<'_>, index: usize) -> Result<(), AllocError> {
+fn add_children(items: &mut Items, story: &Story<'_>, index: usize) -> Result<(), AllocError> {
     let alloc = items.alloc();
     let texts = choices_of(alloc, story, index)?;
     if texts.is_empty() {
         return Ok(());
     }
-    let mut words = Words::new(alloc);
+    let mut words = TextBuilder::new(alloc);
     put_few(&mut words, &texts, MOST_CHOICES);
     items.say(1, "choice", words);
     Ok(())
@@ -64,7 +64,7 @@ fn tell_children(items: &mut Items, story: &Story<'_>, index: usize) -> Result<(
 
 /// The child that was chosen of each group of a domain that is selected.
 fn choices_of(alloc: Global, story: &Story<'_>, index: usize) -> Result<Vec<Text>, AllocError> {
-    let mut texts: Gathered<Text> = Gathered::new(alloc);
+    let mut texts: ListBuilder<Text> = ListBuilder::new(alloc);
     for group in &groups_in(alloc, story, index)? {
         if let Some(words) = choice_of(alloc, story, *group)? {
             texts.add_text(words);
@@ -89,7 +89,11 @@ pub(crate) fn groups_in(
 }
 
 /// The child that was chosen of a group, if the group is selected: `layouts: tiled (first of 2)`.
-fn choice_of(alloc: Global, story: &Story<'_>, group: usize) -> Result<Option<Words>, AllocError> {
+fn choice_of(
+    alloc: Global,
+    story: &Story<'_>,
+    group: usize,
+) -> Result<Option<TextBuilder>, AllocError> {
     if !story.is_selected(group) {
         return Ok(None);
     }
@@ -110,8 +114,8 @@ fn choice_text(
     group: usize,
     child: usize,
     count: usize,
-) -> Words {
-    let mut words = Words::of_name(alloc, story.called(group));
+) -> TextBuilder {
+    let mut words = TextBuilder::of_name(alloc, story.called(group));
     words.put(": ").name(story.called(child));
     if count > 1 {
         words.put(" (first of ").put_number(count).put(")");

@@ -1,21 +1,21 @@
 //! What became of each domain, and why.
 
-use crate::awaiting::tell_pending;
-use crate::choosing::tell_choice;
+use crate::awaiting::add_pending;
+use crate::choosing::add_choice;
 use crate::exchanged::{are_exchanged, is_named_so, states_usage, usage_meant, usages_of};
-use crate::failing::{tell_failed, tell_none, tell_too_many};
+use crate::failing::{add_failed, add_none, add_too_many};
 use explanation_text::wording::put_few;
-use explanation_text::{Gathered, Items, Kind, Text, Words};
+use explanation_text::{Items, Kind, ListBuilder, Text, TextBuilder};
 use negotiation_inputs::Platform;
 use script_story::{Domain, Milestone, Story, asked_in, put_domain};
 use std::alloc::{AllocError, Global};
-use value_sources::Asked;
+use value_sources::NamedParticipant;
 
 /// How many participants are named.
 const MOST_WHO: usize = 8;
 
 /// Tells what became of the domain of an index, and why.
-pub fn tell_domain(
+pub fn add_domain(
     items: &mut Items,
     platform: &Platform,
     story: &Story<'_>,
@@ -26,40 +26,40 @@ pub fn tell_domain(
     };
     put_title(items, story, domain);
     match domain.verdict() {
-        "pending" => tell_pending(items, story, index, domain),
+        "pending" => add_pending(items, story, index, domain),
         "failed" => {
-            tell_failed(items, story, domain);
+            add_failed(items, story, domain);
             Ok(())
         }
         "too_many" => {
-            tell_too_many(items, story, index);
+            add_too_many(items, story, index);
             Ok(())
         }
-        "chosen" => tell_chosen(items, platform, story, index, domain),
+        "chosen" => add_chosen(items, platform, story, index, domain),
         _ => {
-            tell_who(items, story, index, false)?;
-            tell_none(items, platform, story, index, domain)
+            add_who(items, story, index, false)?;
+            add_none(items, platform, story, index, domain)
         }
     }
 }
 
-fn tell_chosen(
+fn add_chosen(
     items: &mut Items,
     platform: &Platform,
     story: &Story<'_>,
     index: usize,
     domain: &Domain<'_>,
 ) -> Result<(), AllocError> {
-    tell_who(items, story, index, true)?;
-    let line = Words::of(items.alloc(), domain.told);
+    add_who(items, story, index, true)?;
+    let line = TextBuilder::of(items.alloc(), domain.told);
     items.push(Kind::Decision, 1, "told", line);
-    tell_choice(items, platform, story, index, domain)
+    add_choice(items, platform, story, index, domain)
 }
 
 /// The title of a domain's section:
 /// `domain / (root): chosen, after call 7 (set_constraints encoder)`.
 fn put_title(items: &mut Items, story: &Story<'_>, domain: &Domain<'_>) {
-    let mut words = Words::new(items.alloc());
+    let mut words = TextBuilder::new(items.alloc());
     put_domain(&mut words, story, domain.root);
     words.put(": ").put(domain.verdict());
     if let Some(number) = domain.ended {
@@ -69,7 +69,7 @@ fn put_title(items: &mut Items, story: &Story<'_>, domain: &Domain<'_>) {
 }
 
 /// Puts after which call a verdict came after a text.
-fn put_ended(text: &mut Words, story: &Story<'_>, number: usize) {
+fn put_ended(text: &mut TextBuilder, story: &Story<'_>, number: usize) {
     text.put(", after call ").call(number);
     if let Some(call) = story.call(number) {
         text.put(" (").put(call.name()).put(" ");
@@ -79,16 +79,16 @@ fn put_ended(text: &mut Words, story: &Story<'_>, number: usize) {
 }
 
 /// Tells who has constraints in a domain, of one that is chosen those who are selected.
-fn tell_who(
+fn add_who(
     items: &mut Items,
     story: &Story<'_>,
     index: usize,
     are_selected: bool,
 ) -> Result<(), AllocError> {
     let alloc = items.alloc();
-    let people = asked_in(alloc, story, index, are_selected)?;
-    items.say(1, "who", who_text(alloc, story, &people));
-    for one in &people {
+    let participants = asked_in(alloc, story, index, are_selected)?;
+    items.say(1, "who", who_text(alloc, story, &participants));
+    for one in &participants {
         note_usage(items, story, *one)?;
     }
     Ok(())
@@ -96,7 +96,11 @@ fn tell_who(
 
 /// Notes a usage that doesn't go with what a participant is called, or its actor where its
 /// constraints may be exchanged with somebody's; and with whom they may be.
-fn note_usage(items: &mut Items, story: &Story<'_>, one: Asked<'_>) -> Result<(), AllocError> {
+fn note_usage(
+    items: &mut Items,
+    story: &Story<'_>,
+    one: NamedParticipant<'_>,
+) -> Result<(), AllocError> {
     let Some(usage) = usage_meant(story, one) else {
         return Ok(());
     };
@@ -113,7 +117,7 @@ fn note_usage(items: &mut Items, story: &Story<'_>, one: Asked<'_>) -> Result<()
 }
 
 /// The call by which a participant set its constraints, by number.
-fn number_of_setting(story: &Story<'_>, one: Asked<'_>) -> usize {
+fn number_of_setting(story: &Story<'_>, one: NamedParticipant<'_>) -> usize {
     story
         .milestone(one.node, Milestone::SetConstraints)
         .unwrap_or(0)
@@ -123,8 +127,8 @@ fn number_of_setting(story: &Story<'_>, one: Asked<'_>) -> usize {
 fn exchanged_with<'a>(
     alloc: Global,
     story: &Story<'a>,
-    one: Asked<'_>,
-) -> Result<Option<Asked<'a>>, AllocError> {
+    one: NamedParticipant<'_>,
+) -> Result<Option<NamedParticipant<'a>>, AllocError> {
     for index in 0..story.domains.len() {
         for other in &asked_in(alloc, story, index, false)? {
             if are_exchanged(story, one, *other) {
@@ -139,11 +143,11 @@ fn exchanged_with<'a>(
 fn note_of(
     alloc: Global,
     story: &Story<'_>,
-    one: Asked<'_>,
+    one: NamedParticipant<'_>,
     usage: &str,
-    other: Option<Asked<'_>>,
-) -> Words {
-    let mut words = Words::of_name(alloc, one.called());
+    other: Option<NamedParticipant<'_>>,
+) -> TextBuilder {
+    let mut words = TextBuilder::of_name(alloc, one.called());
     words.put(" (call ").call(number_of_setting(story, one));
     words.put(") doesn't state usage ").put(usage);
     words.put(": are these the constraints that are meant for it?");
@@ -160,15 +164,19 @@ fn note_of(
 }
 
 /// Participants in words.
-fn who_text(alloc: Global, story: &Story<'_>, people: &[Asked<'_>]) -> Words {
-    if people.is_empty() {
-        return Words::of(alloc, "nobody has constraints");
+fn who_text(
+    alloc: Global,
+    story: &Story<'_>,
+    participants: &[NamedParticipant<'_>],
+) -> TextBuilder {
+    if participants.is_empty() {
+        return TextBuilder::of(alloc, "nobody has constraints");
     }
-    let mut names: Gathered<Text> = Gathered::new(alloc);
-    for one in people {
+    let mut names: ListBuilder<Text> = ListBuilder::new(alloc);
+    for one in participants {
         names.add_text(who(alloc, story, one.node));
     }
-    let mut words = Words::new(alloc);
+    let mut words = TextBuilder::new(alloc);
     match names.done() {
         Ok(names) => put_few(&mut words, &names, MOST_WHO),
         Err(AllocError) => words.refuse(),
@@ -178,8 +186,8 @@ fn who_text(alloc: Global, story: &Story<'_>, people: &[Asked<'_>]) -> Words {
 
 /// A participant with its path, its actor and what it uses the buffers for:
 /// `camera /0 (actor camera, usage video)`.
-fn who(alloc: Global, story: &Story<'_>, node: usize) -> Words {
-    let mut words = Words::of_name(alloc, story.called(node));
+fn who(alloc: Global, story: &Story<'_>, node: usize) -> TextBuilder {
+    let mut words = TextBuilder::of_name(alloc, story.called(node));
     words.put(" ").put(story.path(node));
     if let Some(number) = story.milestone(node, Milestone::SetConstraints) {
         put_setter(&mut words, story, node, number);
@@ -190,7 +198,7 @@ fn who(alloc: Global, story: &Story<'_>, node: usize) -> Words {
 }
 
 /// Puts who set a node's constraints after a text, and who bound it where that is somebody else.
-fn put_setter(text: &mut Words, story: &Story<'_>, node: usize, number: usize) {
+fn put_setter(text: &mut TextBuilder, story: &Story<'_>, node: usize, number: usize) {
     let setter = story.actor(number);
     match story.milestone(node, Milestone::Bind) {
         Some(bound) if story.actor(bound) != setter => {
@@ -205,7 +213,7 @@ fn put_setter(text: &mut Words, story: &Story<'_>, node: usize, number: usize) {
 }
 
 /// Puts the usage that a call states after a text.
-fn put_usage(text: &mut Words, story: &Story<'_>, number: usize) {
+fn put_usage(text: &mut TextBuilder, story: &Story<'_>, number: usize) {
     let Some(usages) = usages_of(story, number) else {
         return;
     };

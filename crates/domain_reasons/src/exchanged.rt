@@ -3,7 +3,7 @@
 use script_reading::Act;
 use script_story::{Milestone, Story};
 use serde_json::Value;
-use value_sources::Asked;
+use value_sources::NamedParticipant;
 
 /// The usage that goes with what a participant or its actor is called, if one does.
 fn usage_of(name: &str) -> Option<&'static str> {
@@ -16,7 +16,7 @@ fn usage_of(name: &str) -> Option<&'static str> {
 }
 
 /// The usage that is expected of a participant.
-pub(crate) fn usage_meant(story: &Story<'_>, one: Asked<'_>) -> Option<&'static str> {
+pub(crate) fn usage_meant(story: &Story<'_>, one: NamedParticipant<'_>) -> Option<&'static str> {
     let number = story
         .milestone(one.node, Milestone::SetConstraints)
         .unwrap_or(0);
@@ -24,7 +24,7 @@ pub(crate) fn usage_meant(story: &Story<'_>, one: Asked<'_>) -> Option<&'static 
 }
 
 /// Whether a participant's own name goes with a usage, and not its actor's alone.
-pub(crate) fn is_named_so(one: Asked<'_>) -> bool {
+pub(crate) fn is_named_so(one: NamedParticipant<'_>) -> bool {
     usage_of(one.name).is_some()
 }
 
@@ -37,7 +37,7 @@ pub(crate) fn usages_of<'a>(story: &Story<'a>, number: usize) -> Option<&'a [Val
 }
 
 /// Whether a participant states a usage.
-pub(crate) fn states_usage(story: &Story<'_>, one: Asked<'_>, usage: &str) -> bool {
+pub(crate) fn states_usage(story: &Story<'_>, one: NamedParticipant<'_>, usage: &str) -> bool {
     let number = story
         .milestone(one.node, Milestone::SetConstraints)
         .unwrap_or(0);
@@ -51,7 +51,7 @@ pub(crate) fn states_usage(story: &Story<'_>, one: Asked<'_>, usage: &str) -> bo
 
 /// Whether each of two participants states the usage that is expected of the other, and not its
 /// own.
-pub fn are_exchanged(story: &Story<'_>, a: Asked<'_>, b: Asked<'_>) -> bool {
+pub fn are_exchanged(story: &Story<'_>, a: NamedParticipant<'_>, b: NamedParticipant<'_>) -> bool {
     match (usage_meant(story, a), usage_meant(story, b)) {
         (Some(mine), Some(other)) => {
             mine != other

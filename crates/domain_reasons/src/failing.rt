@@ -2,20 +2,20 @@
 //! settings.
 
 use crate::choosing::groups_in;
-use crate::selecting::{Empty, MOST_TOLD, tell_empty};
+use crate::selecting::{DomainView, MOST_TOLD, add_empty};
 use explanation_text::wording::{MOST_NAMES, put_few};
-use explanation_text::{Gathered, Items, Name, Text, Words};
+use explanation_text::{Items, ListBuilder, Name, Text, TextBuilder};
 use negotiation_inputs::Platform;
 use script_reading::Act;
-use script_story::{Domain, Made, Milestone, Story, asked_in, left_out};
-use settings_reasons::{failing, tell_misfits};
+use script_story::{Domain, MadeCall, Milestone, Story, asked_in, left_out};
+use settings_reasons::{failing, list_misfits};
 use std::alloc::{AllocError, Global};
 use sysmem_counts::Field;
 use sysmem_merge::Settings;
-use value_sources::{Asked, why_needed};
+use value_sources::{NamedParticipant, why_needed};
 
 /// Tells why a domain failed.
-pub(crate) fn tell_failed(items: &mut Items, story: &Story<'_>, domain: &Domain<'_>) {
+pub(crate) fn add_failed(items: &mut Items, story: &Story<'_>, domain: &Domain<'_>) {
     let alloc = items.alloc();
     let words = match closing(story, domain) {
         Some(call) => why_of_close(alloc, story, domain, call),
@@ -28,8 +28,13 @@ pub(crate) fn tell_failed(items: &mut Items, story: &Story<'_>, domain: &Domain<
 }
 
 /// Why a domain failed that a call closed.
-fn why_of_close(alloc: Global, story: &Story<'_>, domain: &Domain<'_>, call: &Made<'_>) -> Words {
-    let mut words = Words::of(alloc, call.actor);
+fn why_of_close(
+    alloc: Global,
+    story: &Story<'_>,
+    domain: &Domain<'_>,
+    call: &MadeCall<'_>,
+) -> TextBuilder {
+    let mut words = TextBuilder::of(alloc, call.actor);
     words.put(" closed ");
     call.put_on(&mut words);
     words.put(" while ");
@@ -40,7 +45,7 @@ fn why_of_close(alloc: Global, story: &Story<'_>, domain: &Domain<'_>, call: &Ma
 
 /// Puts for whom a domain waited when the call was made after which it failed after a text: `camera
 /// and encoder were`.
-fn put_awaited(text: &mut Words, story: &Story<'_>, domain: &Domain<'_>) {
+fn put_awaited(text: &mut TextBuilder, story: &Story<'_>, domain: &Domain<'_>) {
     match awaited_names(text.alloc(), story, domain) {
         Ok(names) => put_waiting(text, &names),
         Err(AllocError) => text.refuse(),
@@ -63,7 +68,7 @@ fn awaited_names<'a>(
 }
 
 /// Puts who were awaited after a text; nobody but the domain above where there are no names.
-fn put_waiting(text: &mut Words, names: &[Name<'_>]) {
+fn put_waiting(text: &mut TextBuilder, names: &[Name<'_>]) {
     if names.is_empty() {
         text.put("the domain that it was attached to was");
         return;
@@ -73,7 +78,7 @@ fn put_waiting(text: &mut Words, names: &[Name<'_>]) {
 }
 
 /// The call after which a domain failed, if it closes one of its nodes.
-fn closing<'b, 'a>(story: &'b Story<'a>, domain: &Domain<'_>) -> Option<&'b Made<'a>> {
+fn closing<'b, 'a>(story: &'b Story<'a>, domain: &Domain<'_>) -> Option<&'b MadeCall<'a>> {
     let call = story.call(domain.ended?)?;
     let closed = story.domain_of(call.node?)?;
     if matches!(call.act, Act::Close) && closed.root == domain.root {
@@ -84,12 +89,12 @@ fn closing<'b, 'a>(story: &'b Story<'a>, domain: &Domain<'_>) -> Option<&'b Made
 }
 
 /// Why a domain failed that was attached to a node.
-fn why_of_host(alloc: Global, story: &Story<'_>, host: usize) -> Words {
+fn why_of_host(alloc: Global, story: &Story<'_>, host: usize) -> TextBuilder {
     let verdict = match story.domain_of(host) {
         Some(above) => above.verdict(),
         None => "",
     };
-    let mut words = Words::of(alloc, "it was attached to ");
+    let mut words = TextBuilder::of(alloc, "it was attached to ");
     words.name(story.called(host));
     match verdict {
         "failed" => words.put(", whose domain failed"),
@@ -100,9 +105,9 @@ fn why_of_host(alloc: Global, story: &Story<'_>, host: usize) -> Words {
 }
 
 /// Tells how many selections there are, and the groups' children that make them.
-pub(crate) fn tell_too_many(items: &mut Items, story: &Story<'_>, index: usize) {
+pub(crate) fn add_too_many(items: &mut Items, story: &Story<'_>, index: usize) {
     let alloc = items.alloc();
-    items.say_text(
+    items.list_text(
         1,
         "why",
         "the groups' children make more selections than the 4096 that are tried",
@@ -111,8 +116,8 @@ pub(crate) fn tell_too_many(items: &mut Items, story: &Story<'_>, index: usize) 
 }
 
 /// A domain's groups, and how many children each has.
-fn groups_text(alloc: Global, story: &Story<'_>, index: usize) -> Words {
-    let mut words = Words::of(alloc, "children: ");
+fn groups_text(alloc: Global, story: &Story<'_>, index: usize) -> TextBuilder {
+    let mut words = TextBuilder::of(alloc, "children: ");
     match groups_of(alloc, story, index) {
         Ok(parts) => put_few(&mut words, &parts, 12),
         Err(AllocError) => words.refuse(),
@@ -122,7 +127,7 @@ fn groups_text(alloc: Global, story: &Story<'_>, index: usize) -> Words {
 
 /// Each of a domain's groups, with how many children it has.
 fn groups_of(alloc: Global, story: &Story<'_>, index: usize) -> Result<Vec<Text>, AllocError> {
-    let mut parts: Gathered<Text> = Gathered::new(alloc);
+    let mut parts: ListBuilder<Text> = ListBuilder::new(alloc);
     for group in &groups_in(alloc, story, index)? {
         parts.add_text(children_of(alloc, story, *group));
     }
@@ -130,8 +135,8 @@ fn groups_of(alloc: Global, story: &Story<'_>, index: usize) -> Result<Vec<Text>
 }
 
 /// How many children a group has: `layouts 2`.
-fn children_of(alloc: Global, story: &Story<'_>, group: usize) -> Words {
-    let mut words = Words::of_name(alloc, story.called(group));
+fn children_of(alloc: Global, story: &Story<'_>, group: usize) -> TextBuilder {
+    let mut words = TextBuilder::of_name(alloc, story.called(group));
     match story.children(alloc, group) {
         Ok(children) => {
             words.put(" ").put_number(children.len());
@@ -142,7 +147,7 @@ fn children_of(alloc: Global, story: &Story<'_>, group: usize) -> Words {
 }
 
 /// Tells why a domain has no settings.
-pub(crate) fn tell_none(
+pub(crate) fn add_none(
     items: &mut Items,
     platform: &Platform,
     story: &Story<'_>,
@@ -150,23 +155,23 @@ pub(crate) fn tell_none(
     domain: &Domain<'_>,
 ) -> Result<(), AllocError> {
     if domain.host.is_some() {
-        return tell_late(items, platform, story, index, domain);
+        return add_late(items, platform, story, index, domain);
     }
-    let empty = Empty {
+    let empty = DomainView {
         platform,
         story,
         root: domain.root,
     };
     let mut told = 0usize;
-    tell_empty(items, 1, empty, &[], &mut told, story.nodes.len())?;
+    add_empty(items, 1, empty, &[], &mut told, story.nodes.len())?;
     if told >= MOST_TOLD {
-        items.say_text(1, "", "further selections fail too");
+        items.list_text(1, "", "further selections fail too");
     }
     Ok(())
 }
 
 /// Tells why settings that were decided before don't suit those of an attached domain.
-fn tell_late(
+fn add_late(
     items: &mut Items,
     platform: &Platform,
     story: &Story<'_>,
@@ -176,11 +181,11 @@ fn tell_late(
     let Some(settings) = settings_above(story, domain) else {
         return Ok(());
     };
-    let people = asked_in(items.alloc(), story, index, false)?;
+    let participants = asked_in(items.alloc(), story, index, false)?;
     let before = accepted_before(items.alloc(), story, index)?;
-    tell_room(items, &before, &people, settings.count)?;
-    tell_fewer(items, &people, settings.count);
-    tell_unsuited(items, platform, &people, &before, settings)
+    add_room(items, &before, &participants, settings.count)?;
+    add_fewer(items, &participants, settings.count);
+    add_unsuited(items, platform, &participants, &before, settings)
 }
 
 /// The settings of the domain to which one was attached.
@@ -213,17 +218,17 @@ fn count_above(story: &Story<'_>, index: usize) -> Option<u32> {
 }
 
 /// Tells in which fields settings fail participants, where they fail one.
-fn tell_unsuited(
+fn add_unsuited(
     items: &mut Items,
     platform: &Platform,
-    people: &[Asked<'_>],
-    before: &[Asked<'_>],
+    participants: &[NamedParticipant<'_>],
+    before: &[NamedParticipant<'_>],
     settings: &Settings,
 ) -> Result<(), AllocError> {
     let alloc = items.alloc();
-    for one in people {
+    for one in participants {
         if !failing(alloc, platform, settings, one.asked)?.is_empty() {
-            return tell_misfits(items, platform, people, before, settings);
+            return list_misfits(items, platform, participants, before, settings);
         }
     }
     Ok(())
@@ -235,12 +240,12 @@ pub fn accepted_before<'a>(
     alloc: Global,
     story: &Story<'a>,
     index: usize,
-) -> Result<Vec<Asked<'a>>, AllocError> {
+) -> Result<Vec<NamedParticipant<'a>>, AllocError> {
     let decided = match story.domains.get(index) {
         Some(domain) => domain.ended.unwrap_or(usize::MAX),
         None => usize::MAX,
     };
-    let mut accepted: Gathered<Asked<'a>> = Gathered::new(alloc);
+    let mut accepted: ListBuilder<NamedParticipant<'a>> = ListBuilder::new(alloc);
     for earlier in &story.order {
         if *earlier == index {
             break;
@@ -262,7 +267,7 @@ fn is_chosen(story: &Story<'_>, index: usize) -> bool {
 
 /// Adds those of a domain who weren't released or closed before the call of a number.
 fn add_open<'a>(
-    accepted: &mut Gathered<Asked<'a>>,
+    accepted: &mut ListBuilder<NamedParticipant<'a>>,
     story: &Story<'a>,
     index: usize,
     number: usize,
@@ -280,11 +285,11 @@ fn add_open<'a>(
 
 /// How many buffers participants need together: what they hold, and no fewer than any of them asks
 /// for.
-fn needed_by(people: &[Asked<'_>]) -> u64 {
+fn needed_by(participants: &[NamedParticipant<'_>]) -> u64 {
     let mut held = 0u64;
     let mut shared = 0u32;
     let mut least = 1u32;
-    for one in people {
+    for one in participants {
         let counts = one.asked.counts();
         held = held
             .saturating_add(u64::from(counts.min_buffer_count_for_camping))
@@ -296,20 +301,20 @@ fn needed_by(people: &[Asked<'_>]) -> u64 {
 }
 
 /// Tells how many buffers all need together, those before and these, where more than were decided.
-fn tell_room<'a>(
+fn add_room<'a>(
     items: &mut Items,
-    before: &[Asked<'a>],
-    people: &[Asked<'a>],
+    before: &[NamedParticipant<'a>],
+    participants: &[NamedParticipant<'a>],
     count: u32,
 ) -> Result<(), AllocError> {
     let mut all = Vec::from_slice(items.alloc(), before)?;
-    all.extend_from_slice(people)?;
-    tell_lacking(items, &all, count);
+    all.extend_from_slice(participants)?;
+    add_lacking(items, &all, count);
     Ok(())
 }
 
 /// Tells how many buffers all need together, where more than were decided.
-fn tell_lacking(items: &mut Items, all: &[Asked<'_>], count: u32) {
+fn add_lacking(items: &mut Items, all: &[NamedParticipant<'_>], count: u32) {
     let alloc = items.alloc();
     let most = needed_by(all);
     let lacking = most.saturating_sub(u64::from(count));
@@ -317,7 +322,7 @@ fn tell_lacking(items: &mut Items, all: &[Asked<'_>], count: u32) {
         return;
     }
     let were = if count == 1 { "was" } else { "were" };
-    let mut words = Words::new(alloc);
+    let mut words = TextBuilder::new(alloc);
     words.put_number(most).put(" buffers are needed, ");
     words.put_number(count).put(" ").put(were).put(" decided, ");
     words.put_number(lacking).put(" too few: ");
@@ -326,11 +331,11 @@ fn tell_lacking(items: &mut Items, all: &[Asked<'_>], count: u32) {
 }
 
 /// Tells who takes fewer buffers than were decided.
-fn tell_fewer(items: &mut Items, people: &[Asked<'_>], count: u32) {
-    for one in people {
+fn add_fewer(items: &mut Items, participants: &[NamedParticipant<'_>], count: u32) {
+    for one in participants {
         let most = one.asked.counts().max_buffer_count;
         if most < count {
-            let mut words = Words::of_name(items.alloc(), one.called());
+            let mut words = TextBuilder::of_name(items.alloc(), one.called());
             words.put(" takes at most ").put_number(most);
             words
                 .put(" buffers (")

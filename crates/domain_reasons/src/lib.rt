@@ -2,7 +2,7 @@
 //! each value of a choice, and who is in the way where nothing is chosen.
 //!
 //! ```
-//! tell_domain(&mut items, &script.platform, &story, 0)?;
+//! add_domain(&mut items, &script.platform, &story, 0)?;
 //! print!(rt; "{}", text_of(rt.alloc(), &items.into_list()?)?)?;
 //! ```
 #![tactic(auto)]
@@ -19,8 +19,8 @@ mod short;
 
 pub use answer::answer_of;
 pub use awaiting::who_holds_up;
-pub use domains::tell_domain;
+pub use domains::add_domain;
 pub use exchanged::are_exchanged;
 pub use failing::{accepted_before, room_needed};
 pub use selecting::choices_in;
-pub use short::tell_in_short;
+pub use short::add_in_short;

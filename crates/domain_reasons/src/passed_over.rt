@@ -1,8 +1,8 @@
 //! Children of groups after the chosen one that couldn't have been chosen.
 
-use crate::selecting::{Choice, Empty, Reached, open_group, reach, with_choice};
-use explanation_text::{Items, Words};
-use settings_reasons::{is_unmet, tell_conflict};
+use crate::selecting::{Choice, DomainView, SelectedNodes, open_group, reach, with_choice};
+use explanation_text::{Items, TextBuilder};
+use settings_reasons::{add_conflict, is_unmet};
 use std::alloc::{AllocError, Global};
 
 /// How many of them are told.
@@ -10,7 +10,10 @@ const MOST: usize = 3;
 
 /// Tells of the children after the chosen one of each group in a chosen selection why those
 /// couldn't have been chosen that nothing meets.
-pub(crate) fn tell_passed_over(items: &mut Items, empty: Empty<'_, '_>) -> Result<(), AllocError> {
+pub(crate) fn add_passed_over(
+    items: &mut Items,
+    empty: DomainView<'_, '_>,
+) -> Result<(), AllocError> {
     let alloc = items.alloc();
     let mut choices: Vec<Choice> = Vec::new(alloc);
     let mut told = 0usize;
@@ -18,7 +21,7 @@ pub(crate) fn tell_passed_over(items: &mut Items, empty: Empty<'_, '_>) -> Resul
         let Some(chosen) = next_chosen(alloc, empty, &choices)? else {
             break;
         };
-        tell_later(items, empty, &choices, &mut told, chosen)?;
+        add_later(items, empty, &choices, &mut told, chosen)?;
         choices.push(chosen)?;
     }
     Ok(())
@@ -27,7 +30,7 @@ pub(crate) fn tell_passed_over(items: &mut Items, empty: Empty<'_, '_>) -> Resul
 /// The choice that was made of the first group of which these choose no child.
 fn next_chosen(
     alloc: Global,
-    empty: Empty<'_, '_>,
+    empty: DomainView<'_, '_>,
     choices: &[Choice],
 ) -> Result<Option<Choice>, AllocError> {
     match open_group(alloc, empty, choices)? {
@@ -39,7 +42,7 @@ fn next_chosen(
 /// The child that a group chose.
 fn chosen_of(
     alloc: Global,
-    empty: Empty<'_, '_>,
+    empty: DomainView<'_, '_>,
     group: usize,
 ) -> Result<Option<Choice>, AllocError> {
     for child in &empty.story.children(alloc, group)? {
@@ -52,9 +55,9 @@ fn chosen_of(
 }
 
 /// Tells why the children of a group after the chosen one can't be met, of those that can't.
-fn tell_later(
+fn add_later(
     items: &mut Items,
-    empty: Empty<'_, '_>,
+    empty: DomainView<'_, '_>,
     choices: &[Choice],
     told: &mut usize,
     chosen: Choice,
@@ -63,7 +66,7 @@ fn tell_later(
     let mut is_later = false;
     for child in &children {
         if is_later && *told < MOST {
-            tell_unmet(items, empty, choices, told, chosen, *child)?;
+            add_unmet(items, empty, choices, told, chosen, *child)?;
         }
         is_later = is_later || *child == chosen.child;
     }
@@ -71,9 +74,9 @@ fn tell_later(
 }
 
 /// Tells why a child can't be met in the place of the chosen one, if nothing meets it.
-fn tell_unmet(
+fn add_unmet(
     items: &mut Items,
-    empty: Empty<'_, '_>,
+    empty: DomainView<'_, '_>,
     choices: &[Choice],
     told: &mut usize,
     chosen: Choice,
@@ -82,33 +85,33 @@ fn tell_unmet(
     let alloc = items.alloc();
     let longer = with_choice(alloc, choices, chosen.group, child)?;
     let reached = reach(alloc, empty, &longer)?;
-    if !is_unmet(alloc, empty.platform, &reached.people)? {
+    if !is_unmet(alloc, empty.platform, &reached.participants)? {
         return Ok(());
     }
     *told = told.saturating_add(1);
-    tell_why(items, empty, chosen, child, &reached)
+    add_why(items, empty, chosen, child, &reached)
 }
 
 /// Tells why a child can't be met in the place of the chosen one, which leaves these.
-fn tell_why(
+fn add_why(
     items: &mut Items,
-    empty: Empty<'_, '_>,
+    empty: DomainView<'_, '_>,
     chosen: Choice,
     child: usize,
-    reached: &Reached<'_>,
+    reached: &SelectedNodes<'_>,
 ) -> Result<(), AllocError> {
     let (later, before) = (empty.story.called(child), empty.story.called(chosen.child));
-    let mut words = Words::of_name(items.alloc(), later);
+    let mut words = TextBuilder::of_name(items.alloc(), later);
     words
         .put(", which comes after ")
         .name(before)
         .put(", can't be met:");
     items.say(2, "", words);
-    tell_conflict(
+    add_conflict(
         items,
         3,
         empty.platform,
-        &reached.people,
+        &reached.participants,
         reached.open.is_none(),
     )
 }

@@ -2,12 +2,12 @@
 
 use crate::choosing::MOST_CHOICES;
 use explanation_text::wording::{put_few, put_joined};
-use explanation_text::{Gathered, Items, Name, Text, Words, are_same};
+use explanation_text::{Items, ListBuilder, Name, Text, TextBuilder, are_same};
 use negotiation_inputs::Platform;
 use script_story::{Story, asked_by};
-use settings_reasons::{is_unmet, tell_conflict};
+use settings_reasons::{add_conflict, is_unmet};
 use std::alloc::{AllocError, Global};
-use value_sources::Asked;
+use value_sources::NamedParticipant;
 
 /// How many failing selections are told.
 pub(crate) const MOST_TOLD: usize = 12;
@@ -24,7 +24,7 @@ pub(crate) struct Choice {
 
 /// What choices settle.
 #[derive(Drop)]
-pub(crate) struct Settled {
+pub(crate) struct SettledChoices {
     /// The nodes, in pre-order.
     pub(crate) nodes: Vec<usize>,
     /// The first group of which no child is chosen.
@@ -37,7 +37,7 @@ pub(crate) fn walk(
     story: &Story<'_>,
     root: usize,
     choices: &[Choice],
-) -> Result<Settled, AllocError> {
+) -> Result<SettledChoices, AllocError> {
     let mut nodes = Vec::new(alloc);
     let mut open = None;
     let mut left: Vec<usize> = vec![in alloc; root]?;
@@ -50,7 +50,7 @@ pub(crate) fn walk(
             open = Some(node);
         }
     }
-    Ok(Settled { nodes, open })
+    Ok(SettledChoices { nodes, open })
 }
 
 /// Puts the nodes below a node that are selected, the last first, and says whether that is settled:
@@ -96,7 +96,7 @@ pub(crate) fn with_choice(
 
 /// A domain whose selections have no settings.
 #[derive(Clone, Copy)]
-pub(crate) struct Empty<'a, 'b> {
+pub(crate) struct DomainView<'a, 'b> {
     pub(crate) platform: &'b Platform,
     pub(crate) story: &'b Story<'a>,
     pub(crate) root: usize,
@@ -104,8 +104,8 @@ pub(crate) struct Empty<'a, 'b> {
 
 /// Whom choices select.
 #[derive(Drop)]
-pub(crate) struct Reached<'a> {
-    pub(crate) people: Vec<Asked<'a>>,
+pub(crate) struct SelectedNodes<'a> {
+    pub(crate) participants: Vec<NamedParticipant<'a>>,
     /// The first group of which no child is chosen.
     pub(crate) open: Option<usize>,
 }
@@ -113,19 +113,19 @@ pub(crate) struct Reached<'a> {
 /// Whom choices select in a domain.
 pub(crate) fn reach<'a>(
     alloc: Global,
-    empty: Empty<'a, '_>,
+    empty: DomainView<'a, '_>,
     choices: &[Choice],
-) -> Result<Reached<'a>, AllocError> {
+) -> Result<SelectedNodes<'a>, AllocError> {
     let settled = walk(alloc, empty.story, empty.root, choices)?;
-    let people = asked_by(alloc, empty.story, &settled.nodes)?;
+    let participants = asked_by(alloc, empty.story, &settled.nodes)?;
     let open = settled.open;
-    Ok(Reached { people, open })
+    Ok(SelectedNodes { participants, open })
 }
 
 /// The first group of which choices choose no child.
 pub(crate) fn open_group(
     alloc: Global,
-    empty: Empty<'_, '_>,
+    empty: DomainView<'_, '_>,
     choices: &[Choice],
 ) -> Result<Option<usize>, AllocError> {
     Ok(walk(alloc, empty.story, empty.root, choices)?.open)
@@ -134,11 +134,11 @@ pub(crate) fn open_group(
 /// Tells why no selection that goes on from these choices has settings; `levels` is more than the
 /// groups that may be left, and `told` counts the failing selections, those of many participants for
 /// several.
-#[cycle(tell_empty)]
-pub(crate) fn tell_empty(
+#[cycle(add_empty)]
+pub(crate) fn add_empty(
     items: &mut Items,
     depth: usize,
-    empty: Empty<'_, '_>,
+    empty: DomainView<'_, '_>,
     choices: &[Choice],
     told: &mut usize,
     levels: usize,
@@ -146,33 +146,35 @@ pub(crate) fn tell_empty(
     let alloc = items.alloc();
     let reached = reach(alloc, empty, choices)?;
     let whole = reached.open.is_none();
-    if whole || is_unmet(alloc, empty.platform, &reached.people)? {
-        *told = told.saturating_add(weight_of(empty.platform, reached.people.len()));
-        return tell_conflict(items, depth, empty.platform, &reached.people, whole);
+    if whole || is_unmet(alloc, empty.platform, &reached.participants)? {
+        *told = told.saturating_add(weight_of(empty.platform, reached.participants.len()));
+        return add_conflict(items, depth, empty.platform, &reached.participants, whole);
     }
     let (Some(group), Some(fewer)) = (reached.open, levels.checked_sub(1)) else {
         return Ok(());
     };
-    tell_group(items, depth, empty, choices, told, fewer, group)
+    add_group(items, depth, empty, choices, told, fewer, group)
 }
 
 /// For how many failing selections one of so many participants counts: to find out who is in the way
 /// each is asked with all others, for each offer.
-fn weight_of(platform: &Platform, people: usize) -> usize {
+fn weight_of(platform: &Platform, participants: usize) -> usize {
     let offers = platform
         .pairs()
         .len()
         .saturating_mul(platform.colours().len());
-    let asked = people.saturating_mul(people).saturating_mul(offers);
+    let asked = participants
+        .saturating_mul(participants)
+        .saturating_mul(offers);
     (asked / ASKED).saturating_add(1)
 }
 
 /// Tells the same for each child of the next group, those with the same reasons together.
-#[cycle(tell_empty)]
-fn tell_group(
+#[cycle(add_empty)]
+fn add_group(
     items: &mut Items,
     depth: usize,
-    empty: Empty<'_, '_>,
+    empty: DomainView<'_, '_>,
     choices: &[Choice],
     told: &mut usize,
     levels: usize,
@@ -186,7 +188,7 @@ fn tell_group(
         }
         let longer = with_choice(alloc, choices, group, child)?;
         let mut below = Items::new(alloc);
-        tell_empty(
+        add_empty(
             &mut below,
             depth.saturating_add(1),
             empty,
@@ -235,8 +237,8 @@ fn put_case(items: &mut Items, depth: usize, group: Name<'_>, case: Case<'_>) {
 }
 
 /// What stands above what is told of some children of a group.
-fn head_of(alloc: Global, group: Name<'_>, names: &[Name<'_>]) -> Words {
-    let mut words = Words::of_name(alloc, group);
+fn head_of(alloc: Global, group: Name<'_>, names: &[Name<'_>]) -> TextBuilder {
+    let mut words = TextBuilder::of_name(alloc, group);
     words.put(" as ");
     put_joined(&mut words, names, "or");
     words.put(":");
@@ -244,7 +246,7 @@ fn head_of(alloc: Global, group: Name<'_>, names: &[Name<'_>]) -> Words {
 }
 
 /// Tells of each group in a chosen selection why its children before the chosen one aren't chosen.
-pub(crate) fn tell_left_out(items: &mut Items, empty: Empty<'_, '_>) -> Result<(), AllocError> {
+pub(crate) fn add_left_out(items: &mut Items, empty: DomainView<'_, '_>) -> Result<(), AllocError> {
     let alloc = items.alloc();
     let mut choices: Vec<Choice> = Vec::new(alloc);
     let mut told = 0usize;
@@ -252,7 +254,7 @@ pub(crate) fn tell_left_out(items: &mut Items, empty: Empty<'_, '_>) -> Result<(
         let Some(group) = open_group(alloc, empty, &choices)? else {
             break;
         };
-        let Some(child) = tell_before(items, empty, &choices, &mut told, group)? else {
+        let Some(child) = add_before(items, empty, &choices, &mut told, group)? else {
             break;
         };
         choices.push(Choice { group, child })?;
@@ -261,9 +263,9 @@ pub(crate) fn tell_left_out(items: &mut Items, empty: Empty<'_, '_>) -> Result<(
 }
 
 /// Tells why the children of a group before the chosen one aren't, and says which that is.
-fn tell_before(
+fn add_before(
     items: &mut Items,
-    empty: Empty<'_, '_>,
+    empty: DomainView<'_, '_>,
     choices: &[Choice],
     told: &mut usize,
     group: usize,
@@ -274,25 +276,25 @@ fn tell_before(
             return Ok(Some(child));
         }
         if *told < MOST_TOLD {
-            tell_not(items, empty, choices, told, Choice { group, child })?;
+            add_not(items, empty, choices, told, Choice { group, child })?;
         }
     }
     Ok(None)
 }
 
 /// Tells why a child isn't chosen beside these choices.
-fn tell_not(
+fn add_not(
     items: &mut Items,
-    empty: Empty<'_, '_>,
+    empty: DomainView<'_, '_>,
     choices: &[Choice],
     told: &mut usize,
     other: Choice,
 ) -> Result<(), AllocError> {
-    let mut words = Words::of(items.alloc(), "not ");
+    let mut words = TextBuilder::of(items.alloc(), "not ");
     words.name(empty.story.called(other.child)).put(":");
     items.say(2, "", words);
     let longer = with_choice(items.alloc(), choices, other.group, other.child)?;
-    tell_empty(items, 3, empty, &longer, told, empty.story.nodes.len())
+    add_empty(items, 3, empty, &longer, told, empty.story.nodes.len())
 }
 
 /// The children that the choices of a line on a domain name, as `layouts: tiled`; empty where it
@@ -303,14 +305,14 @@ pub fn choices_in(
     root: usize,
     line: &str,
 ) -> Result<Text, AllocError> {
-    let mut texts: Gathered<Text> = Gathered::new(alloc);
+    let mut texts: ListBuilder<Text> = ListBuilder::new(alloc);
     for choice in &choices_of(alloc, story, root, line)? {
-        let mut words = Words::of_name(alloc, story.called(choice.group));
+        let mut words = TextBuilder::of_name(alloc, story.called(choice.group));
         words.put(": ").name(story.called(choice.child));
         texts.add_text(words);
     }
     let texts = texts.done()?;
-    let mut words = Words::new(alloc);
+    let mut words = TextBuilder::new(alloc);
     put_few(&mut words, &texts, MOST_CHOICES);
     words.into_text()
 }

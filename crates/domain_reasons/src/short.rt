@@ -1,9 +1,9 @@
 //! What a script's calls do, in a few lines.
 
 use crate::answer::answer_of;
-use crate::domains::tell_domain;
-use crate::selecting::{Empty, tell_left_out};
-use explanation_text::{Items, Kind, Words};
+use crate::domains::add_domain;
+use crate::selecting::{DomainView, add_left_out};
+use explanation_text::{Items, Kind, TextBuilder};
 use negotiation_inputs::Platform;
 use script_story::{Story, refused_words};
 use std::alloc::AllocError;
@@ -13,7 +13,7 @@ const MOST: usize = 8;
 
 /// Tells the answer of a story, which calls are refused, and why each domain has no settings, or
 /// none with an earlier child.
-pub fn tell_in_short(
+pub fn add_in_short(
     items: &mut Items,
     platform: &Platform,
     story: &Story<'_>,
@@ -21,23 +21,23 @@ pub fn tell_in_short(
     let alloc = items.alloc();
     items.say(2, "", answer_of(alloc, story));
     for text in &refused_words(alloc, story)? {
-        items.say(2, "", Words::of_text(alloc, text));
+        items.say(2, "", TextBuilder::of_text(alloc, text));
     }
     for index in 0..story.domains.len() {
-        tell_shortly(items, platform, story, index)?;
+        add_shortly(items, platform, story, index)?;
     }
     Ok(())
 }
 
 /// Tells why a domain has no settings, or none with an earlier child, in a few lines.
-fn tell_shortly(
+fn add_shortly(
     items: &mut Items,
     platform: &Platform,
     story: &Story<'_>,
     index: usize,
 ) -> Result<(), AllocError> {
     let mut section = Items::new(items.alloc());
-    tell_reasons(&mut section, &*platform, &*story, index)?;
+    add_reasons(&mut section, &*platform, &*story, index)?;
     let mut told = 0usize;
     for mut item in section.into_list()? {
         if item.kind == Kind::Title || item.label == "who" || told >= MOST {
@@ -51,7 +51,7 @@ fn tell_shortly(
 }
 
 /// Tells the same in as many lines as it takes.
-fn tell_reasons<'a, 'b>(
+fn add_reasons<'a, 'b>(
     items: &mut Items,
     platform: &'b Platform,
     story: &'b Story<'a>,
@@ -61,15 +61,15 @@ fn tell_reasons<'a, 'b>(
         return Ok(());
     };
     if domain.verdict() != "chosen" {
-        return tell_domain(items, platform, story, index);
+        return add_domain(items, platform, story, index);
     }
     if domain.host.is_some() {
         return Ok(());
     }
-    let selections = Empty {
+    let selections = DomainView {
         platform,
         story,
         root: domain.root,
     };
-    tell_left_out(items, selections)
+    add_left_out(items, selections)
 }

@@ -1,9 +1,9 @@
 //! What a script means once each text in it is corrected that nearly is a known one.
 
-use domain_reasons::tell_in_short;
+use domain_reasons::add_in_short;
 use explanation_text::wording::{mark_after, put_visible};
-use explanation_text::{Item, Items, Kind, Words, begins_character, line_of};
-use script_faults::{Document, has_name_bytes, tell_fault};
+use explanation_text::{Item, Items, Kind, TextBuilder, begins_character, line_of};
+use script_faults::{Document, add_fault, has_name_bytes};
 use script_reading::{ParseFault, Script, ScriptFault, parse_script, read_script};
 use script_story::{Effort, Scenario, story_of};
 use std::alloc::{AllocError, Global};
@@ -27,7 +27,7 @@ pub(crate) fn meant_in(
     document: &Document<'_>,
     shown: &[Item],
 ) -> Result<Vec<Meant>, AllocError> {
-    let mut words = Words::new(alloc);
+    let mut words = TextBuilder::new(alloc);
     put_visible(&mut words, document.file);
     let file = words.done()?;
     let mut meant = Vec::new(alloc);
@@ -150,7 +150,7 @@ fn byte_at(bytes: &[u8], line: usize, column: usize) -> Option<usize> {
 
 /// Tells what the script has once these texts are corrected: its answer, and which calls are
 /// refused then.
-pub(crate) fn tell_corrected(
+pub(crate) fn add_corrected(
     items: &mut Items,
     document: &Document<'_>,
     meant: &[Meant],
@@ -159,13 +159,13 @@ pub(crate) fn tell_corrected(
         return Ok(());
     }
     match corrected(items.alloc(), document.bytes, meant)? {
-        Some(bytes) => tell_bytes(items, document, meant, &bytes),
+        Some(bytes) => add_bytes(items, document, meant, &bytes),
         None => Ok(()),
     }
 }
 
 /// Tells what the script has with these bytes, in which some texts are corrected.
-fn tell_bytes(
+fn add_bytes(
     items: &mut Items,
     document: &Document<'_>,
     meant: &[Meant],
@@ -173,14 +173,14 @@ fn tell_bytes(
 ) -> Result<(), AllocError> {
     match parse_script(items.alloc(), bytes) {
         Ok(value) => {
-            say_meant(items, document.bytes, meant);
+            add_meant(items, document.bytes, meant);
             let other = Document {
                 file: document.file,
                 bytes,
                 value: &value,
                 whole: document.whole,
             };
-            tell_answer(items, &other)
+            add_answer(items, &other)
         }
         Err(ParseFault::NoMemory) => Err(AllocError),
         Err(ParseFault::Refused(_)) => Ok(()),
@@ -188,8 +188,8 @@ fn tell_bytes(
 }
 
 /// Tells which texts are corrected.
-fn say_meant(items: &mut Items, bytes: &[u8], meant: &[Meant]) {
-    let mut words = Words::of(items.alloc(), "with ");
+fn add_meant(items: &mut Items, bytes: &[u8], meant: &[Meant]) {
+    let mut words = TextBuilder::of(items.alloc(), "with ");
     put_meant(&mut words, bytes, meant);
     words.put(" the script has:");
     items.say(1, "then", words)
@@ -212,7 +212,7 @@ fn corrected(alloc: Global, bytes: &[u8], meant: &[Meant]) -> Result<Option<Vec<
 }
 
 /// Puts what stands in the place of what after a text: `vulkan in the place of gpu (line 13)`.
-fn put_meant(text: &mut Words, bytes: &[u8], meant: &[Meant]) {
+fn put_meant(text: &mut TextBuilder, bytes: &[u8], meant: &[Meant]) {
     for (k, one) in meant.iter().enumerate() {
         put_one(text, bytes, one);
         text.put(mark_after(k, meant.len()));
@@ -220,7 +220,7 @@ fn put_meant(text: &mut Words, bytes: &[u8], meant: &[Meant]) {
 }
 
 /// Puts what is meant after a text: a field, a format, a modifier or another word.
-fn put_known(text: &mut Words, word: &str) {
+fn put_known(text: &mut TextBuilder, word: &str) {
     if let Some(field) = Field::from_name(word) {
         text.field(field);
     } else if let Some(format) = PixelFormat::from_name(word) {
@@ -232,7 +232,7 @@ fn put_known(text: &mut Words, word: &str) {
     }
 }
 
-fn put_one(text: &mut Words, bytes: &[u8], one: &Meant) {
+fn put_one(text: &mut TextBuilder, bytes: &[u8], one: &Meant) {
     let line = line_of(bytes, one.start.min(bytes.len()));
     if one.is_name {
         text.put(&one.is);
@@ -249,16 +249,16 @@ fn put_one(text: &mut Words, bytes: &[u8], one: &Meant) {
 }
 
 /// Tells the answer of a script, and which of its calls are refused; or that it is refused itself.
-fn tell_answer(items: &mut Items, document: &Document<'_>) -> Result<(), AllocError> {
+fn add_answer(items: &mut Items, document: &Document<'_>) -> Result<(), AllocError> {
     match read_script(items.alloc(), document.value) {
-        Ok(script) => tell_script(items, document, &script),
+        Ok(script) => add_script(items, document, &script),
         Err(ParseFault::NoMemory) => Err(AllocError),
-        Err(ParseFault::Refused(fault)) => tell_refusal(items, document, fault),
+        Err(ParseFault::Refused(fault)) => add_refusal(items, document, fault),
     }
 }
 
 /// Tells the answer of a script that isn't refused, and which of its calls are.
-fn tell_script<'a>(
+fn add_script<'a>(
     items: &mut Items,
     document: &Document<'a>,
     script: &Script<'a>,
@@ -275,20 +275,20 @@ fn tell_script<'a>(
         return Err(AllocError);
     }
     let story = story_of(alloc, document.value, &script.calls, &told)?;
-    tell_in_short(items, &script.platform, &story)
+    add_in_short(items, &script.platform, &story)
 }
 
 /// Tells that a script is refused, and for what.
-fn tell_refusal(
+fn add_refusal(
     items: &mut Items,
     document: &Document<'_>,
     fault: ScriptFault,
 ) -> Result<(), AllocError> {
     let mut told = Items::new(items.alloc());
-    tell_fault(&mut told, document, fault)?;
+    add_fault(&mut told, document, fault)?;
     for item in told.into_list()? {
         if item.kind == Kind::Answer {
-            items.say_text(2, "", &item.text);
+            items.list_text(2, "", &item.text);
         }
     }
     Ok(())

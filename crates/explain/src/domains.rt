@@ -1,20 +1,20 @@
 //! What became of each domain, why, and what would help.
 
-use crate::entries::tell_unused;
-use constraint_changes::{Group, tell_changes, tell_together};
+use crate::entries::add_unused;
+use constraint_changes::{Group, add_together, list_changes};
 use constraint_edits::edits_on;
-use domain_reasons::tell_domain;
+use domain_reasons::add_domain;
 use explanation_text::Items;
 use other_outcomes::{
-    tell_ended_later, tell_heaps, tell_later_children, tell_later_pairs, tell_platform, tell_then,
-    tell_without,
+    add_ended_later, add_heaps, add_later_children, add_later_pairs, add_platform, add_then,
+    add_without,
 };
 use script_faults::Document;
 use script_story::{Scenario, Story, asked_in};
 use std::alloc::AllocError;
 
 /// Tells each domain, in the order of the report.
-pub(crate) fn tell_domains(
+pub(crate) fn add_domains(
     items: &mut Items,
     document: &Document<'_>,
     scenario: &Scenario<'_>,
@@ -22,9 +22,9 @@ pub(crate) fn tell_domains(
 ) -> Result<(), AllocError> {
     for (k, index) in story.order.iter().enumerate() {
         if !story.order.get(..k).unwrap_or(&[]).contains(index) {
-            tell_domain(items, scenario.platform, story, *index)?;
-            tell_unused(items, document, scenario, story, *index)?;
-            tell_help(items, document, scenario, story, *index)?;
+            add_domain(items, scenario.platform, story, *index)?;
+            add_unused(items, document, scenario, story, *index)?;
+            list_help(items, document, scenario, story, *index)?;
         }
     }
     Ok(())
@@ -32,7 +32,7 @@ pub(crate) fn tell_domains(
 
 /// Tells what would help a domain that is pending or empty, and what else one could be that is
 /// chosen.
-fn tell_help(
+fn list_help(
     items: &mut Items,
     document: &Document<'_>,
     scenario: &Scenario<'_>,
@@ -45,16 +45,16 @@ fn tell_help(
     let path = story.path(domain.root);
     match domain.verdict() {
         "pending" => {
-            tell_then(items, scenario, story, path)?;
-            tell_without(items, scenario, story, index, path)
+            add_then(items, scenario, story, path)?;
+            add_without(items, scenario, story, index, path)
         }
         "empty" => {
-            tell_ended_later(items, scenario, story, index, path)?;
-            tell_edits(items, document, scenario, story, index)
+            add_ended_later(items, scenario, story, index, path)?;
+            add_edits(items, document, scenario, story, index)
         }
         "chosen" => {
-            tell_later_children(items, scenario, story, index, path)?;
-            tell_later_pairs(items, scenario, story, index, path)
+            add_later_children(items, scenario, story, index, path)?;
+            add_later_pairs(items, scenario, story, index, path)
         }
         _ => Ok(()),
     }
@@ -62,7 +62,7 @@ fn tell_help(
 
 /// Tells what would help an empty domain: one change of a participant, or else some together, and a
 /// pair that the platform lacks.
-fn tell_edits(
+fn add_edits(
     items: &mut Items,
     document: &Document<'_>,
     scenario: &Scenario<'_>,
@@ -71,7 +71,7 @@ fn tell_edits(
 ) -> Result<(), AllocError> {
     let alloc = items.alloc();
     let platform = scenario.platform;
-    let people = asked_in(alloc, story, index, false)?;
+    let participants = asked_in(alloc, story, index, false)?;
     let edits = edits_on(
         alloc,
         platform.heaps().len(),
@@ -85,11 +85,11 @@ fn tell_edits(
         story,
         path: story.path(root),
         root,
-        people: &people,
+        participants: &participants,
     };
-    if !tell_changes(items, group, index, &edits)? {
-        tell_together(items, group, &edits)?;
+    if !list_changes(items, group, index, &edits)? {
+        add_together(items, group, &edits)?;
     }
-    tell_platform(items, scenario, group.path, &people)?;
-    tell_heaps(items, scenario, group.path, &people)
+    add_platform(items, scenario, group.path, &participants)?;
+    add_heaps(items, scenario, group.path, &participants)
 }

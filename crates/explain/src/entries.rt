@@ -9,14 +9,14 @@ ghost use Rattle.constraint_changes.specs.Edited.{IsPromised};
 use constraint_changes::{Trial, entry_place, line_at, put_choice};
 use constraint_edits::{Edit, edited};
 use domain_reasons::choices_in;
-use explanation_text::{Items, Step, Words};
+use explanation_text::{Items, Step, TextBuilder};
 use script_faults::{Document, RecordPart};
 use script_story::{Milestone, Scenario, Story, asked_in};
 use serde_json::Value;
 use settings_reasons::{holder_of, is_taken, unused_entries};
 use std::alloc::{AllocError, Global};
 use sysmem_formats::{Modifier, Pair, PixelFormat};
-use value_sources::Asked;
+use value_sources::NamedParticipant;
 
 /// How many are told of one participant.
 const MOST: usize = 3;
@@ -26,7 +26,7 @@ const ENTRIES: &str = "image_format_constraints";
 /// Tells which entries of the participants of a domain are never used since earlier ones hold for
 /// all that they take; of one that is chosen of those who are selected, and what would be chosen
 /// with such an entry first.
-pub(crate) fn tell_unused(
+pub(crate) fn add_unused(
     items: &mut Items,
     document: &Document<'_>,
     scenario: &Scenario<'_>,
@@ -37,21 +37,21 @@ pub(crate) fn tell_unused(
     if verdict != "chosen" && verdict != "empty" {
         return Ok(());
     }
-    let people = asked_in(items.alloc(), story, index, verdict == "chosen")?;
-    for one in &people {
-        tell_of(items, &*document, &*scenario, &*story, index, one)?;
+    let participants = asked_in(items.alloc(), story, index, verdict == "chosen")?;
+    for one in &participants {
+        add_of(items, &*document, &*scenario, &*story, index, one)?;
     }
     Ok(())
 }
 
 /// Tells which entries of a participant are never used.
-fn tell_of<'a, 'b>(
+fn add_of<'a, 'b>(
     items: &mut Items,
     document: &'b Document<'a>,
     scenario: &'b Scenario<'a>,
     story: &'b Story<'a>,
     index: usize,
-    one: &'b Asked<'a>,
+    one: &'b NamedParticipant<'a>,
 ) -> Result<(), AllocError> {
     let teller = Teller {
         document,
@@ -90,7 +90,7 @@ struct Teller<'a, 'b> {
     scenario: &'b Scenario<'a>,
     story: &'b Story<'a>,
     index: usize,
-    one: &'b Asked<'a>,
+    one: &'b NamedParticipant<'a>,
     number: usize,
 }
 
@@ -112,7 +112,7 @@ impl Teller<'_, '_> {
                 continue;
             };
             if told < MOST {
-                self.tell_one(items, &mut tried, *index, holder)?;
+                self.write_one(items, &mut tried, *index, holder)?;
             }
             told = told.saturating_add(1);
         }
@@ -121,7 +121,7 @@ impl Teller<'_, '_> {
 
     /// Tells that the entry of an index is never used, and what would be with the record's entry
     /// first to which it belongs, where that is another one than the holder's and wasn't tried.
-    fn tell_one(
+    fn write_one(
         &self,
         items: &mut Items,
         tried: &mut Vec<usize>,
@@ -137,11 +137,11 @@ impl Teller<'_, '_> {
             return Ok(());
         }
         tried.push(item)?;
-        self.tell_first(items, item)
+        self.put_in_first(items, item)
     }
 
     /// Tells what would be decided with an entry of the record, from 0, before the others.
-    fn tell_first(&self, items: &mut Items, item: usize) -> Result<(), AllocError> {
+    fn put_in_first(&self, items: &mut Items, item: usize) -> Result<(), AllocError> {
         let Some(value) = self.one.stated else {
             return Ok(());
         };
@@ -149,14 +149,14 @@ impl Teller<'_, '_> {
         let place = self.number.saturating_sub(1);
         self.scenario.effort.change(place, 1);
         match edited(items.alloc(), value, Edit::EntryFirst(item), heaps)? {
-            Some(change) => self.tell_then(items, item, &change.value),
+            Some(change) => self.add_then(items, item, &change.value),
             None => Ok(()),
         }
     }
 
     /// Tells what would be decided with these constraints, in which an entry of the record stands
     /// first.
-    fn tell_then(&self, items: &mut Items, item: usize, value: &Value) -> Result<(), AllocError> {
+    fn add_then(&self, items: &mut Items, item: usize, value: &Value) -> Result<(), AllocError> {
         let root = self.story.root_of(self.index);
         let trial = Trial {
             scenario: self.scenario,
@@ -164,22 +164,22 @@ impl Teller<'_, '_> {
             place: self.number.saturating_sub(1),
         };
         let Some(line) = trial.outcome(items.alloc(), value)? else {
-            self.say_first(items, item, "nothing would be chosen");
+            self.write_first(items, item, "nothing would be chosen");
             return Ok(());
         };
         if line.as_str() == told_of(self.story, self.index) {
-            self.say_first(items, item, "the decision would be the same");
+            self.write_first(items, item, "the decision would be the same");
             return Ok(());
         }
-        self.say_first(items, item, "it would be:");
+        self.write_first(items, item, "it would be:");
         let choice = choices_in(items.alloc(), self.story, root, &line)?;
         put_promised(items, trial, line);
         put_choice(items, 2, choice);
         Ok(())
     }
 
-    fn say_first(&self, items: &mut Items, item: usize, end: &str) {
-        let mut words = Words::of(items.alloc(), "with entry ");
+    fn write_first(&self, items: &mut Items, item: usize, end: &str) {
+        let mut words = TextBuilder::of(items.alloc(), "with entry ");
         words
             .put_number(item.saturating_add(1))
             .put(" of ")
@@ -207,8 +207,8 @@ impl Teller<'_, '_> {
 
     /// `camera (call 5): entry 2 (NV12 LINEAR, line 18) is never used: entry 1 (any format
     /// DO_NOT_CARE, line 17) comes before it and holds for ..`.
-    fn sentence(&self, alloc: Global, index: usize, holder: Holder) -> Words {
-        let mut words = Words::of_name(alloc, self.one.called());
+    fn sentence(&self, alloc: Global, index: usize, holder: Holder) -> TextBuilder {
+        let mut words = TextBuilder::of_name(alloc, self.one.called());
         words.put(" (call ").call(self.number).put("): ");
         self.put_entry(&mut words, index);
         words.put(" is never used: ");
@@ -221,7 +221,7 @@ impl Teller<'_, '_> {
 
     /// Puts which entry of the record that of an index is after a text, with what it takes and its
     /// line.
-    fn put_entry(&self, text: &mut Words, index: usize) {
+    fn put_entry(&self, text: &mut TextBuilder, index: usize) {
         let Some(entry) = self.one.asked.entries().get(index) else {
             return;
         };
@@ -259,7 +259,7 @@ fn put_promised(items: &mut Items, trial: Trial<'_, '_>, line: String)
 }
 
 /// Puts a format and a modifier after a text.
-fn put_pair(text: &mut Words, format: Option<PixelFormat>, modifier: Option<Modifier>) {
+fn put_pair(text: &mut TextBuilder, format: Option<PixelFormat>, modifier: Option<Modifier>) {
     match format {
         Some(format) => text.format(format),
         None => text.put("any format"),

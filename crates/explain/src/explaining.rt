@@ -5,19 +5,19 @@ ghost use Rattle.std.specs.String.{string_bytes};
 ghost use Rattle.explain.specs.Lines.{IsToldBy, item_texts};
 ghost use Rattle.explain.specs.Wanted.{AreThere};
 
-use crate::corrected::{meant_in, tell_corrected};
-use crate::domains::tell_domains;
+use crate::corrected::{add_corrected, meant_in};
+use crate::domains::add_domains;
 use crate::json::{Played, Scene, objects_of};
 use crate::lines::with_lines;
 use crate::page::page_of_scene;
 use domain_reasons::answer_of;
 use explanation_text::{
-    Item, Items, Kind, Span, Words, column_of, line_of, repeated_keys, text_of,
+    Item, Items, Kind, Span, TextBuilder, column_of, line_of, repeated_keys, text_of,
 };
-use other_outcomes::tell_moved;
-use script_faults::{Document, Whole, tell_fault, tell_no_json};
+use other_outcomes::add_moved;
+use script_faults::{Document, Whole, add_fault, add_no_json};
 use script_reading::{ParseFault, Script, ScriptFault, parse_script, read_script};
-use script_story::{Effort, Scenario, Story, refused_calls, story_of, tell_refused};
+use script_story::{Effort, Scenario, Story, list_refused, refused_calls, story_of};
 use serde_json::Value;
 use std::alloc::{AllocError, Global};
 
@@ -81,9 +81,9 @@ pub fn explain(
             };
             let mut items = Items::new(alloc);
             if fault == ScriptFault::NotJson {
-                tell_no_json(&mut items, file, bytes)?;
+                add_no_json(&mut items, file, bytes)?;
             } else {
-                tell_fault(&mut items, &document, fault)?;
+                add_fault(&mut items, &document, fault)?;
             }
             refusal(alloc, document, items, wanted)
         }
@@ -211,11 +211,11 @@ fn fault_items(
     fault: ScriptFault,
 ) -> Result<Items, AllocError> {
     let mut told = Items::new(alloc);
-    tell_fault(&mut told, document, fault)?;
+    add_fault(&mut told, document, fault)?;
     let told = told.into_list()?;
     let meant = meant_in(alloc, document, &told)?;
     let mut items = with_repeats(alloc, document, told)?;
-    tell_corrected(&mut items, document, &meant)?;
+    add_corrected(&mut items, document, &meant)?;
     Ok(items)
 }
 
@@ -231,15 +231,15 @@ fn with_repeats(
         let is_answer = item.kind == Kind::Answer;
         items.add(item);
         if is_answer {
-            tell_repeats_first(&mut items, document)?;
+            add_repeats_first(&mut items, document)?;
         }
     }
     Ok(items)
 }
 
 /// Tells the keys that an object has twice, before where the script is refused.
-fn tell_repeats_first(items: &mut Items, document: &Document<'_>) -> Result<(), AllocError> {
-    tell_repeats(items, document)?;
+fn add_repeats_first(items: &mut Items, document: &Document<'_>) -> Result<(), AllocError> {
+    add_repeats(items, document)?;
     if items.len() > 1 {
         items.title("where the script is refused");
     }
@@ -286,31 +286,31 @@ fn story_items(
     story: &Story<'_>,
 ) -> Result<Vec<Item>, AllocError> {
     let mut items = Items::new(alloc);
-    tell_story(&mut items, document, scenario, story)?;
+    add_story(&mut items, document, scenario, story)?;
     with_lines(alloc, document, story, items.into_list()?)
 }
 
 /// Tells what calls did.
-fn tell_story(
+fn add_story(
     items: &mut Items,
     document: &Document<'_>,
     scenario: &Scenario<'_>,
     story: &Story<'_>,
 ) -> Result<(), AllocError> {
     items.push(Kind::Answer, 0, "", answer_of(items.alloc(), story));
-    tell_repeats(items, document)?;
-    tell_calls(items, document, story)?;
-    tell_moved(items, scenario, document.value, story)?;
-    tell_domains(items, document, scenario, story)?;
-    tell_untold(items, scenario.effort);
+    add_repeats(items, document)?;
+    add_calls(items, document, story)?;
+    add_moved(items, scenario, document.value, story)?;
+    add_domains(items, document, scenario, story)?;
+    add_untold(items, scenario.effort);
     Ok(())
 }
 
 /// Tells that not all was tried, where that would take long.
-fn tell_untold(items: &mut Items, effort: &Effort) {
+fn add_untold(items: &mut Items, effort: &Effort) {
     if effort.is_spent() {
         items.title("note: what isn't told");
-        items.say_text(
+        items.list_text(
             1,
             "note",
             "more changes, and more that would be decided otherwise: to try more would take long",
@@ -320,19 +320,19 @@ fn tell_untold(items: &mut Items, effort: &Effort) {
 
 /// Tells which calls were refused, and what comes once the texts in them are corrected that nearly
 /// are known ones.
-fn tell_calls(
+fn add_calls(
     items: &mut Items,
     document: &Document<'_>,
     story: &Story<'_>,
 ) -> Result<(), AllocError> {
     let mut refused = Items::new(items.alloc());
-    tell_refused(&mut refused, document, story)?;
+    list_refused(&mut refused, document, story)?;
     let refused = refused.into_list()?;
     let meant = meant_in(items.alloc(), document, &refused)?;
     for item in refused {
         items.add(item);
     }
-    tell_corrected(items, document, &meant)
+    add_corrected(items, document, &meant)
 }
 
 fn outcome_of(story: &Story<'_>) -> Outcome {
@@ -349,7 +349,7 @@ fn outcome_of(story: &Story<'_>) -> Outcome {
 }
 
 /// Tells the keys that an object has twice.
-fn tell_repeats(items: &mut Items, document: &Document<'_>) -> Result<(), AllocError> {
+fn add_repeats(items: &mut Items, document: &Document<'_>) -> Result<(), AllocError> {
     let alloc = items.alloc();
     let repeats = repeated_keys(alloc, document.bytes, document.value, MOST_KEYS)?;
     if repeats.is_empty() {
@@ -357,14 +357,14 @@ fn tell_repeats(items: &mut Items, document: &Document<'_>) -> Result<(), AllocE
     }
     items.title("note: keys that are given twice");
     for (first, again) in &repeats {
-        tell_repeat(items, document, *first, *again);
+        add_repeat(items, document, *first, *again);
     }
     Ok(())
 }
 
-fn tell_repeat(items: &mut Items, document: &Document<'_>, first: Span, again: Span) {
+fn add_repeat(items: &mut Items, document: &Document<'_>, first: Span, again: Span) {
     let at = first.start.min(document.bytes.len());
-    let mut words = Words::of(items.alloc(), "given twice; the first (line ");
+    let mut words = TextBuilder::of(items.alloc(), "given twice; the first (line ");
     words.put_number(line_of(document.bytes, at));
     words
         .put(", column ")

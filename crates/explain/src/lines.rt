@@ -1,6 +1,6 @@
 //! Where the fields stand in the script's text that the section of an empty domain names.
 
-use explanation_text::{Item, Kind, Step, Text, Thing, Words, line_of};
+use explanation_text::{Item, Kind, Step, Text, TextBuilder, Thing, line_of};
 use record_reading::{ENTRY_FIELDS, MEMORY_FIELDS};
 use script_faults::{Document, RecordPart, Whole};
 use script_story::{Milestone, Story};
@@ -121,7 +121,7 @@ fn rows_of(
         if let Some(number) = story.milestone(node, Milestone::SetConstraints) {
             let lines = lines_of(alloc, document, &fields, number)?;
             if !lines.is_empty() {
-                let mut text = Words::of_name(alloc, story.called(node));
+                let mut text = TextBuilder::of_name(alloc, story.called(node));
                 text.put(": ").put_text(&lines);
                 rows.push(text.into_text()?)?;
             }
@@ -171,7 +171,7 @@ fn lines_of(
         whole: Whole::Record,
     };
     let begin = line_of(document.bytes, span.start.min(document.bytes.len()));
-    let mut words = Words::new(alloc);
+    let mut words = TextBuilder::new(alloc);
     for field in fields {
         put_lines(&mut words, &record, begin, *field);
     }
@@ -179,7 +179,7 @@ fn lines_of(
 }
 
 /// Puts in which lines constraints, which begin in a line of the text, state a field after a text.
-fn put_lines(text: &mut Words, record: &Document<'_>, begin: usize, field: Field) {
+fn put_lines(text: &mut TextBuilder, record: &Document<'_>, begin: usize, field: Field) {
     put_line(text, record, begin, &[Step::Key(field.name())], field, 0);
     let memory = [
         Step::Key("buffer_memory_constraints"),
@@ -199,7 +199,7 @@ fn put_lines(text: &mut Words, record: &Document<'_>, begin: usize, field: Field
 /// Puts in which line the member at a path of constraints stands, which begin in a line of the
 /// text, after a text, if there is one; an entry but the first is named.
 fn put_line(
-    text: &mut Words,
+    text: &mut TextBuilder,
     record: &Document<'_>,
     begin: usize,
     path: &[Step<'_>],

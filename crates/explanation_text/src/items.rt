@@ -1,6 +1,6 @@
 //! What is told, as one list of items.
 
-use crate::words::{Mention, Text, Words};
+use crate::words::{Mention, Text, TextBuilder};
 use std::alloc::{AllocError, Global};
 
 /// How an item is shown.
@@ -98,7 +98,7 @@ impl Items {
         }
     }
 
-    pub fn push(&mut self, kind: Kind, depth: usize, label: &'static str, words: Words) {
+    pub fn push(&mut self, kind: Kind, depth: usize, label: &'static str, words: TextBuilder) {
         match words.into_text() {
             Ok(text) => self.add(Item::new(kind, depth, label, text)),
             Err(AllocError) => self.refuse(),
@@ -114,17 +114,17 @@ impl Items {
 
     /// Puts the title of a section after the list.
     pub fn title(&mut self, text: &str) {
-        self.push(Kind::Title, 0, "", Words::of(self.alloc, text))
+        self.push(Kind::Title, 0, "", TextBuilder::of(self.alloc, text))
     }
 
     /// Puts words with a label after the list.
-    pub fn say(&mut self, depth: usize, label: &'static str, words: Words) {
+    pub fn say(&mut self, depth: usize, label: &'static str, words: TextBuilder) {
         self.push(Kind::Words, depth, label, words)
     }
 
     /// Puts a text with a label after the list.
-    pub fn say_text(&mut self, depth: usize, label: &'static str, text: &str) {
-        self.say(depth, label, Words::of(self.alloc, text))
+    pub fn list_text(&mut self, depth: usize, label: &'static str, text: &str) {
+        self.say(depth, label, TextBuilder::of(self.alloc, text))
     }
 
     /// Puts a line of a report after the list, as one that would come of what stands above it.

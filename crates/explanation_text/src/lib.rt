@@ -4,7 +4,7 @@
 //!
 //! ```
 //! let mut items = Items::new(rt.alloc());
-//! items.say_text(1, "who", "camera /0 and display /1");
+//! items.list_text(1, "who", "camera /0 and display /1");
 //! print!(rt; "{}", text_of(rt.alloc(), &items.into_list()?)?)?;
 //! if let Some(span) = span_of(rt.alloc(), bytes, &[Step::Key("calls"), Step::Item(3)], &value)? {
 //!     println!(rt; "line {}", line_of(bytes, span.start))?;
@@ -25,9 +25,9 @@ pub use items::{Item, Items, Kind, are_same};
 pub use markup::{Drawing, Joint, Line, Shape, Standing, page_of};
 pub use near::nearest;
 pub use places::{
-    Expected, Span, Step, Stop, begins_character, characters, column_of, end_of_line, key_span_of,
-    line_of, repeated_keys, span_of, start_of_line, stop_of, value_at,
+    Expected, JsonStop, Span, Step, begins_character, characters, column_of, end_of_line,
+    key_span_of, line_of, repeated_keys, span_of, start_of_line, stop_of, value_at,
 };
 pub use printing::text_of;
 pub use snippet::{Mark, show};
-pub use words::{Gathered, Mention, Name, Phrase, Text, Thing, Words};
+pub use words::{ListBuilder, Mention, Name, Phrase, Text, TextBuilder, Thing};

@@ -8,6 +8,7 @@ mod machine;
 mod path;
 mod repeats;
 mod skipping;
+mod spelling;
 mod stopping;
 mod taken;
 
@@ -16,5 +17,5 @@ pub use keys::{Span, Step};
 pub use lines::{begins_character, characters, column_of, end_of_line, line_of, start_of_line};
 pub use path::value_at;
 pub use repeats::repeated_keys;
-pub use stopping::{Stop, stop_of};
+pub use stopping::{JsonStop, stop_of};
 pub use taken::Expected;

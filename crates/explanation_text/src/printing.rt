@@ -3,7 +3,7 @@
 
 use crate::items::{Item, Kind};
 use crate::wording::{put_repeated, width_of};
-use crate::words::Words;
+use crate::words::TextBuilder;
 use std::alloc::{AllocError, Global};
 
 /// How wide a line is.
@@ -15,7 +15,7 @@ const LABEL: usize = 6;
 
 /// The text of items. Each line ends with a newline.
 pub fn text_of(alloc: Global, items: &[Item]) -> Result<String, AllocError> {
-    let mut text = Words::new(alloc);
+    let mut text = TextBuilder::new(alloc);
     let mut indents = Vec::new(alloc);
     for item in items {
         put_item(&mut text, &mut indents, item)?;
@@ -24,7 +24,11 @@ pub fn text_of(alloc: Global, items: &[Item]) -> Result<String, AllocError> {
 }
 
 /// Puts an item after the text, and keeps how far what stands below it is indented.
-fn put_item(text: &mut Words, indents: &mut Vec<usize>, item: &Item) -> Result<(), AllocError> {
+fn put_item(
+    text: &mut TextBuilder,
+    indents: &mut Vec<usize>,
+    item: &Item,
+) -> Result<(), AllocError> {
     let indent = match item.depth.checked_sub(1) {
         Some(above) => indents.get(above).copied().unwrap_or(2),
         None => 0,
@@ -85,7 +89,7 @@ fn below(item: &Item, label: usize) -> usize {
 }
 
 /// Puts an item's label after the text, at the line's begin; a title stands below an empty line.
-fn put_label(text: &mut Words, item: &Item, indent: usize, label: usize) {
+fn put_label(text: &mut TextBuilder, item: &Item, indent: usize, label: usize) {
     if item.kind == Kind::Title {
         text.put("\n");
     }
@@ -95,7 +99,7 @@ fn put_label(text: &mut Words, item: &Item, indent: usize, label: usize) {
 }
 
 /// Puts lines after the text, each after some spaces.
-fn put_source(text: &mut Words, indent: usize, source: &str) {
+fn put_source(text: &mut TextBuilder, indent: usize, source: &str) {
     for line in source.lines() {
         put_repeated(text, ' ', indent);
         text.put(line).put("\n");
@@ -103,7 +107,12 @@ fn put_source(text: &mut Words, indent: usize, source: &str) {
 }
 
 /// Puts words after the text, broken at spaces; a name stays with its path.
-fn put_words(text: &mut Words, indent: usize, label: usize, words: &str) -> Result<(), AllocError> {
+fn put_words(
+    text: &mut TextBuilder,
+    indent: usize,
+    label: usize,
+    words: &str,
+) -> Result<(), AllocError> {
     let inner = indent.saturating_add(label.max(2));
     let most = WIDTH
         .saturating_sub(indent)
@@ -117,7 +126,7 @@ fn put_words(text: &mut Words, indent: usize, label: usize, words: &str) -> Resu
 
 /// Puts words after the text, and a line's end: of a line that would be so wide or wider what is
 /// left goes to the next, which is indented.
-fn put_parts(text: &mut Words, parts: &[&str], inner: usize, most: usize) {
+fn put_parts(text: &mut TextBuilder, parts: &[&str], inner: usize, most: usize) {
     let mut used = 0usize;
     for (k, word) in parts.iter().enumerate() {
         let width = width_of(word);
@@ -137,7 +146,7 @@ fn put_parts(text: &mut Words, parts: &[&str], inner: usize, most: usize) {
 }
 
 /// Ends the text's line, and begins one that is indented.
-fn begin_line(text: &mut Words, indent: usize) {
+fn begin_line(text: &mut TextBuilder, indent: usize) {
     text.put("\n");
     put_repeated(text, ' ', indent)
 }

@@ -5,7 +5,7 @@ use crate::places::{
     Span, begins_character, characters, column_of, end_of_line, line_of, start_of_line,
 };
 use crate::wording::{put_repeated, put_visible, width_of};
-use crate::words::Words;
+use crate::words::TextBuilder;
 use std::alloc::{AllocError, Global};
 
 /// How many characters of a line are shown.
@@ -26,7 +26,7 @@ pub struct Mark<'a> {
 /// What is shown of a line: its text, and where the carets stand below it.
 #[derive(Drop)]
 struct Window {
-    line: Words,
+    line: TextBuilder,
     column: usize,
     carets: usize,
 }
@@ -40,13 +40,13 @@ pub fn show(
     mark: Mark<'_>,
     helps: &[String],
 ) {
-    let mut text = Words::new(items.alloc());
+    let mut text = TextBuilder::new(items.alloc());
     put_snippet(&mut text, file, bytes, mark, helps);
     items.push(Kind::Source, depth, "", text)
 }
 
 /// Puts where a part stands, its line, carets with a note below it, and what helps after a text.
-fn put_snippet(text: &mut Words, file: &str, bytes: &[u8], mark: Mark<'_>, helps: &[String]) {
+fn put_snippet(text: &mut TextBuilder, file: &str, bytes: &[u8], mark: Mark<'_>, helps: &[String]) {
     let at = mark.span.start.min(bytes.len());
     let line = line_of(bytes, at);
     let width = digits(line);
@@ -69,7 +69,7 @@ fn digits(number: usize) -> usize {
 }
 
 /// Puts the line of a part with carets and a note below it after a text.
-fn put_window(text: &mut Words, width: usize, bytes: &[u8], mark: Mark<'_>) {
+fn put_window(text: &mut TextBuilder, width: usize, bytes: &[u8], mark: Mark<'_>) {
     let window = window_of(text.alloc(), bytes, mark);
     match window.line.done() {
         Ok(line) => text.put(line.trim_end()),
@@ -81,13 +81,13 @@ fn put_window(text: &mut Words, width: usize, bytes: &[u8], mark: Mark<'_>) {
     text.put(" ").put(mark.note);
 }
 
-fn put_bar(text: &mut Words, width: usize, bar: &str) {
+fn put_bar(text: &mut TextBuilder, width: usize, bar: &str) {
     text.put("\n");
     put_repeated(text, ' ', width);
     text.put(bar);
 }
 
-fn put_helps(text: &mut Words, width: usize, helps: &[String]) {
+fn put_helps(text: &mut TextBuilder, width: usize, helps: &[String]) {
     for help in helps {
         put_bar(text, width, " = ");
         put_help(text, width, help);
@@ -95,7 +95,7 @@ fn put_helps(text: &mut Words, width: usize, helps: &[String]) {
 }
 
 /// Puts what helps after a text, broken at spaces.
-fn put_help(text: &mut Words, width: usize, help: &str) {
+fn put_help(text: &mut TextBuilder, width: usize, help: &str) {
     let mut used = 0usize;
     for word in help.split(' ') {
         let more = width_of(word).saturating_add(1);
@@ -124,7 +124,7 @@ fn window_of(alloc: Global, bytes: &[u8], mark: Mark<'_>) -> Window {
         .saturating_add(carets)
         .saturating_add(width_of(mark.note));
     if all <= ROOM && needed <= ROOM {
-        let mut shown = Words::new(alloc);
+        let mut shown = TextBuilder::new(alloc);
         put_part(&mut shown, line);
         return Window {
             line: shown,
@@ -139,7 +139,7 @@ fn window_of(alloc: Global, bytes: &[u8], mark: Mark<'_>) -> Window {
 fn cut(alloc: Global, line: &[u8], all: usize, column: usize, carets: usize) -> Window {
     let left = column.saturating_sub(BEFORE);
     let right = left.saturating_add(ROOM);
-    let mut shown = Words::new(alloc);
+    let mut shown = TextBuilder::new(alloc);
     let mut before = column.saturating_sub(left);
     if 0 < left {
         shown.put("...");
@@ -164,7 +164,7 @@ fn cut(alloc: Global, line: &[u8], all: usize, column: usize, carets: usize) -> 
 }
 
 /// Puts bytes after a text, as characters that can be seen.
-fn put_part(text: &mut Words, bytes: &[u8]) {
+fn put_part(text: &mut TextBuilder, bytes: &[u8]) {
     match String::from_utf8_lossy(text.alloc(), bytes) {
         Ok(lossy) => put_visible(text, &lossy),
         Err(AllocError) => text.refuse(),

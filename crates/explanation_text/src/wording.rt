@@ -1,12 +1,12 @@
 //! Lists of names and counts, in words.
 
-use crate::words::{Phrase, Words};
+use crate::words::{Phrase, TextBuilder};
 
 /// How many names one list has; one more is shown rather than counted.
 pub const MOST_NAMES: usize = 4;
 
 /// Puts the names after the text, as `a, b and c`.
-pub fn put_joined<T: Phrase + Drop>(text: &mut Words, names: &[T], word: &str) {
+pub fn put_joined<T: Phrase + Drop>(text: &mut TextBuilder, names: &[T], word: &str) {
     let Some((last, others)) = names.split_last() else {
         return;
     };
@@ -18,7 +18,7 @@ pub fn put_joined<T: Phrase + Drop>(text: &mut Words, names: &[T], word: &str) {
 }
 
 /// Puts the names after the text, with commas between them.
-fn put_listed<T: Phrase + Drop>(text: &mut Words, names: &[T]) {
+fn put_listed<T: Phrase + Drop>(text: &mut TextBuilder, names: &[T]) {
     for (k, name) in names.iter().enumerate() {
         let before = if k == 0 { "" } else { ", " };
         text.put(before);
@@ -36,7 +36,7 @@ pub fn mark_after(index: usize, count: usize) -> &'static str {
 }
 
 /// Puts at most so many of the names after the text, and counts the others: `a, b and 3 more`.
-pub fn put_few<T: Phrase + Drop>(text: &mut Words, names: &[T], most: usize) {
+pub fn put_few<T: Phrase + Drop>(text: &mut TextBuilder, names: &[T], most: usize) {
     if names.len() <= most.saturating_add(1) {
         return put_joined(text, names, "and");
     }
@@ -46,7 +46,7 @@ pub fn put_few<T: Phrase + Drop>(text: &mut Words, names: &[T], most: usize) {
 }
 
 /// Puts a count with its word after the text: `1 call`, `2 calls`.
-pub fn put_count(text: &mut Words, count: usize, one: &str, many: &str) {
+pub fn put_count(text: &mut TextBuilder, count: usize, one: &str, many: &str) {
     let word = if count == 1 { one } else { many };
     text.put_number(count).put(" ").put(word);
 }
@@ -92,14 +92,14 @@ fn visible(c: char) -> char {
 
 /// Puts a text after another, each of its characters as one that can be seen: a tab as a space, and
 /// others as U+FFFD.
-pub fn put_visible(text: &mut Words, source: &str) {
+pub fn put_visible(text: &mut TextBuilder, source: &str) {
     for c in source.chars() {
         text.put_char(visible(c));
     }
 }
 
 /// Puts so many of a character after the text.
-pub fn put_repeated(text: &mut Words, c: char, times: usize) {
+pub fn put_repeated(text: &mut TextBuilder, c: char, times: usize) {
     for _i in 0..times {
         text.put_char(c);
     }

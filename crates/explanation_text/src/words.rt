@@ -34,23 +34,23 @@ pub struct Name<'a> {
 /// What may stand in a list of words.
 pub trait Phrase {
     /// Puts it after words.
-    fn put_into(&self, words: &mut Words);
+    fn put_into(&self, words: &mut TextBuilder);
 }
 
 impl Phrase for &str {
-    fn put_into(&self, words: &mut Words) {
+    fn put_into(&self, words: &mut TextBuilder) {
         words.put(self);
     }
 }
 
 impl Phrase for Name<'_> {
-    fn put_into(&self, words: &mut Words) {
+    fn put_into(&self, words: &mut TextBuilder) {
         words.name(*self);
     }
 }
 
 impl Phrase for Text {
-    fn put_into(&self, words: &mut Words) {
+    fn put_into(&self, words: &mut TextBuilder) {
         words.put_text(self);
     }
 }
@@ -86,36 +86,36 @@ impl Text {
 
 /// A text that grows by its parts. Where memory is refused to one of them, no text comes of it.
 #[derive(Drop)]
-pub struct Words {
+pub struct TextBuilder {
     text: Text,
     is_refused: bool,
 }
 
-impl Words {
-    pub fn new(alloc: Global) -> Words {
-        Words {
+impl TextBuilder {
+    pub fn new(alloc: Global) -> TextBuilder {
+        TextBuilder {
             text: Text::new(alloc),
             is_refused: false,
         }
     }
 
     /// Words with a first part.
-    pub fn of(alloc: Global, part: &str) -> Words {
-        let mut words = Words::new(alloc);
+    pub fn of(alloc: Global, part: &str) -> TextBuilder {
+        let mut words = TextBuilder::new(alloc);
         words.put(part);
         words
     }
 
     /// Words with a name first.
-    pub fn of_name(alloc: Global, name: Name<'_>) -> Words {
-        let mut words = Words::new(alloc);
+    pub fn of_name(alloc: Global, name: Name<'_>) -> TextBuilder {
+        let mut words = TextBuilder::new(alloc);
         words.name(name);
         words
     }
 
     /// Words with a text first.
-    pub fn of_text(alloc: Global, text: &Text) -> Words {
-        let mut words = Words::new(alloc);
+    pub fn of_text(alloc: Global, text: &Text) -> TextBuilder {
+        let mut words = TextBuilder::new(alloc);
         words.put_text(text);
         words
     }
@@ -135,7 +135,7 @@ impl Words {
     }
 
     /// Puts a part after the text.
-    pub fn put(&mut self, part: &str) -> &mut Words {
+    pub fn put(&mut self, part: &str) -> &mut TextBuilder {
         if self.text.text.push_str(part).is_err() {
             self.is_refused = true;
         }
@@ -143,7 +143,7 @@ impl Words {
     }
 
     /// Puts a character after the text.
-    pub fn put_char(&mut self, c: char) -> &mut Words {
+    pub fn put_char(&mut self, c: char) -> &mut TextBuilder {
         if self.text.text.push(c).is_err() {
             self.is_refused = true;
         }
@@ -151,7 +151,7 @@ impl Words {
     }
 
     /// Puts a number after the text, in decimal.
-    pub fn put_number<N: Display + Drop>(&mut self, number: N) -> &mut Words {
+    pub fn put_number<N: Display + Drop>(&mut self, number: N) -> &mut TextBuilder {
         if write!(self.text.text, "{number}").is_err() {
             self.is_refused = true;
         }
@@ -159,7 +159,7 @@ impl Words {
     }
 
     /// Puts other words after the text.
-    pub fn put_words(&mut self, words: &Words) -> &mut Words {
+    pub fn put_words(&mut self, words: &TextBuilder) -> &mut TextBuilder {
         if words.is_refused {
             self.is_refused = true;
         }
@@ -167,7 +167,7 @@ impl Words {
     }
 
     /// Puts another text after the text.
-    pub fn put_text(&mut self, text: &Text) -> &mut Words {
+    pub fn put_text(&mut self, text: &Text) -> &mut TextBuilder {
         let before = self.text.text.len();
         for mention in &text.mentions {
             self.mention(before.saturating_add(mention.at), mention.thing);
@@ -176,32 +176,32 @@ impl Words {
     }
 
     /// Puts the name of a node after the text.
-    pub fn name(&mut self, name: Name<'_>) -> &mut Words {
+    pub fn name(&mut self, name: Name<'_>) -> &mut TextBuilder {
         self.named(Thing::Node(name.node)).put(name.text)
     }
 
     /// Puts the number of a call after the text.
-    pub fn call(&mut self, number: usize) -> &mut Words {
+    pub fn call(&mut self, number: usize) -> &mut TextBuilder {
         self.named(Thing::Call(number)).put_number(number)
     }
 
     /// Puts the name of a field after the text.
-    pub fn field(&mut self, field: Field) -> &mut Words {
+    pub fn field(&mut self, field: Field) -> &mut TextBuilder {
         self.named(Thing::Field(field)).put(field.name())
     }
 
     /// Puts the name of a format after the text.
-    pub fn format(&mut self, format: PixelFormat) -> &mut Words {
+    pub fn format(&mut self, format: PixelFormat) -> &mut TextBuilder {
         self.named(Thing::Format(format)).put(format.name())
     }
 
     /// Puts the name of a modifier after the text.
-    pub fn modifier(&mut self, modifier: Modifier) -> &mut Words {
+    pub fn modifier(&mut self, modifier: Modifier) -> &mut TextBuilder {
         self.named(Thing::Modifier(modifier)).put(modifier.name())
     }
 
     /// Names a thing by what comes next.
-    fn named(&mut self, thing: Thing) -> &mut Words {
+    fn named(&mut self, thing: Thing) -> &mut TextBuilder {
         let at = self.text.text.len();
         self.mention(at, thing);
         self
@@ -230,14 +230,14 @@ impl Words {
 
 /// A list that grows. Where memory is refused to an item, no list comes of it.
 #[derive(Drop)]
-pub struct Gathered<T: Drop> {
+pub struct ListBuilder<T: Drop> {
     list: Vec<T>,
     is_refused: bool,
 }
 
-impl<T: Drop> Gathered<T> {
-    pub fn new(alloc: Global) -> Gathered<T> {
-        Gathered {
+impl<T: Drop> ListBuilder<T> {
+    pub fn new(alloc: Global) -> ListBuilder<T> {
+        ListBuilder {
             list: Vec::new(alloc),
             is_refused: false,
         }
@@ -268,9 +268,9 @@ impl<T: Drop> Gathered<T> {
     }
 }
 
-impl Gathered<String> {
+impl ListBuilder<String> {
     /// Puts a text after the list; refuses the list where memory was refused to the text.
-    pub fn add_words(&mut self, words: Words) {
+    pub fn add_words(&mut self, words: TextBuilder) {
         match words.done() {
             Ok(text) => self.add(text),
             Err(AllocError) => self.is_refused = true,
@@ -278,10 +278,10 @@ impl Gathered<String> {
     }
 }
 
-impl Gathered<Text> {
+impl ListBuilder<Text> {
     /// Puts a text with what it names after the list; refuses the list where memory was refused to
     /// the text.
-    pub fn add_text(&mut self, words: Words) {
+    pub fn add_text(&mut self, words: TextBuilder) {
         match words.into_text() {
             Ok(text) => self.add(text),
             Err(AllocError) => self.is_refused = true,

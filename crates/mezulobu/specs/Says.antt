@@ -1,10 +1,12 @@
 -- What a call says of the bytes that it is given, by its status.
-use Rattle.std.specs.Prelude.{ℕ, List, [], Some, Ok, Err, false, codes}
+use Rattle.std.specs.Prelude.{ℕ, List, [], Ok, Err, false, codes}
 use Rattle.script_reading.specs.declared.fault.ScriptFault.{ScriptFault}
 use Rattle.script_run.specs.Certificate.{CertifiesTo}
-use Rattle.script_check.specs.CheckedFile.{HasChecked, ProofIsRefused}
+use Rattle.script_check.specs.CheckedFile.{ChecksTo, ProofIsRefused}
+use Rattle.script_check.specs.declared.checked_file.CheckAnswer.{CheckAnswer}
+use Rattle.script_check.specs.declared.checked_file.CheckAnswer.TheVariants.{Yes, No}
 use Rattle.script_replay.specs.Outcome.{RunsTo}
-use Rattle.script_run.specs.declared.running.Ended.TheVariants.{Done, CheckedNo}
+use Rattle.script_replay.specs.declared.decider.Objection.{Objection}
 use Rattle.mezulobu.specs.Words.{refusal_words}
 
 -- a run: at 0 a report of the script, in which memory wasn't refused, and at 3 the words of its
@@ -24,15 +26,18 @@ pub data ProvedRunSays (script : List ℕ) : ℕ → List ℕ → List ℕ → T
   refuses_unproved : (fault : ScriptFault) → RunsTo script (Err fault)
       → ProvedRunSays script 3 (refusal_words fault) []
 
+-- the status of a check's answer
+abbrev pub check_status : CheckAnswer → ℕ
+check_status Yes = 0
+check_status (No objection) = 6
+
 -- a check: at 0 `yes N`, where each verdict is accepted, at 6 `no Nk domain PATH`, of the first
 -- that isn't, and at 3 the words of what is refused: the script, or else the certificate
 pub data CheckSays (script certificate : List ℕ) : ℕ → List ℕ → Type 0 where
-  accepts : (text : List ℕ)
-      → HasChecked (Ok Done) (Some script) (Some certificate) (Some []) (Some text)
+  accepts : (text : List ℕ) → ChecksTo script certificate Yes text
       → CheckSays script certificate 0 text
-  objects : (text : List ℕ)
-      → HasChecked (Ok CheckedNo) (Some script) (Some certificate) (Some []) (Some text)
-      → CheckSays script certificate 6 text
+  objects : (objection : Objection) (text : List ℕ)
+      → ChecksTo script certificate (No objection) text → CheckSays script certificate 6 text
   refuses_script : (fault : ScriptFault) → RunsTo script (Err fault)
       → CheckSays script certificate 3 (refusal_words fault)
   refuses_certificate : ProofIsRefused script certificate

@@ -4,7 +4,7 @@ ghost use Rattle.std.specs.Prelude.{ℕ, List, IfOk};
 ghost use Rattle.serde_json.specs.View.{view};
 ghost use Rattle.mezulobu.specs.Explains.{ExplanationSays, HasFault, IsFaultOf};
 
-use crate::told::Answer;
+use crate::answers::Answer;
 use explain::{Outcome, Outputs, explain};
 use live_calls::{DONE, NO, REFUSED};
 use script_reading::{ParseFault, ScriptFault, parse_script, read_script};
@@ -21,19 +21,19 @@ struct Explained {
 
 /// What an explanation says; where it is strict, its status tells whether all went well. The file's
 /// name stands before lines and columns. It fails where memory is refused.
-pub(crate) fn explanation_told(
+pub(crate) fn explanation_answer(
     alloc: Global,
     script: &[u8],
     file: &[u8],
     is_json: bool,
     is_strict: bool,
 ) -> Result<Answer, AllocError>
-    ensures { IfOk result (λ told.
-        ExplanationSays script.now is_strict told.status told.text.items) }
+    ensures { IfOk result (λ answer.
+        ExplanationSays script.now is_strict answer.status answer.text.items) }
 {
     let fault = fault_of(alloc, script)?;
     let explained = explained_of(alloc, script, file, is_json)?;
-    Ok(told_explained(fault, explained, is_strict))
+    Ok(answer_of_explanation(fault, explained, is_strict))
 }
 
 /// The first fault of a script, if it has one. It fails where memory is refused.
@@ -71,9 +71,9 @@ fn explained_of(
         objects: is_json,
         page: false,
     };
-    let told = explain(alloc, file.as_str(), script, wanted)?;
-    let is_faulty = told.outcome == Outcome::Faulty;
-    match told.objects.or(told.text) {
+    let answer = explain(alloc, file.as_str(), script, wanted)?;
+    let is_faulty = answer.outcome == Outcome::Faulty;
+    match answer.objects.or(answer.text) {
         Some(text) => Ok(Explained {
             is_faulty,
             text: text.into_bytes(),
@@ -84,7 +84,11 @@ fn explained_of(
 
 /// What is told of a script that has this fault, or none.
 #[tactic(auto, using(crate::proofs::Explanations::says_fault, crate::proofs::Explanations::says_no, crate::proofs::Explanations::says_done))]
-fn told_explained(fault: Option<ScriptFault>, explained: Explained, is_strict: bool) -> Answer
+fn answer_of_explanation(
+    fault: Option<ScriptFault>,
+    explained: Explained,
+    is_strict: bool,
+) -> Answer
     ensures { (script : List ℕ) → HasFault script fault
         → ExplanationSays script is_strict result.status result.text.items }
 {

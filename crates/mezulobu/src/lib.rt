@@ -5,10 +5,10 @@
 //! `c/mezulobu.c` is what a program calls: it turns null pointers into what these functions take.
 #![tactic(auto)]
 
+mod answers;
 mod explained;
 mod live;
 mod records;
-mod told;
 mod words;
 
 ghost use Rattle.std.specs.Prelude.{◌≡◌, ◌⊎◌, ℕ, List};
@@ -18,8 +18,8 @@ ghost use Rattle.mezulobu.specs.Explains.{ExplanationSays};
 ghost use Rattle.mezulobu.specs.Negotiated.{Negotiates, status_of};
 ghost use Rattle.mezulobu.specs.Says.{CheckSays, ProvedRunSays, RunSays};
 
-use crate::explained::explanation_told;
-use crate::told::{check_told, proved_run_told, run_told};
+use crate::answers::{check_answer, proved_run_answer, run_answer};
+use crate::explained::explanation_answer;
 use caller_buffers::{hand_out, hand_out_both};
 use flat_negotiation::{
     FlatLayout, FlatParticipant, FlatPlatform, FlatRefusal, FlatSettings, Unsettled, layout_of,
@@ -41,13 +41,13 @@ pub extern "C" fn mezulobu_rt_run(
 ) -> u32
     ensures { Ends (RunSays script.now) text.old text.new size.new result }
 {
-    let Ok(told) = run_told(alloc, script) else {
+    let Ok(answer) = run_answer(alloc, script) else {
         *size = 0;
         return NO_MEMORY;
     };
-    *size = told.text.len();
-    if hand_out(&told.text, text) {
-        told.status
+    *size = answer.text.len();
+    if hand_out(&answer.text, text) {
+        answer.status
     } else {
         TOO_SMALL
     }
@@ -66,15 +66,15 @@ pub extern "C" fn mezulobu_rt_run_with_proof(
     ensures { EndsBoth (ProvedRunSays script.now) text.old text.new
         certificate.old certificate.new size.new certificate_size.new result }
 {
-    let Ok(told) = proved_run_told(alloc, script) else {
+    let Ok(answer) = proved_run_answer(alloc, script) else {
         *size = 0;
         *certificate_size = 0;
         return NO_MEMORY;
     };
-    *size = told.text.len();
-    *certificate_size = told.certificate.len();
-    if hand_out_both(&told.text, text, &told.certificate, certificate) {
-        told.status
+    *size = answer.text.len();
+    *certificate_size = answer.certificate.len();
+    if hand_out_both(&answer.text, text, &answer.certificate, certificate) {
+        answer.status
     } else {
         TOO_SMALL
     }
@@ -91,13 +91,13 @@ pub extern "C" fn mezulobu_rt_check(
 ) -> u32
     ensures { Ends (CheckSays script.now certificate.now) text.old text.new size.new result }
 {
-    let Ok(told) = check_told(alloc, script, certificate) else {
+    let Ok(answer) = check_answer(alloc, script, certificate) else {
         *size = 0;
         return NO_MEMORY;
     };
-    *size = told.text.len();
-    if hand_out(&told.text, text) {
-        told.status
+    *size = answer.text.len();
+    if hand_out(&answer.text, text) {
+        answer.status
     } else {
         TOO_SMALL
     }
@@ -109,8 +109,8 @@ pub extern "C" fn mezulobu_rt_check_status(alloc: Global, script: &[u8], certifi
     ensures { (result ≡ 4)
         ⊎ ((text : List ℕ) × CheckSays script.now certificate.now result text) }
 {
-    match check_told(alloc, script, certificate) {
-        Ok(told) => told.status,
+    match check_answer(alloc, script, certificate) {
+        Ok(answer) => answer.status,
         Err(_) => NO_MEMORY,
     }
 }
@@ -130,13 +130,13 @@ pub extern "C" fn mezulobu_rt_explain(
 ) -> u32
     ensures { Ends (ExplanationSays script.now is_strict) text.old text.new size.new result }
 {
-    let Ok(told) = explanation_told(alloc, script, file, is_json, is_strict) else {
+    let Ok(answer) = explanation_answer(alloc, script, file, is_json, is_strict) else {
         *size = 0;
         return NO_MEMORY;
     };
-    *size = told.text.len();
-    if hand_out(&told.text, text) {
-        told.status
+    *size = answer.text.len();
+    if hand_out(&answer.text, text) {
+        answer.status
     } else {
         TOO_SMALL
     }

@@ -5,7 +5,7 @@ ghost use Rattle.mezulobu.specs.Ends.{Ends};
 ghost use Rattle.mezulobu.specs.RecordFaults.{FaultSays, kind_at};
 
 use crate::TOO_SMALL;
-use crate::told::Answer;
+use crate::answers::Answer;
 use caller_buffers::hand_out;
 use live_calls::{DONE, MISUSED, NO, NO_MEMORY};
 use script_faults::{RecordKind, record_fault};
@@ -57,13 +57,13 @@ fn hand_out_fault(
 ) -> u32
     ensures { Ends (FaultSays whose bytes.now) text.old text.new size.new result }
 {
-    let Ok(told) = fault_told(alloc, whose, bytes) else {
+    let Ok(answer) = fault_answer(alloc, whose, bytes) else {
         *size = 0;
         return NO_MEMORY;
     };
-    *size = told.text.len();
-    if hand_out(&told.text, text) {
-        told.status
+    *size = answer.text.len();
+    if hand_out(&answer.text, text) {
+        answer.status
     } else {
         TOO_SMALL
     }
@@ -71,8 +71,8 @@ fn hand_out_fault(
 
 /// What is said of a record. It fails where memory is refused.
 #[tactic(auto, using(crate::proofs::RecordSayings::says_fault, crate::proofs::RecordSayings::says_none))]
-fn fault_told(alloc: Global, whose: RecordKind, bytes: &[u8]) -> Result<Answer, AllocError>
-    ensures { IfOk result (λ told. FaultSays whose bytes.now told.status told.text.items) }
+fn fault_answer(alloc: Global, whose: RecordKind, bytes: &[u8]) -> Result<Answer, AllocError>
+    ensures { IfOk result (λ answer. FaultSays whose bytes.now answer.status answer.text.items) }
 {
     match record_fault(alloc, whose, bytes, FILE)? {
         Some(words) => Ok(Answer {

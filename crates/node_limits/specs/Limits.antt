@@ -1,7 +1,7 @@
 -- How many nodes a host lets there be below each child of the root.
-use Rattle.std.specs.Prelude.{◌≡◌, ◌+◌, ◌<◌, ◌==◌, ℕ, zero, suc, Bool, true, false, ◌&&◌, List, [], ◌∷◌}
+use Rattle.std.specs.Prelude.{◌≡◌, ◌+◌, ◌<◌, ◌==◌, ℕ, zero, suc, Bool, true, false, ◌&&◌}
+use Rattle.std.specs.Prelude.{List, [], ◌∷◌, None, Result, Ok, Err, if◌then◌else◌}
 use Rattle.std.specs.Prelude.{get_or, is_some, length, nat_le, option_map, slice_set, unwrap_or}
-use Rattle.std.specs.Prelude.{None, Result, Ok, Err, if◌then◌else◌}
 use Rattle.node_limits.specs.declared.limits.Limits.{Limits}
 use Rattle.sysmem_tree.specs.declared.action.ActionKind.{ActionKind}
 use Rattle.sysmem_tree.specs.declared.refusal.Refusal.{Refusal}

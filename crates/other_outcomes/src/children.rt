@@ -5,9 +5,9 @@ ghost use Rattle.std.specs.String.{string_bytes};
 ghost use Rattle.other_outcomes.specs.Exchanged.{IsPromisedExchanged, on_other};
 
 use crate::pending::place_of;
-use explanation_text::{Gathered, Items, Words};
+use explanation_text::{Items, ListBuilder, TextBuilder};
 use script_reading::Call;
-use script_story::{Made, Scenario, Story, first_word};
+use script_story::{MadeCall, Scenario, Story, first_word};
 use std::alloc::{AllocError, Global};
 
 /// How many children are tried.
@@ -24,7 +24,7 @@ struct Siblings {
 
 /// Tells of the children of groups of a chosen domain that come after the chosen one what would be
 /// decided if they stood in its place, where they would be chosen then.
-pub fn tell_later_children(
+pub fn add_later_children(
     items: &mut Items,
     scenario: &Scenario<'_>,
     story: &Story<'_>,
@@ -33,14 +33,14 @@ pub fn tell_later_children(
 ) -> Result<(), AllocError> {
     let pairs = siblings_in(items.alloc(), story, index)?;
     for pair in pairs.iter().take(MOST) {
-        tell_exchanged(items, scenario, story, *pair, path)?;
+        list_exchanged(items, scenario, story, *pair, path)?;
     }
     Ok(())
 }
 
 /// Tells what would be decided if the later of two children stood in the other's place, if it would
 /// be chosen then.
-fn tell_exchanged(
+fn list_exchanged(
     items: &mut Items,
     scenario: &Scenario<'_>,
     story: &Story<'_>,
@@ -50,13 +50,13 @@ fn tell_exchanged(
     let Some(line) = outcome_with(items.alloc(), scenario, story, pair, path)? else {
         return Ok(());
     };
-    say_exchanged(items, story, pair);
+    add_exchanged(items, story, pair);
     put_promised(items, scenario, path, line);
     Ok(())
 }
 
-fn say_exchanged(items: &mut Items, story: &Story<'_>, pair: Siblings) {
-    let mut words = Words::of_name(items.alloc(), story.called(pair.later));
+fn add_exchanged(items: &mut Items, story: &Story<'_>, pair: Siblings) {
+    let mut words = TextBuilder::of_name(items.alloc(), story.called(pair.later));
     words.put(" would do too, but is created after ");
     words.name(story.called(pair.chosen));
     words.put(", and the first child that does is chosen; with their names exchanged in calls ");
@@ -71,7 +71,7 @@ fn siblings_in(
     story: &Story<'_>,
     index: usize,
 ) -> Result<Vec<Siblings>, AllocError> {
-    let mut pairs = Gathered::new(alloc);
+    let mut pairs = ListBuilder::new(alloc);
     let is_first = match story.domains.get(index) {
         Some(domain) => domain.host.is_none(),
         None => false,
@@ -85,7 +85,7 @@ fn siblings_in(
 }
 
 fn add_siblings(
-    pairs: &mut Gathered<Siblings>,
+    pairs: &mut ListBuilder<Siblings>,
     story: &Story<'_>,
     group: usize,
 ) -> Result<(), AllocError> {
@@ -159,7 +159,7 @@ fn is_now(story: &Story<'_>, pair: Siblings, choices: &str) -> bool {
 }
 
 /// Whether one of some calls is made on the name at a place.
-fn is_called(calls: &[Made<'_>], place: usize) -> bool {
+fn is_called(calls: &[MadeCall<'_>], place: usize) -> bool {
     for call in calls {
         if call.place == place {
             return true;

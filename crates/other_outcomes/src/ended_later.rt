@@ -8,11 +8,11 @@ ghost use Rattle.other_outcomes.specs.Moved.{IsMoved, IsPromisedMoved};
 use crate::moved::step;
 use domain_reasons::{accepted_before, room_needed};
 use explanation_text::wording::{MOST_NAMES, mark_after, put_few};
-use explanation_text::{Gathered, Items, Words};
+use explanation_text::{Items, ListBuilder, TextBuilder};
 use script_reading::{Act, Call};
 use script_story::{Milestone, Scenario, Story};
 use std::alloc::{AllocError, Global};
-use value_sources::Asked;
+use value_sources::NamedParticipant;
 
 /// Over how many calls one is moved at most: for each of these the calls are gone through.
 const FARTHEST: usize = 256;
@@ -29,7 +29,7 @@ struct End {
 /// Tells who takes room in an attached domain's decision and is released or closed only after it,
 /// and what the domain at a path would be if that came before: of one of them if that is enough,
 /// else of all.
-pub fn tell_ended_later(
+pub fn add_ended_later(
     items: &mut Items,
     scenario: &Scenario<'_>,
     story: &Story<'_>,
@@ -45,12 +45,12 @@ pub fn tell_ended_later(
         return Ok(());
     };
     let ends = later_ends(alloc, story, index, decided)?;
-    tell_ends(items, scenario, story, &ends, decided, path)
+    add_ends(items, scenario, story, &ends, decided, path)
 }
 
 /// Tells what the domain at a path would be if one of those ended before the call of a number; or
 /// else all; or else that they still count.
-fn tell_ends(
+fn add_ends(
     items: &mut Items,
     scenario: &Scenario<'_>,
     story: &Story<'_>,
@@ -59,11 +59,11 @@ fn tell_ends(
     path: &str,
 ) -> Result<(), AllocError> {
     for end in ends {
-        if tell_before(items, scenario, story, &[*end], decided, path)? {
+        if add_before(items, scenario, story, &[*end], decided, path)? {
             return Ok(());
         }
     }
-    if ends.is_empty() || tell_before(items, scenario, story, ends, decided, path)? {
+    if ends.is_empty() || add_before(items, scenario, story, ends, decided, path)? {
         return Ok(());
     }
     items.say(1, "note", still_text(items.alloc(), story, ends));
@@ -72,7 +72,7 @@ fn tell_ends(
 
 /// Tells what the domain at a path would be if those ended before the call of a number, if it would
 /// be chosen, and says whether it would.
-fn tell_before(
+fn add_before(
     items: &mut Items,
     scenario: &Scenario<'_>,
     story: &Story<'_>,
@@ -96,11 +96,11 @@ fn later_ends(
     index: usize,
     decided: usize,
 ) -> Result<Vec<End>, AllocError> {
-    let people = accepted_before(alloc, story, index)?;
+    let participants = accepted_before(alloc, story, index)?;
     let mut ends = Vec::new(alloc);
     for later in 0..FARTHEST {
         let call = decided.saturating_add(later).saturating_add(1);
-        match ended_by(story, &people, call) {
+        match ended_by(story, &participants, call) {
             Some(node) if ends.len() < MOST => ends.push(End { node, call })?,
             _ => {}
         }
@@ -109,12 +109,16 @@ fn later_ends(
 }
 
 /// The one of some participants whom the call of a number ends.
-fn ended_by(story: &Story<'_>, people: &[Asked<'_>], call: usize) -> Option<usize> {
+fn ended_by(
+    story: &Story<'_>,
+    participants: &[NamedParticipant<'_>],
+    call: usize,
+) -> Option<usize> {
     let node = story.call(call)?.node?;
     if story.milestone(node, Milestone::End) != Some(call) {
         return None;
     }
-    for one in people {
+    for one in participants {
         if one.node == node {
             return Some(node);
         }
@@ -131,22 +135,22 @@ fn put_head(items: &mut Items, story: &Story<'_>, ends: &[End], decided: usize) 
 }
 
 /// Puts that those are to end before the call of a number after a text.
-fn put_tried(text: &mut Words, ends: &[End], decided: usize) {
+fn put_tried(text: &mut TextBuilder, ends: &[End], decided: usize) {
     text.put("; with ");
     put_calls(text, ends);
     text.put(" before call ").call(decided).put(" it would be:");
 }
 
 /// That those still count.
-fn still_text(alloc: Global, story: &Story<'_>, ends: &[End]) -> Words {
-    let mut text = Words::new(alloc);
+fn still_text(alloc: Global, story: &Story<'_>, ends: &[End]) -> TextBuilder {
+    let mut text = TextBuilder::new(alloc);
     put_names(&mut text, story, ends);
     put_still(&mut text, story, ends);
     text
 }
 
-fn put_names(text: &mut Words, story: &Story<'_>, ends: &[End]) {
-    let mut names = Gathered::new(text.alloc());
+fn put_names(text: &mut TextBuilder, story: &Story<'_>, ends: &[End]) {
+    let mut names = ListBuilder::new(text.alloc());
     for end in ends {
         names.add(story.called(end.node));
     }
@@ -157,7 +161,7 @@ fn put_names(text: &mut Words, story: &Story<'_>, ends: &[End]) {
 }
 
 /// Puts that those still count after their names.
-fn put_still(text: &mut Words, story: &Story<'_>, ends: &[End]) {
+fn put_still(text: &mut TextBuilder, story: &Story<'_>, ends: &[End]) {
     let (counts, is) = if ends.len() == 1 {
         ("counts", "is")
     } else {
@@ -186,7 +190,7 @@ fn ending(story: &Story<'_>, ends: &[End]) -> &'static str {
 }
 
 /// Puts the numbers of the calls after a text: `call 18`, `calls 18 and 20`.
-fn put_calls(text: &mut Words, ends: &[End]) {
+fn put_calls(text: &mut TextBuilder, ends: &[End]) {
     text.put(if ends.len() == 1 { "call " } else { "calls " });
     for (k, end) in ends.iter().enumerate() {
         text.call(end.call).put(mark_after(k, ends.len()));

@@ -1,11 +1,11 @@
 //! A platform one of whose heaps is contiguous or secure, where participants need that.
 
 use crate::platforms::{heaps_of, outcome_on};
-use explanation_text::{Items, Words};
+use explanation_text::{Items, TextBuilder};
 use script_story::Scenario;
 use std::alloc::{AllocError, Global};
 use sysmem_memory::Heap;
-use value_sources::Asked;
+use value_sources::NamedParticipant;
 
 /// What memory may be.
 #[derive(Clone, Copy)]
@@ -23,7 +23,7 @@ impl Trait {
     }
 
     /// Whether a participant needs memory to be so.
-    fn is_needed(self, one: &Asked<'_>) -> bool {
+    fn is_needed(self, one: &NamedParticipant<'_>) -> bool {
         let memory = one.asked.memory();
         match self {
             Trait::Contiguous => memory.physically_contiguous_required,
@@ -32,8 +32,8 @@ impl Trait {
     }
 
     /// Whether one of some participants needs memory to be so.
-    fn is_needed_by_one(self, people: &[Asked<'_>]) -> bool {
-        for one in people {
+    fn is_needed_by_one(self, participants: &[NamedParticipant<'_>]) -> bool {
+        for one in participants {
             if self.is_needed(one) {
                 return true;
             }
@@ -45,22 +45,22 @@ impl Trait {
 /// Tells the first heap with which the domain at a path would have settings if it were contiguous,
 /// or secure, where participants need that and the platform doesn't say it; and what would be
 /// decided then.
-pub fn tell_heaps(
+pub fn add_heaps(
     items: &mut Items,
     scenario: &Scenario<'_>,
     path: &str,
-    people: &[Asked<'_>],
+    participants: &[NamedParticipant<'_>],
 ) -> Result<(), AllocError> {
     for wanted in [Trait::Contiguous, Trait::Secure] {
-        if wanted.is_needed_by_one(people) {
-            tell_first(items, scenario, path, wanted)?;
+        if wanted.is_needed_by_one(participants) {
+            add_first(items, scenario, path, wanted)?;
         }
     }
     Ok(())
 }
 
 /// Tells the first heap with which the domain at a path would have settings if it were so.
-fn tell_first(
+fn add_first(
     items: &mut Items,
     scenario: &Scenario<'_>,
     path: &str,
@@ -69,7 +69,7 @@ fn tell_first(
     let alloc = items.alloc();
     for (index, info) in scenario.platform.heaps().iter().enumerate() {
         if let Some(line) = outcome_so(alloc, scenario, path, index, wanted)? {
-            say_heap(items, &info.heap, wanted);
+            add_heap(items, &info.heap, wanted);
             items.promise(2, line);
             return Ok(());
         }
@@ -77,8 +77,8 @@ fn tell_first(
     Ok(())
 }
 
-fn say_heap(items: &mut Items, heap: &Heap, wanted: Trait) {
-    let mut words = Words::of(items.alloc(), "with ");
+fn add_heap(items: &mut Items, heap: &Heap, wanted: Trait) {
+    let mut words = TextBuilder::of(items.alloc(), "with ");
     words.put(&heap.heap_type).put("#").put_number(heap.id);
     words.put(" ").put(wanted.name());
     words.put(" on the platform, which doesn't say so, it would be:");

@@ -1,7 +1,7 @@
 //! A platform that has another pair first, where participants list that before the chosen one.
 
 use crate::platforms::{heaps_of, outcome_on};
-use explanation_text::{Gathered, Items, Words};
+use explanation_text::{Items, ListBuilder, TextBuilder};
 use negotiation_inputs::Platform;
 use script_story::{Scenario, Story, asked_in};
 use settings_reasons::listed_before;
@@ -13,7 +13,7 @@ const MOST: usize = 3;
 
 /// Tells of pairs that participants of a chosen domain list before the chosen one, and that stand
 /// after it on the platform, what would be decided if they stood first there.
-pub fn tell_later_pairs(
+pub fn add_later_pairs(
     items: &mut Items,
     scenario: &Scenario<'_>,
     story: &Story<'_>,
@@ -26,7 +26,7 @@ pub fn tell_later_pairs(
     };
     let listed = listed_in(alloc, scenario, story, index, chosen)?;
     for pair in listed.iter().take(MOST) {
-        tell_pair(items, scenario, path, *pair, chosen)?;
+        list_pair(items, scenario, path, *pair, chosen)?;
     }
     Ok(())
 }
@@ -39,13 +39,13 @@ fn listed_in(
     index: usize,
     chosen: Pair,
 ) -> Result<Vec<Pair>, AllocError> {
-    let people = asked_in(alloc, story, index, true)?;
-    listed_before(alloc, scenario.platform, &people, chosen)
+    let participants = asked_in(alloc, story, index, true)?;
+    listed_before(alloc, scenario.platform, &participants, chosen)
 }
 
 /// Tells what the domain at a path would be if a pair stood first on the platform, if that would be
 /// chosen.
-fn tell_pair(
+fn list_pair(
     items: &mut Items,
     scenario: &Scenario<'_>,
     path: &str,
@@ -55,7 +55,7 @@ fn tell_pair(
     let Some(line) = outcome_first(items.alloc(), scenario, path, pair)? else {
         return Ok(());
     };
-    say_pair(items, pair, chosen);
+    add_pair(items, pair, chosen);
     items.promise(2, line);
     Ok(())
 }
@@ -72,8 +72,8 @@ fn pair_of(story: &Story<'_>, index: usize) -> Option<Pair> {
     }
 }
 
-fn say_pair(items: &mut Items, pair: Pair, chosen: Pair) {
-    let mut words = Words::new(items.alloc());
+fn add_pair(items: &mut Items, pair: Pair, chosen: Pair) {
+    let mut words = TextBuilder::new(items.alloc());
     words.format(pair.format).put(" ").modifier(pair.modifier);
     words.put(" would do too, but stands after ");
     words.format(chosen.format).put(" ");
@@ -101,7 +101,7 @@ fn outcome_first(
 
 /// The pairs of a platform with one of them first.
 fn pairs_from(alloc: Global, platform: &Platform, first: Pair) -> Result<Vec<Pair>, AllocError> {
-    let mut pairs = Gathered::new(alloc);
+    let mut pairs = ListBuilder::new(alloc);
     pairs.add(first);
     for other in platform.pairs() {
         if *other != first {
@@ -113,7 +113,7 @@ fn pairs_from(alloc: Global, platform: &Platform, first: Pair) -> Result<Vec<Pai
 
 /// What was chosen, if that is an image of a pair.
 fn if_of(alloc: Global, line: String, pair: Pair) -> Result<Option<String>, AllocError> {
-    let mut words = Words::of(alloc, " image ");
+    let mut words = TextBuilder::of(alloc, " image ");
     words.put(pair.format.name()).put(" ");
     words.put(pair.modifier.name()).put(" ");
     let image = words.done()?;

@@ -3,7 +3,7 @@
 //! platform that has a pair more, a pair first, or a heap that is contiguous or secure.
 //!
 //! ```
-//! tell_moved(&mut items, &scenario, &value, &story)?;
+//! add_moved(&mut items, &scenario, &value, &story)?;
 //! print!(rt; "{}", text_of(rt.alloc(), &items.into_list()?)?)?;
 //! ```
 #![tactic(auto)]
@@ -16,10 +16,10 @@ mod moved;
 mod pending;
 mod platforms;
 
-pub use children::tell_later_children;
-pub use ended_later::tell_ended_later;
-pub use heaps::tell_heaps;
-pub use later_pairs::tell_later_pairs;
-pub use moved::{tell_moved, tell_then};
-pub use pending::tell_without;
-pub use platforms::tell_platform;
+pub use children::add_later_children;
+pub use ended_later::add_ended_later;
+pub use heaps::add_heaps;
+pub use later_pairs::add_later_pairs;
+pub use moved::{add_moved, add_then};
+pub use pending::add_without;
+pub use platforms::add_platform;

@@ -5,8 +5,8 @@ ghost use Rattle.std.specs.String.{string_bytes};
 ghost use Rattle.script_reading.specs.declared.call.Call.{Call as Called};
 ghost use Rattle.other_outcomes.specs.Moved.{IsMoved, IsPromisedMoved, moving};
 
-use domain_reasons::tell_in_short;
-use explanation_text::{Gathered, Items, Words};
+use domain_reasons::add_in_short;
+use explanation_text::{Items, ListBuilder, TextBuilder};
 use script_reading::{Call, ParseFault, read_script};
 use script_replay::Replayed;
 use script_story::{Move, Scenario, Story, moves_in, story_of};
@@ -15,7 +15,7 @@ use std::alloc::{AllocError, Global};
 
 /// Tells what would be refused and pending next, and what each domain would be, once the calls that
 /// stand too early are moved.
-pub fn tell_moved(
+pub fn add_moved(
     items: &mut Items,
     scenario: &Scenario<'_>,
     value: &Value,
@@ -26,11 +26,11 @@ pub fn tell_moved(
         return Ok(());
     }
     let other = reordered(items.alloc(), value, &moves)?;
-    tell_reordered(items, scenario, &moves, &other)
+    add_reordered(items, scenario, &moves, &other)
 }
 
 /// Tells what a script does that is another one with some calls moved, if it isn't refused.
-fn tell_reordered(
+fn add_reordered(
     items: &mut Items,
     scenario: &Scenario<'_>,
     moves: &[Move],
@@ -51,11 +51,11 @@ fn tell_reordered(
     if told.report.starved {
         return Err(AllocError);
     }
-    tell_replayed(items, scenario, moves, value, &script.calls, &told)
+    add_replayed(items, scenario, moves, value, &script.calls, &told)
 }
 
 /// Tells what calls do that are those of a script with some moved.
-fn tell_replayed<'a>(
+fn add_replayed<'a>(
     items: &mut Items,
     scenario: &Scenario<'_>,
     moves: &[Move],
@@ -64,31 +64,31 @@ fn tell_replayed<'a>(
     told: &'a Replayed,
 ) -> Result<(), AllocError> {
     let then = story_of(items.alloc(), value, calls, told)?;
-    tell_story(items, scenario, moves, &then)
+    add_story(items, scenario, moves, &then)
 }
 
 /// Tells which calls are moved, what the answer is then, which calls are refused, and what has no
 /// settings.
-fn tell_story(
+fn add_story(
     items: &mut Items,
     scenario: &Scenario<'_>,
     moves: &[Move],
     then: &Story<'_>,
 ) -> Result<(), AllocError> {
-    say_moves(items, moves, " the script has, its calls numbered anew:");
-    tell_in_short(items, scenario.platform, then)
+    add_moves(items, moves, " the script has, its calls numbered anew:");
+    add_in_short(items, scenario.platform, then)
 }
 
 /// Tells that calls are moved, with words after that.
-fn say_moves(items: &mut Items, moves: &[Move], end: &str) {
-    let mut words = Words::of(items.alloc(), "with ");
+fn add_moves(items: &mut Items, moves: &[Move], end: &str) {
+    let mut words = TextBuilder::of(items.alloc(), "with ");
     put_moves(&mut words, moves);
     words.put(end);
     items.say(1, "then", words)
 }
 
 /// Puts which calls are moved after a text: `call 5 moved after call 6`.
-fn put_moves(text: &mut Words, moves: &[Move]) {
+fn put_moves(text: &mut TextBuilder, moves: &[Move]) {
     for (k, one) in moves.iter().enumerate() {
         text.put(if k > 0 { " and call " } else { "call " });
         text.call(one.call).put(" moved after call ");
@@ -109,7 +109,7 @@ fn reordered(alloc: Global, value: &Value, moves: &[Move]) -> Result<Value, Allo
 /// Calls in the order that they have once some are moved.
 fn in_order(alloc: Global, calls: &[Value], moves: &[Move]) -> Result<Vec<Value>, AllocError> {
     let order = order_of(alloc, calls.len(), moves)?;
-    let mut list = Gathered::new(alloc);
+    let mut list = ListBuilder::new(alloc);
     for place in &order {
         if let Some(call) = calls.get(*place) {
             list.add(call.clone()?);
@@ -133,7 +133,7 @@ fn order_of(alloc: Global, count: usize, moves: &[Move]) -> Result<Vec<usize>, A
 fn order_after(alloc: Global, order: &[usize], one: Move) -> Result<Vec<usize>, AllocError> {
     let from = place_in(order, one.call);
     let to = place_in(order, one.after);
-    let mut next = Gathered::new(alloc);
+    let mut next = ListBuilder::new(alloc);
     for (k, place) in order.iter().enumerate() {
         if k != from {
             next.add(*place);
@@ -226,7 +226,7 @@ fn outcome_moved(
 
 /// Tells what the domain at a path would be once the calls that stand too early are moved, if that
 /// is decided then and isn't now.
-pub fn tell_then(
+pub fn add_then(
     items: &mut Items,
     scenario: &Scenario<'_>,
     story: &Story<'_>,
@@ -238,7 +238,7 @@ pub fn tell_then(
     }
     match outcome_moved(items.alloc(), scenario, &moves, path)? {
         Some(line) if line.as_str() != "pending" => {
-            say_moves(items, &moves, " it would be:");
+            add_moves(items, &moves, " it would be:");
             put_promised(items, scenario, path, line);
         }
         _ => {}

@@ -2,14 +2,14 @@
 
 use domain_reasons::who_holds_up;
 use explanation_text::wording::{MOST_NAMES, put_few};
-use explanation_text::{Items, Name, Words};
+use explanation_text::{Items, Name, TextBuilder};
 use script_reading::{Act, Call};
 use script_story::{Scenario, Story};
 use std::alloc::{AllocError, Global};
 
 /// Tells what the domain of an index would be if nobody who is awaited stated anything. Groups
 /// without a child are left out: a child would be made up.
-pub fn tell_without(
+pub fn add_without(
     items: &mut Items,
     scenario: &Scenario<'_>,
     story: &Story<'_>,
@@ -21,13 +21,13 @@ pub fn tell_without(
         return Ok(());
     }
     match without(items.alloc(), scenario, story, &awaited)? {
-        Some(calls) => tell_with(items, scenario, story, &awaited, &calls, path),
+        Some(calls) => add_with(items, scenario, story, &awaited, &calls, path),
         None => Ok(()),
     }
 }
 
 /// Tells what the domain at a path would be with these calls, by which nobody is awaited.
-fn tell_with(
+fn add_with(
     items: &mut Items,
     scenario: &Scenario<'_>,
     story: &Story<'_>,
@@ -37,22 +37,22 @@ fn tell_with(
 ) -> Result<(), AllocError> {
     match scenario.outcome(items.alloc(), calls, path)? {
         Some(line) if line.as_str() != "pending" => {
-            say_ended(items, story, awaited, " it would be:")?;
+            add_ended(items, story, awaited, " it would be:")?;
             items.promise(2, line);
             Ok(())
         }
-        _ => say_ended(items, story, awaited, " it would wait still"),
+        _ => add_ended(items, story, awaited, " it would wait still"),
     }
 }
 
 /// Tells who would be released and what would be complete, with words after that.
-fn say_ended(
+fn add_ended(
     items: &mut Items,
     story: &Story<'_>,
     awaited: &[usize],
     end: &str,
 ) -> Result<(), AllocError> {
-    let mut words = Words::of(items.alloc(), "with ");
+    let mut words = TextBuilder::of(items.alloc(), "with ");
     put_ended(&mut words, story, awaited)?;
     words.put(end);
     items.say(1, "then", words);
@@ -60,7 +60,11 @@ fn say_ended(
 }
 
 /// Puts who would be released and what would be complete after a text.
-fn put_ended(text: &mut Words, story: &Story<'_>, awaited: &[usize]) -> Result<(), AllocError> {
+fn put_ended(
+    text: &mut TextBuilder,
+    story: &Story<'_>,
+    awaited: &[usize],
+) -> Result<(), AllocError> {
     let is_one_gone = put_those(text, story, awaited, false, "")?;
     let mark = if is_one_gone { " and " } else { "" };
     let _is_one_full = put_those(text, story, awaited, true, mark)?;
@@ -70,7 +74,7 @@ fn put_ended(text: &mut Words, story: &Story<'_>, awaited: &[usize]) -> Result<(
 /// Puts those that are groups and would be complete, or the others, which would be released, after
 /// a text with a mark, and says whether there are some.
 fn put_those(
-    text: &mut Words,
+    text: &mut TextBuilder,
     story: &Story<'_>,
     awaited: &[usize],
     are_groups: bool,

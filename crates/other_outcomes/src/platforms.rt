@@ -1,29 +1,29 @@
 //! A platform with one pair more, where participants take a format that it lacks.
 
-use explanation_text::{Gathered, Items, Words};
+use explanation_text::{Items, ListBuilder, TextBuilder};
 use negotiation_inputs::Platform;
 use script_story::Scenario;
 use std::alloc::{AllocError, Global};
 use sysmem_formats::{Modifier, Pair};
 use sysmem_memory::{Heap, HeapInfo};
-use value_sources::Asked;
+use value_sources::NamedParticipant;
 
 /// How many pairs are tried.
 const MOST: usize = 4;
 
 /// Tells the first pair that participants name and the platform lacks with which the domain at a
 /// path would have settings, and what would be decided then.
-pub fn tell_platform(
+pub fn add_platform(
     items: &mut Items,
     scenario: &Scenario<'_>,
     path: &str,
-    people: &[Asked<'_>],
+    participants: &[NamedParticipant<'_>],
 ) -> Result<(), AllocError> {
     let alloc = items.alloc();
-    let lacked = lacked_pairs(alloc, scenario.platform, people)?;
+    let lacked = lacked_pairs(alloc, scenario.platform, participants)?;
     for pair in lacked.iter().take(MOST) {
         if let Some(line) = outcome_with(alloc, scenario, path, *pair)? {
-            say_pair(items, *pair);
+            add_pair(items, *pair);
             items.promise(2, line);
             return Ok(());
         }
@@ -31,8 +31,8 @@ pub fn tell_platform(
     Ok(())
 }
 
-fn say_pair(items: &mut Items, pair: Pair) {
-    let mut words = Words::of(items.alloc(), "with ");
+fn add_pair(items: &mut Items, pair: Pair) {
+    let mut words = TextBuilder::of(items.alloc(), "with ");
     words.format(pair.format).put(" ");
     words.modifier(pair.modifier);
     words.put(" on the platform it would be:");
@@ -57,10 +57,10 @@ fn outcome_with(
 fn lacked_pairs(
     alloc: Global,
     platform: &Platform,
-    people: &[Asked<'_>],
+    participants: &[NamedParticipant<'_>],
 ) -> Result<Vec<Pair>, AllocError> {
     let mut lacked: Vec<Pair> = Vec::new(alloc);
-    for one in people {
+    for one in participants {
         for entry in one.asked.entries() {
             let Some(format) = entry.format else {
                 continue;
@@ -77,7 +77,7 @@ fn lacked_pairs(
 
 /// The platform's heaps.
 pub(crate) fn heaps_of(alloc: Global, platform: &Platform) -> Result<Vec<HeapInfo>, AllocError> {
-    let mut heaps = Gathered::new(alloc);
+    let mut heaps = ListBuilder::new(alloc);
     for info in platform.heaps() {
         heaps.add(HeapInfo {
             heap: Heap {

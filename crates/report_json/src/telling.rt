@@ -47,13 +47,13 @@ pub(crate) fn objects_of(
 impl Telling<'_, '_> {
     fn tell(&mut self, line: &str) -> Result<(), AllocError> {
         match line.strip_prefix("domain ") {
-            Some(said) => self.tell_domain(said),
-            None => self.tell_call(line),
+            Some(said) => self.add_domain(said),
+            None => self.write_call(line),
         }
     }
 
     /// Tells what a line says of the next call: `7 duplicate root camera ok`.
-    fn tell_call(&mut self, line: &str) -> Result<(), AllocError> {
+    fn write_call(&mut self, line: &str) -> Result<(), AllocError> {
         let script = self.script;
         let Some(call) = script.calls.get(self.calls) else {
             return Ok(());
@@ -77,7 +77,7 @@ impl Telling<'_, '_> {
     }
 
     /// Tells what a line says of a domain: `/0 failed`.
-    fn tell_domain(&mut self, said: &str) -> Result<(), AllocError> {
+    fn add_domain(&mut self, said: &str) -> Result<(), AllocError> {
         let words = words_of(*self.out.allocator(), said)?;
         let path = word_at(&words, 0);
         let verdict = word_at(&words, 1);

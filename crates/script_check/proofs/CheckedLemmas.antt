@@ -1,7 +1,8 @@
 -- What a check of a file says of its inputs, from what it says of the bytes that it read.
 use Rattle.std.proofs.lemmas.Bool.{cases_order}
 use Rattle.std.proofs.Common.{◌≡◌, ◌≢◌, inl, inr, ℕ, ◌≤◌, ◌++◌, List, [], length, Option, Some, None, Result, Ok, Err, refl, sym, ap, subst, arith, length-append}
-use Rattle.std.specs.Prelude.{◌↔◌, IfSome}
+use Rattle.std.specs.Prelude.{◌↔◌, IfErr, IfOk, IfSome}
+use Rattle.std.specs.String.{string_bytes}
 use Rattle.std.specs.Io.KnownBytes.{Appends}
 use Rattle.byte_transfer.specs.Transfer.{ReadsToLimit, WritesFront}
 use Rattle.serde_json.specs.Data.{Data}
@@ -16,6 +17,7 @@ use Rattle.script_reading.specs.Script.{ScriptFacts, script_of}
 use Rattle.script_reading.specs.Seen.{script_seen}
 use Rattle.script_reading.specs.Text.{IsJson, IsValue, Outcome, longest, not_json, spelled, too_long}
 use Rattle.script_check.specs.declared.checked_file.CheckAnswer.{CheckAnswer}
+use Rattle.script_check.specs.declared.checked_file.CheckReply.{CheckReply}
 use Rattle.script_check.specs.declared.checked_file.CheckAnswer.TheVariants as answers
 use Rattle.script_replay.specs.declared.decider.Objection.{Objection}
 use Rattle.script_run.specs.declared.fault.Disagreement.{Disagreement}
@@ -24,7 +26,7 @@ use Rattle.script_run.specs.declared.fault.RunFault.TheVariants.{Audit, NoMemory
 use Rattle.script_run.specs.declared.fault.RunFault.TheVariants as faults
 use Rattle.script_run.specs.declared.running.Ended.{Ended}
 use Rattle.script_run.specs.declared.running.Ended.TheVariants.{CheckedNo, Done}
-use Rattle.script_check.specs.CheckedFile.{AnswersIn, ChecksTo, HasChecked, IfBoth, IsListOf, IsNoList, IsRefusal, ProofIsRefused, IsScriptOf, IsValueOf}
+use Rattle.script_check.specs.CheckedFile.{AnswersIn, ChecksTo, HasChecked, IfBoth, IsListOf, IsNoList, IsRefusal, IsUnchecked, ProofIsRefused, IsScriptOf, IsValueOf}
 use Rattle.script_run.specs.Faults.{fault_of_parse}
 use Rattle.script_replay.specs.Outcome.{RunsTo, anyhow, refused}
 use Rattle.script_run.specs.Run.{IsCausedBy, WritesText, WritesTextPart, both_counts, in_first}
@@ -61,6 +63,53 @@ fault_of bytes _ fault e (spelled value short json _ is) = absurd (cc)
 -- a fault of their value
 value_fault : (bytes : List ℕ) (d : Data) (fault : ScriptFault) → IsValueOf bytes d → script_of d ≡ Err fault → RunsTo bytes (Err fault)
 value_fault bytes d fault spells e = spelled d spells.short spells.json (Err fault) (refused fault e)
+
+-- ---- bytes that are there
+
+module _ (bytes certificate : List ℕ) where
+  -- what is said of a script's fault, or of want of memory
+  no-value : (fault : ParseFault) → GivesOneOf {X = Value} {A = Data} view (Err fault) (Outcome IsValue bytes) → IsUnchecked bytes certificate (fault_of_parse fault)
+  no-value parsing.NoMemory said = tt
+  no-value (parsing.Refused fault) said = fault_of bytes (Err fault) fault refl said
+
+  -- no JSON, or no memory for the value
+  pub unspelled-bytes : (fault : ParseFault) (result : Result CheckReply RunFault) → result ≡ Err (fault_of_parse fault) → GivesOneOf {X = Value} {A = Data} view (Err fault) (Outcome IsValue bytes)
+      → IfErr result (IsUnchecked bytes certificate)
+  unspelled-bytes fault result e said = rw e (no-value fault said)
+
+  module _ (d : Data) where
+    no-script : (fault : ParseFault) → Outcome IsValue bytes (Ok d) → Gives {X = Read} {A = ScriptFacts} script_seen (Err fault) (script_of d) → IsUnchecked bytes certificate (fault_of_parse fault)
+    no-script parsing.NoMemory spells said = tt
+    no-script (parsing.Refused fault) spells said = value_fault bytes d fault (spells_value bytes d spells) said
+
+    -- no script, or no memory for it
+    pub unread-bytes : (fault : ParseFault) (result : Result CheckReply RunFault) → result ≡ Err (fault_of_parse fault) → Outcome IsValue bytes (Ok d)
+        → Gives {X = Read} {A = ScriptFacts} script_seen (Err fault) (script_of d) → IfErr result (IsUnchecked bytes certificate)
+    unread-bytes fault result e spells said = rw e (no-script fault spells said)
+
+    module _ (script : ScriptFacts) where
+      bytes-of : Outcome IsValue bytes (Ok d) → script_of d ≡ Ok script → IsScriptOf bytes script
+      bytes-of spells says = record { value = d; spells = spells_value bytes d spells; says = says }
+
+      -- a script's, with an answer
+      pub is-answered : (result : Result CheckReply RunFault) → Outcome IsValue bytes (Ok d) → script_of d ≡ Ok script
+          → IfOk result (λ reply. AnswersIn script certificate reply.answer (string_bytes reply.text)) → IfOk result (λ reply. ChecksTo bytes certificate reply.answer (string_bytes reply.text))
+      is-answered (Ok reply) spells says holds = record { script = script; reads = bytes-of spells says; holds = holds }
+      is-answered (Err fault) spells says holds = tt
+
+      why-not : (fault : RunFault) → Outcome IsValue bytes (Ok d) → script_of d ≡ Ok script → IsRefusal certificate fault → IsUnchecked bytes certificate fault
+      why-not NoMemory spells says why = tt
+      why-not Proof spells says why = record { script = script; reads = bytes-of spells says; none = why }
+      why-not faults.Read spells says why = absurd why
+      why-not Write spells says why = absurd why
+      why-not (Script fault) spells says why = absurd why
+      why-not (Audit found) spells says why = absurd why
+
+      -- a script's, with none
+      pub is-unanswered : (result : Result CheckReply RunFault) → Outcome IsValue bytes (Ok d) → script_of d ≡ Ok script
+          → IfErr result (IsRefusal certificate) → IfErr result (IsUnchecked bytes certificate)
+      is-unanswered (Ok reply) spells says why = tt
+      is-unanswered (Err fault) spells says why = why-not fault spells says why
 
 -- ---- from what was read to what the reader had
 

@@ -90,6 +90,14 @@ pub record ProofIsRefused (input certificate : List ℕ) : Type 0 where
   pub reads : IsScriptOf input script
   pub none : IsNoList certificate
 
+-- a fault by which bytes aren't checked: the script's, or want of memory, or that of a certificate
+-- that is no list
+abbrev pub IsUnchecked : List ℕ → List ℕ → RunFault → Type 0
+IsUnchecked input certificate NoMemory = ⊤
+IsUnchecked input certificate (Script fault) = RunsTo input (Err fault)
+IsUnchecked input certificate Proof = ProofIsRefused input certificate
+IsUnchecked input certificate fault = ⊥
+
 -- what holds of the bytes of a script and of a certificate, where their readers tell them
 abbrev pub IfBoth : Option (List ℕ) → Option (List ℕ) → (List ℕ → List ℕ → Type 0) → Type 0
 IfBoth had proof P = IfSome had (λ input. IfSome proof (λ certificate. P input certificate))

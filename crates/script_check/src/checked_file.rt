@@ -6,7 +6,7 @@ ghost use Rattle.std.specs.String.{string_bytes};
 ghost use Rattle.serde_json.specs.View.{view};
 ghost use Rattle.script_reading.specs.Seen.{script_seen};
 ghost use Rattle.script_check.specs.Checked.{Answers, too_many};
-ghost use Rattle.script_check.specs.CheckedFile.{AnswersIn, HasChecked, IsRefusal, IsScriptFault, IsValueOf, answer_text, no_text};
+ghost use Rattle.script_check.specs.CheckedFile.{AnswersIn, ChecksTo, HasChecked, IsRefusal, IsScriptFault, IsUnchecked, IsValueOf, answer_text, no_text};
 ghost use Rattle.script_replay.specs.Lines.{Puts};
 ghost use Rattle.script_run.specs.Run.{IsCausedBy, both_counts};
 
@@ -23,18 +23,18 @@ use verdict_claims::No;
 
 /// What a check of a certificate says.
 #[derive(Drop)]
-pub(crate) enum CheckAnswer {
+pub enum CheckAnswer {
     /// Each object is accepted, and there is one for each decision.
     Yes,
     /// The first that isn't.
     No(Objection),
 }
 
-/// An answer, and its text.
+/// What a check says, and the line in which it says so.
 #[derive(Drop)]
-struct Answered {
-    answer: CheckAnswer,
-    text: String,
+pub struct CheckReply {
+    pub answer: CheckAnswer,
+    pub text: String,
 }
 
 /// Reads a script and then a certificate, makes the script's calls with the certificate's objects
@@ -73,8 +73,25 @@ pub fn check_file<R: Source, Q: Source, W: Sink>(
     }
 }
 
+/// `check_file` of bytes that are there. The script is read and tested first. The fault is the
+/// script's, or `Proof` where the certificate is longer than 4,194,304 bytes, no JSON or no list,
+/// or that memory was refused.
+pub fn check_of_bytes(
+    alloc: Global,
+    script: &[u8],
+    certificate: &[u8],
+) -> Result<CheckReply, RunFault>
+    ensures answer { IfOk result (λ reply.
+        ChecksTo script.now certificate.now reply.answer (string_bytes reply.text)) }
+    ensures fault { IfErr result (IsUnchecked script.now certificate.now) }
+{
+    let value = parse_script(alloc, script)?;
+    let script = read_script(alloc, &value)?;
+    answer_to(alloc, &script, certificate)
+}
+
 /// What the bytes of a certificate answer for a script.
-fn answer_to(alloc: Global, script: &Script<'_>, certificate: &[u8]) -> Result<Answered, RunFault>
+fn answer_to(alloc: Global, script: &Script<'_>, certificate: &[u8]) -> Result<CheckReply, RunFault>
     ensures answer { IfOk result (λ answered. AnswersIn (script_seen script.now)
         certificate.now answered.answer (string_bytes answered.text)) }
     ensures fault { IfErr result (IsRefusal certificate.now) }
@@ -89,7 +106,7 @@ fn answer_to(alloc: Global, script: &Script<'_>, certificate: &[u8]) -> Result<A
     let Ok(text) = answer_text(alloc, &answer, objects.len()) else {
         return Err(RunFault::NoMemory);
     };
-    Ok(Answered { answer, text })
+    Ok(CheckReply { answer, text })
 }
 
 /// The value that the bytes of a certificate spell.

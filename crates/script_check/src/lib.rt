@@ -13,4 +13,4 @@ mod checked_file;
 mod checking;
 pub mod laws;
 
-pub use checked_file::check_file;
+pub use checked_file::{CheckAnswer, CheckReply, check_file, check_of_bytes};

@@ -5,7 +5,7 @@ use crate::record::{
     Document, RecordPart, first_unknown, is_field_of, is_one_of, key_of, wrong_kind,
 };
 use explanation_text::wording::{put_few, put_joined};
-use explanation_text::{Gathered, Items, Step, Words, nearest};
+use explanation_text::{Items, ListBuilder, Step, TextBuilder, nearest};
 use script_reading::{CALLS, ScriptFault, makes_name};
 use serde_json::Value;
 use std::alloc::{AllocError, Global};
@@ -22,7 +22,7 @@ struct Faulty<'a, 'b> {
 }
 
 /// Tells the fault of the call of this number.
-pub(crate) fn tell_call_fault<'a>(
+pub(crate) fn add_call_fault<'a>(
     items: &mut Items,
     document: &Document<'a>,
     fault: ScriptFault,
@@ -42,10 +42,10 @@ pub(crate) fn tell_call_fault<'a>(
         call,
     };
     match fault {
-        ScriptFault::TooManyActors(_) => tell_actors(items, faulty)?,
-        ScriptFault::BadName(_) => tell_name(items, faulty)?,
-        ScriptFault::SharedName(_) => tell_shared(items, faulty),
-        _ => tell_shape(items, faulty)?,
+        ScriptFault::TooManyActors(_) => add_actors(items, faulty)?,
+        ScriptFault::BadName(_) => add_name(items, faulty)?,
+        ScriptFault::SharedName(_) => add_shared(items, faulty),
+        _ => add_shape(items, faulty)?,
     }
     Ok(())
 }
@@ -56,7 +56,7 @@ impl<'a> Faulty<'a, '_> {
     }
 
     /// Points at a member's value, or at the call where there is none.
-    fn point(&self, items: &mut Items, key: &'static str, note: &str, help: Words) {
+    fn point(&self, items: &mut Items, key: &'static str, note: &str, help: TextBuilder) {
         let member = [Step::Key("calls"), Step::Item(self.index), Step::Key(key)];
         let steps = if self.call.get(key).is_some() { 3 } else { 2 };
         let path = member.get(..steps).unwrap_or(&member);
@@ -66,7 +66,12 @@ impl<'a> Faulty<'a, '_> {
 
     /// Points at the call, which lacks a member; or at a key that it can't have, which is likely
     /// meant.
-    fn lacks(&self, items: &mut Items, key: &'static str, help: Words) -> Result<(), AllocError> {
+    fn lacks(
+        &self,
+        items: &mut Items,
+        key: &'static str,
+        help: TextBuilder,
+    ) -> Result<(), AllocError> {
         let alloc = items.alloc();
         let path = self.path();
         let document = self.document;
@@ -74,10 +79,10 @@ impl<'a> Faulty<'a, '_> {
             Some(other) => {
                 // This help isn't said, but memory that was refused to it is told of.
                 let _unsaid = help.done()?;
-                self.tell_meant(items, &other, key)
+                self.put_meant(items, &other, key)
             }
             None => {
-                let mut words = Words::of(alloc, key);
+                let mut words = TextBuilder::of(alloc, key);
                 words.put(" is missing");
                 document.tell(items, 1, &path, RecordPart::Begin, words, help)
             }
@@ -86,8 +91,8 @@ impl<'a> Faulty<'a, '_> {
     }
 
     /// Tells a key that the call can't have, in the place of which one that it lacks is meant.
-    fn tell_meant(&self, items: &mut Items, other: &[Step<'_>], key: &str) {
-        let mut words = Words::of(items.alloc(), "did you mean ");
+    fn put_meant(&self, items: &mut Items, other: &[Step<'_>], key: &str) {
+        let mut words = TextBuilder::of(items.alloc(), "did you mean ");
         words.put(key).put("? It is missing");
         self.document
             .advise(items, 1, other, RecordPart::Key, "unknown key", words)
@@ -106,7 +111,7 @@ pub fn actor_of(call: &Value) -> &str {
     }
 }
 
-fn tell_actors(items: &mut Items, faulty: Faulty<'_, '_>) -> Result<(), AllocError> {
+fn add_actors(items: &mut Items, faulty: Faulty<'_, '_>) -> Result<(), AllocError> {
     let actors = actors_before(items.alloc(), faulty)?;
     let help = listed(items.alloc(), "at most 16 may call: ", &actors);
     faulty.point(items, "actor", "the 17th actor", help);
@@ -126,34 +131,34 @@ fn actors_before<'a>(alloc: Global, faulty: Faulty<'a, '_>) -> Result<Vec<&'a st
 }
 
 /// Names after a text.
-fn listed(alloc: Global, text: &str, names: &[&str]) -> Words {
-    let mut words = Words::of(alloc, text);
+fn listed(alloc: Global, text: &str, names: &[&str]) -> TextBuilder {
+    let mut words = TextBuilder::of(alloc, text);
     put_joined(&mut words, names, "and");
     words
 }
 
 /// Tells a wrong kind, an unknown or missing key, or an unknown name of a call.
-fn tell_shape(items: &mut Items, faulty: Faulty<'_, '_>) -> Result<(), AllocError> {
+fn add_shape(items: &mut Items, faulty: Faulty<'_, '_>) -> Result<(), AllocError> {
     let alloc = items.alloc();
     if !faulty.call.is_object() {
-        tell_no_object(items, faulty);
+        add_no_object(items, faulty);
         return Ok(());
     }
     let Some(value) = faulty.call.get("call") else {
         return faulty.lacks(items, "call", calls_known(alloc));
     };
     let Some(name) = value.as_str() else {
-        tell_kind(items, faulty, "call", value);
+        add_kind(items, faulty, "call", value);
         return Ok(());
     };
     if !is_one_of(name, &CALLS) {
         faulty.point(items, "call", "unknown call", hint_of_call(alloc, name));
         return Ok(());
     }
-    tell_members(items, faulty, name)
+    add_members(items, faulty, name)
 }
 
-fn tell_no_object(items: &mut Items, faulty: Faulty<'_, '_>) {
+fn add_no_object(items: &mut Items, faulty: Faulty<'_, '_>) {
     match wrong_kind(items.alloc(), faulty.call, "a call is").done() {
         Ok(note) => {
             faulty
@@ -165,8 +170,8 @@ fn tell_no_object(items: &mut Items, faulty: Faulty<'_, '_>) {
 }
 
 /// What an unknown call may mean.
-fn hint_of_call(alloc: Global, name: &str) -> Words {
-    let mut words = Words::new(alloc);
+fn hint_of_call(alloc: Global, name: &str) -> TextBuilder {
+    let mut words = TextBuilder::new(alloc);
     match nearest(alloc, name, &CALLS) {
         Ok(Some(near)) => {
             words.put("did you mean ").put(near).put("?");
@@ -177,13 +182,13 @@ fn hint_of_call(alloc: Global, name: &str) -> Words {
     words
 }
 
-fn calls_known(alloc: Global) -> Words {
+fn calls_known(alloc: Global) -> TextBuilder {
     listed(alloc, "calls: ", &CALLS)
 }
 
-fn tell_kind(items: &mut Items, faulty: Faulty<'_, '_>, key: &'static str, value: &Value) {
+fn add_kind(items: &mut Items, faulty: Faulty<'_, '_>, key: &'static str, value: &Value) {
     let alloc = items.alloc();
-    let help = Words::of(alloc, "names stand in double quotes");
+    let help = TextBuilder::of(alloc, "names stand in double quotes");
     match wrong_kind(alloc, value, "a name is").done() {
         Ok(note) => faulty.point(items, key, &note, help),
         Err(AllocError) => items.refuse(),
@@ -191,37 +196,37 @@ fn tell_kind(items: &mut Items, faulty: Faulty<'_, '_>, key: &'static str, value
 }
 
 /// Tells what is wrong with the members of a call that has a name.
-fn tell_members(items: &mut Items, faulty: Faulty<'_, '_>, name: &str) -> Result<(), AllocError> {
+fn add_members(items: &mut Items, faulty: Faulty<'_, '_>, name: &str) -> Result<(), AllocError> {
     if makes_name(name) && faulty.call.get("as").is_none() {
-        let mut words = Words::of(items.alloc(), name);
+        let mut words = TextBuilder::of(items.alloc(), name);
         words.put(" makes a node: as gives it its name");
         return faulty.lacks(items, "as", words);
     }
     if let Some((key, value)) = no_text(faulty, &["as"], makes_name(name)) {
-        tell_kind(items, faulty, key, value);
+        add_kind(items, faulty, key, value);
         return Ok(());
     }
     if faulty.call.get("on").is_none() {
-        let help = Words::of(items.alloc(), "on names the node that the call is made on");
+        let help = TextBuilder::of(items.alloc(), "on names the node that the call is made on");
         return faulty.lacks(items, "on", help);
     }
-    tell_keys(items, faulty, name)
+    add_keys(items, faulty, name)
 }
 
 /// Tells a key that the call can't have, or a name that is no text.
-fn tell_keys(items: &mut Items, faulty: Faulty<'_, '_>, name: &str) -> Result<(), AllocError> {
+fn add_keys(items: &mut Items, faulty: Faulty<'_, '_>, name: &str) -> Result<(), AllocError> {
     let keys = keys_of(name);
     match first_unknown(items.alloc(), faulty.document, &faulty.path(), keys)? {
-        Some(unknown) => tell_key(items, faulty, name, keys, &unknown),
-        None => tell_texts(items, faulty),
+        Some(unknown) => add_key(items, faulty, name, keys, &unknown),
+        None => add_texts(items, faulty),
     }
     Ok(())
 }
 
 /// Tells which of the members that name a node or an actor is no text.
-fn tell_texts(items: &mut Items, faulty: Faulty<'_, '_>) {
+fn add_texts(items: &mut Items, faulty: Faulty<'_, '_>) {
     if let Some((key, value)) = no_text(faulty, &["on", "actor"], true) {
-        tell_kind(items, faulty, key, value);
+        add_kind(items, faulty, key, value);
     }
 }
 
@@ -254,7 +259,7 @@ fn keys_of(name: &str) -> &'static [&'static str] {
 }
 
 /// Tells a key that the call can't have.
-fn tell_key(
+fn add_key(
     items: &mut Items,
     faulty: Faulty<'_, '_>,
     name: &str,
@@ -268,22 +273,22 @@ fn tell_key(
 }
 
 /// What helps with such a key of a call that has a name.
-fn help_of_key(alloc: Global, key: &str, name: &str, keys: &[&'static str]) -> Words {
+fn help_of_key(alloc: Global, key: &str, name: &str, keys: &[&'static str]) -> TextBuilder {
     if is_field_of(key, &CONSTRAINTS_FIELDS) {
-        Words::of(alloc, "it belongs in constraints")
+        TextBuilder::of(alloc, "it belongs in constraints")
     } else if key == "as" {
-        let mut words = Words::of(alloc, name);
+        let mut words = TextBuilder::of(alloc, name);
         words.put(" makes no node");
         words
     } else if key == "constraints" {
-        Words::of(alloc, "only set_constraints has constraints")
+        TextBuilder::of(alloc, "only set_constraints has constraints")
     } else {
         hint_of_key(alloc, key, keys)
     }
 }
 
-fn hint_of_key(alloc: Global, key: &str, keys: &[&'static str]) -> Words {
-    let mut words = Words::new(alloc);
+fn hint_of_key(alloc: Global, key: &str, keys: &[&'static str]) -> TextBuilder {
+    let mut words = TextBuilder::new(alloc);
     match nearest(alloc, key, keys) {
         Ok(Some(near)) => {
             words.put("did you mean ").put(near).put("?");
@@ -310,9 +315,9 @@ pub fn has_name_bytes(text: &str) -> bool {
 }
 
 /// Tells a bad name, a name that no earlier call made, or one that is made again.
-fn tell_name(items: &mut Items, faulty: Faulty<'_, '_>) -> Result<(), AllocError> {
+fn add_name(items: &mut Items, faulty: Faulty<'_, '_>) -> Result<(), AllocError> {
     if let Some(key) = bad_name(faulty) {
-        let help = Words::of(
+        let help = TextBuilder::of(
             items.alloc(),
             "a name is 1 to 32 ASCII letters, digits, _ or -",
         );
@@ -321,9 +326,9 @@ fn tell_name(items: &mut Items, faulty: Faulty<'_, '_>) -> Result<(), AllocError
     }
     let on = faulty.text("on").unwrap_or("");
     if on != "root" && maker_of(faulty, on).is_none() {
-        return tell_unmade(items, faulty, on);
+        return add_unmade(items, faulty, on);
     }
-    tell_made(items, faulty);
+    add_made(items, faulty);
     Ok(())
 }
 
@@ -339,35 +344,35 @@ fn bad_name(faulty: Faulty<'_, '_>) -> Option<&'static str> {
 }
 
 /// Tells a name that is made again.
-fn tell_made(items: &mut Items, faulty: Faulty<'_, '_>) {
+fn add_made(items: &mut Items, faulty: Faulty<'_, '_>) {
     let alloc = items.alloc();
     let made = faulty.text("as").unwrap_or("");
     let help = match maker_of(faulty, made) {
         Some(index) => {
-            let mut words = Words::of(alloc, "call ");
+            let mut words = TextBuilder::of(alloc, "call ");
             words.put_number(index.saturating_add(1)).put(" makes it");
             words
         }
-        None => Words::of(alloc, "the program makes root"),
+        None => TextBuilder::of(alloc, "the program makes root"),
     };
     faulty.point(items, "as", "made before", help)
 }
 
 /// Tells a name on which another actor made a call.
-fn tell_shared(items: &mut Items, faulty: Faulty<'_, '_>) {
+fn add_shared(items: &mut Items, faulty: Faulty<'_, '_>) {
     let alloc = items.alloc();
     let on = faulty.text("on").unwrap_or("");
     let actor = actor_of(faulty.call);
     let help = match another_on(faulty, on, actor) {
         Some(index) => {
             let number = index.saturating_add(1);
-            let mut words = Words::of(alloc, "call ");
+            let mut words = TextBuilder::of(alloc, "call ");
             words
                 .put_number(number)
                 .put(" is made on it by another actor");
             words
         }
-        None => Words::of(alloc, "an earlier call on it is another actor's"),
+        None => TextBuilder::of(alloc, "an earlier call on it is another actor's"),
     };
     faulty.point(items, "on", "another actor's name", help)
 }
@@ -410,14 +415,16 @@ fn makes(call: &Value, name: &str) -> bool {
 }
 
 /// Tells a name that no earlier call made.
-fn tell_unmade(items: &mut Items, faulty: Faulty<'_, '_>, on: &str) -> Result<(), AllocError> {
+fn add_unmade(items: &mut Items, faulty: Faulty<'_, '_>, on: &str) -> Result<(), AllocError> {
     let alloc = items.alloc();
     let note = "no earlier call makes this name";
     let help = match first_maker(faulty.calls, on) {
-        Some(index) if index == faulty.index => { Words::of(alloc, "this call itself makes it") }
+        Some(index) if index == faulty.index => {
+            TextBuilder::of(alloc, "this call itself makes it")
+        }
         Some(index) => {
             let number = index.saturating_add(1);
-            let mut words = Words::of(alloc, "call ");
+            let mut words = TextBuilder::of(alloc, "call ");
             words
                 .put_number(number)
                 .put(" makes it, and that comes later");
@@ -430,11 +437,15 @@ fn tell_unmade(items: &mut Items, faulty: Faulty<'_, '_>, on: &str) -> Result<()
 }
 
 /// The name that was made and is near, or the names that were.
-fn hint_of_made(alloc: Global, faulty: Faulty<'_, '_>, on: &str) -> Result<Words, AllocError> {
+fn hint_of_made(
+    alloc: Global,
+    faulty: Faulty<'_, '_>,
+    on: &str,
+) -> Result<TextBuilder, AllocError> {
     let made = names_made(alloc, faulty)?;
     Ok(match nearest(alloc, on, &made)? {
         Some(near) => {
-            let mut words = Words::of(alloc, "did you mean ");
+            let mut words = TextBuilder::of(alloc, "did you mean ");
             words.put(near).put("?");
             words
         }
@@ -444,7 +455,7 @@ fn hint_of_made(alloc: Global, faulty: Faulty<'_, '_>, on: &str) -> Result<Words
 
 /// The names of the root and of what the calls before one make.
 fn names_made<'a>(alloc: Global, faulty: Faulty<'a, '_>) -> Result<Vec<&'a str>, AllocError> {
-    let mut made: Gathered<&str> = Gathered::new(alloc);
+    let mut made: ListBuilder<&str> = ListBuilder::new(alloc);
     made.add("root");
     for call in faulty.calls.iter().take(faulty.index) {
         if let Some(name) = call.get("as").and_then(Value::as_str) {
@@ -454,8 +465,8 @@ fn names_made<'a>(alloc: Global, faulty: Faulty<'a, '_>) -> Result<Vec<&'a str>,
     made.done()
 }
 
-fn names_so_far(alloc: Global, made: &[&str]) -> Words {
-    let mut words = Words::of(alloc, "names so far: ");
+fn names_so_far(alloc: Global, made: &[&str]) -> TextBuilder {
+    let mut words = TextBuilder::of(alloc, "names so far: ");
     put_few(&mut words, made, 8);
     words
 }

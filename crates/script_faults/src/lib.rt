@@ -4,7 +4,7 @@
 //! ```
 //! let mut items = Items::new(rt.alloc());
 //! let (file, whole) = ("camera.json", Whole::Script);
-//! tell_fault(&mut items, &Document { file, bytes, value: &value, whole }, fault)?;
+//! add_fault(&mut items, &Document { file, bytes, value: &value, whole }, fault)?;
 //! print!(rt; "{}", text_of(rt.alloc(), &items.into_list()?)?)?;
 //! if let Some(words) = record_fault(rt.alloc(), RecordKind::Platform, record, "pixel.json")? {
 //!     print!(rt; "{words}")?;
@@ -20,6 +20,6 @@ mod record_alone;
 mod script_fault;
 
 pub use call_fault::{actor_of, has_name_bytes};
-pub use record::{Document, RecordPart, Whole, tell_record_fault};
+pub use record::{Document, RecordPart, Whole, add_record_fault};
 pub use record_alone::{RecordFault, RecordKind, record_fault};
-pub use script_fault::{tell_fault, tell_no_json};
+pub use script_fault::{add_fault, add_no_json};

@@ -1,6 +1,6 @@
 //! Where a text stops being JSON, in words.
 
-use explanation_text::{Items, Mark, Span, Stop, Words, show, stop_of};
+use explanation_text::{Items, JsonStop, Mark, Span, TextBuilder, show, stop_of};
 use std::alloc::{AllocError, Global};
 
 /// A text that is no JSON, or may be none.
@@ -43,7 +43,7 @@ pub(crate) fn is_blank(bytes: &[u8]) -> bool {
 }
 
 /// Tells where a text that isn't empty stops being UTF-8 or JSON.
-pub(crate) fn tell_break(items: &mut Items, broken: Broken<'_>) -> Result<(), AllocError> {
+pub(crate) fn add_break(items: &mut Items, broken: Broken<'_>) -> Result<(), AllocError> {
     let bytes = broken.bytes;
     let valid = match std::str::from_utf8(bytes) {
         Ok(_) => bytes.len(),
@@ -51,21 +51,21 @@ pub(crate) fn tell_break(items: &mut Items, broken: Broken<'_>) -> Result<(), Al
     };
     let front = bytes.get(..valid).unwrap_or(bytes);
     match stop_of(items.alloc(), front)? {
-        Some(stop) if stop.at < valid || valid == bytes.len() => tell_stop(items, broken, stop),
-        _ => tell_byte(items, broken, valid),
+        Some(stop) if stop.at < valid || valid == bytes.len() => add_stop(items, broken, stop),
+        _ => add_byte(items, broken, valid),
     }
 }
 
 /// Tells where a text can't be continued to JSON.
-fn tell_stop(items: &mut Items, broken: Broken<'_>, stop: Stop) -> Result<(), AllocError> {
-    let Stop { at, expected, help } = stop;
+fn add_stop(items: &mut Items, broken: Broken<'_>, stop: JsonStop) -> Result<(), AllocError> {
+    let JsonStop { at, expected, help } = stop;
     let helps = helps_of(items.alloc(), help)?;
     let end = if at >= broken.bytes.len() {
         ", found the end"
     } else {
         ""
     };
-    let mut words = Words::of(items.alloc(), "expected ");
+    let mut words = TextBuilder::of(items.alloc(), "expected ");
     words.put(expected.words()).put(end);
     let note = words.done()?;
     broken.show(items, at, &note, &helps);
@@ -81,7 +81,7 @@ fn helps_of(alloc: Global, help: String) -> Result<Vec<String>, AllocError> {
 }
 
 /// Tells a byte that isn't UTF-8.
-fn tell_byte(items: &mut Items, broken: Broken<'_>, at: usize) -> Result<(), AllocError> {
+fn add_byte(items: &mut Items, broken: Broken<'_>, at: usize) -> Result<(), AllocError> {
     let alloc = items.alloc();
     let byte = broken.bytes.get(at).copied().unwrap_or(0);
     let note = format!(in alloc; "the byte 0x{byte:02x} isn't UTF-8")?;

@@ -15,5 +15,5 @@ mod unknown;
 pub use document::{Document, RecordPart, Whole};
 pub use keys::{is_field_of, is_one_of};
 pub use kinds::wrong_kind;
-pub use record_fault::tell_record_fault;
+pub use record_fault::add_record_fault;
 pub use unknown::{first_unknown, key_of};

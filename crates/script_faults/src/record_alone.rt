@@ -6,8 +6,8 @@ ghost use Rattle.script_reading.specs.Text.{IsJson};
 ghost use Rattle.record_reading.specs.Reading.{participant_of, platform_of};
 ghost use Rattle.script_faults.specs.RecordFault.{Spells, TellsRecord, fault_in, fault_name, first_fault};
 
-use crate::no_json::{Broken, is_blank, tell_break};
-use crate::record::{Document, Whole, tell_record_fault};
+use crate::no_json::{Broken, add_break, is_blank};
+use crate::record::{Document, Whole, add_record_fault};
 use explanation_text::{Items, text_of};
 use record_reading::{Code, Fault, read_platform};
 use serde_json::Value;
@@ -159,7 +159,7 @@ fn place_words(
 ) -> Result<String, AllocError> {
     let mut items = Items::new(alloc);
     let is_platform = kind == RecordKind::Platform;
-    tell_record_fault(&mut items, 0, document, &[], fault, is_platform)?;
+    add_record_fault(&mut items, 0, document, &[], fault, is_platform)?;
     text_of(alloc, &items.into_list()?)
 }
 
@@ -167,10 +167,10 @@ fn place_words(
 fn break_words(alloc: Global, bytes: &[u8], file: &str) -> Result<String, AllocError> {
     let mut items = Items::new(alloc);
     if is_blank(bytes) {
-        items.say_text(0, "", "the record is empty, where an object is due");
+        items.list_text(0, "", "the record is empty, where an object is due");
     } else {
         let depth = 0;
-        tell_break(&mut items, Broken { file, bytes, depth })?;
+        add_break(&mut items, Broken { file, bytes, depth })?;
     }
     text_of(alloc, &items.into_list()?)
 }

@@ -1,34 +1,34 @@
 //! The faults of a script, in words.
 
-use crate::call_fault::tell_call_fault;
+use crate::call_fault::add_call_fault;
 use crate::keys::SCRIPT;
-use crate::no_json::{Broken, is_blank, tell_break};
-use crate::record::{Document, RecordPart, first_unknown, key_of, tell_record_fault, wrong_kind};
-use explanation_text::{Item, Items, Kind, Step, Words, nearest};
+use crate::no_json::{Broken, add_break, is_blank};
+use crate::record::{Document, RecordPart, add_record_fault, first_unknown, key_of, wrong_kind};
+use explanation_text::{Item, Items, Kind, Step, TextBuilder, nearest};
 use script_reading::{LONGEST, ScriptFault};
 use serde_json::Value;
 use std::alloc::{AllocError, Global};
 
 /// Tells why a script is refused, and where.
-pub fn tell_fault<'a>(
+pub fn add_fault<'a>(
     items: &mut Items,
     document: &Document<'a>,
     fault: ScriptFault,
 ) -> Result<(), AllocError> {
     put_answer(items, fault);
     match fault {
-        ScriptFault::TooLong => tell_length(items),
+        ScriptFault::TooLong => add_length(items),
         ScriptFault::NotJson => {}
-        ScriptFault::Misshapen => tell_misshapen(items, document)?,
+        ScriptFault::Misshapen => add_misshapen(items, document)?,
         ScriptFault::CallMisshapen(number)
         | ScriptFault::BadName(number)
         | ScriptFault::TooManyActors(number)
-        | ScriptFault::SharedName(number) => { tell_call_fault(items, document, fault, number)? }
+        | ScriptFault::SharedName(number) => { add_call_fault(items, document, fault, number)? }
         ScriptFault::Platform(record) => {
             let base = [Step::Key("platform")];
-            tell_record_fault(items, 1, document, &base, record, true)?
+            add_record_fault(items, 1, document, &base, record, true)?
         }
-        ScriptFault::TooManyCalls => tell_calls(items, document),
+        ScriptFault::TooManyCalls => add_calls(items, document),
     }
     Ok(())
 }
@@ -53,63 +53,63 @@ fn put_answer(items: &mut Items, fault: ScriptFault) {
     }
 }
 
-fn tell_length(items: &mut Items) {
-    let mut words = Words::of(items.alloc(), "the script has more than ");
+fn add_length(items: &mut Items) {
+    let mut words = TextBuilder::of(items.alloc(), "the script has more than ");
     words.put_number(LONGEST).put(" bytes; no more are read");
     items.say(1, "", words)
 }
 
-fn tell_calls(items: &mut Items, document: &Document<'_>) {
+fn add_calls(items: &mut Items, document: &Document<'_>) {
     let count = match document.at(&[Step::Key("calls")]) {
         Some(Value::Array(calls)) => calls.len(),
         _ => 0,
     };
-    let mut words = Words::of(items.alloc(), "the script has ");
+    let mut words = TextBuilder::of(items.alloc(), "the script has ");
     words.put_number(count).put(" calls, at most 4096 are made");
     items.say(1, "", words)
 }
 
 /// Tells where a script stops being JSON.
-pub fn tell_no_json(items: &mut Items, file: &str, bytes: &[u8]) -> Result<(), AllocError> {
+pub fn add_no_json(items: &mut Items, file: &str, bytes: &[u8]) -> Result<(), AllocError> {
     put_answer(items, ScriptFault::NotJson);
     if is_blank(bytes) {
         let text = "the file is empty: a script is an object with platform and calls";
-        items.say_text(1, "", text);
+        items.list_text(1, "", text);
         return Ok(());
     }
     let depth = 1;
-    tell_break(items, Broken { file, bytes, depth })
+    add_break(items, Broken { file, bytes, depth })
 }
 
 /// Tells a script that is no object with a platform and a list of calls.
-fn tell_misshapen(items: &mut Items, document: &Document<'_>) -> Result<(), AllocError> {
+fn add_misshapen(items: &mut Items, document: &Document<'_>) -> Result<(), AllocError> {
     if !document.value.is_object() {
         let due = "an object with platform and calls is";
-        tell_wrong(items, document, &[], document.value, due);
+        add_wrong(items, document, &[], document.value, due);
         return Ok(());
     }
     match first_unknown(items.alloc(), document, &[], SCRIPT)? {
-        Some(path) => tell_key(items, document, &path)?,
-        None => tell_members(items, document),
+        Some(path) => add_key(items, document, &path)?,
+        None => add_members(items, document),
     }
     Ok(())
 }
 
 /// Tells a member that is missing, or calls that are no list.
-fn tell_members(items: &mut Items, document: &Document<'_>) {
+fn add_members(items: &mut Items, document: &Document<'_>) {
     for key in SCRIPT {
         if document.value.get(*key).is_none() {
-            return tell_missing(items, document, key);
+            return add_missing(items, document, key);
         }
     }
     let path = [Step::Key("calls")];
     if let Some(calls) = document.at(&path) {
-        tell_wrong(items, document, &path, calls, "a list is");
+        add_wrong(items, document, &path, calls, "a list is");
     }
 }
 
-fn tell_missing(items: &mut Items, document: &Document<'_>, key: &str) {
-    let mut words = Words::of(items.alloc(), key);
+fn add_missing(items: &mut Items, document: &Document<'_>, key: &str) {
+    let mut words = TextBuilder::of(items.alloc(), key);
     words.put(" is missing");
     match words.done() {
         Ok(note) => document.point(items, 1, &[], RecordPart::Begin, &note, &[]),
@@ -118,7 +118,7 @@ fn tell_missing(items: &mut Items, document: &Document<'_>, key: &str) {
 }
 
 /// Tells a value of a wrong kind.
-fn tell_wrong(
+fn add_wrong(
     items: &mut Items,
     document: &Document<'_>,
     path: &[Step<'_>],
@@ -132,7 +132,7 @@ fn tell_wrong(
 }
 
 /// Tells a key that a script can't have.
-fn tell_key(
+fn add_key(
     items: &mut Items,
     document: &Document<'_>,
     path: &[Step<'_>],
@@ -140,11 +140,11 @@ fn tell_key(
     let alloc = items.alloc();
     let help = match nearest(alloc, key_of(path), SCRIPT)? {
         Some(near) => {
-            let mut words = Words::of(alloc, "did you mean ");
+            let mut words = TextBuilder::of(alloc, "did you mean ");
             words.put(near).put("?");
             words
         }
-        None => Words::of(alloc, "a script has just platform and calls"),
+        None => TextBuilder::of(alloc, "a script has just platform and calls"),
     };
     document.advise(items, 1, path, RecordPart::Key, "unknown key", help);
     Ok(())

@@ -7,7 +7,7 @@ ghost use Rattle.serde_json.specs.View.{view};
 ghost use Rattle.script_reading.specs.Faults.{GivesOneOf};
 ghost use Rattle.script_reading.specs.Seen.{script_seen};
 ghost use Rattle.script_reading.specs.Text.{IsValue, Outcome};
-ghost use Rattle.script_replay.specs.Outcome.{RunsWith, ValueRunsTo, report_seen};
+ghost use Rattle.script_replay.specs.Outcome.{RunsTo, RunsWith, ValueRunsTo, report_seen};
 ghost use Rattle.script_replay.specs.Report.{IsReported};
 ghost use Rattle.script_run.specs.Run.{IsCausedBy, Ran, RanWithProof, WritesFronts, both_counts};
 ghost use Rattle.script_run.specs.Certificate.{CertifiesTo, certified_seen};
@@ -102,7 +102,7 @@ pub fn run_with_proof<R: Source, W: Sink, P: Sink>(
         (both_counts (W.failures writer.new) (P.failures proof.new)) }
 {
     let bytes = read_up_to_limit(alloc, reader, LONGEST)?;
-    let certified = certified_report(alloc, bytes)?;
+    let certified = certified_of_bytes(alloc, &bytes)?;
     let CertifiedReport {
         report,
         certificate,
@@ -116,14 +116,22 @@ pub fn run_with_proof<R: Source, W: Sink, P: Sink>(
 
 /// A report, and the certificate of its decisions.
 #[derive(Drop)]
-struct CertifiedReport {
-    report: Report,
-    certificate: CertificatePieces,
+pub struct CertifiedReport {
+    pub report: Report,
+    pub certificate: CertificatePieces,
 }
 
-/// The report of a script's bytes with its certificate.
-fn certified_report(alloc: Global, bytes: Vec<u8>) -> Result<CertifiedReport, ParseFault>
-    ensures { GivesOneOf certified_seen result (CertifiesTo bytes.items) }
+/// The report of a script's bytes. The fault is the script's, or that memory was refused before
+/// the first call; where it is refused later, the report says so.
+pub fn report_of_bytes(alloc: Global, bytes: &[u8]) -> Result<Report, ParseFault>
+    ensures { GivesOneOf report_seen result (RunsTo bytes.now) }
+{
+    report_on(alloc, bytes, &mut Searching::new())
+}
+
+/// The same with the certificate of its decisions, of which no text is made yet.
+pub fn certified_of_bytes(alloc: Global, bytes: &[u8]) -> Result<CertifiedReport, ParseFault>
+    ensures { GivesOneOf certified_seen result (CertifiesTo bytes.now) }
 {
     let Ok(mut certifying) = Certifying::new(alloc) else {
         return Err(ParseFault::NoMemory);
@@ -162,19 +170,18 @@ fn write_both<W: Sink, P: Sink>(
 }
 
 /// The report of a script's bytes, whose domains are decided so.
-fn report_on<D: Decider>(
-    alloc: Global,
-    bytes: Vec<u8>,
-    decider: &mut D,
-) -> Result<Report, ParseFault>
+fn report_on<D: Decider>(alloc: Global, bytes: &[u8], decider: &mut D) -> Result<Report, ParseFault>
     requires { (platform : PlatformFacts) → D.gave decider.old platform [] }
-    ensures { GivesOneOf report_seen result (RunsWith (D.gave decider.new) bytes.items) }
+    ensures { GivesOneOf report_seen result (RunsWith (D.gave decider.new) bytes.now) }
 {
-    let mut left = None;
-    report_leaving(alloc, bytes, decider, &mut left)
+    match parse_script(alloc, bytes) {
+        Ok(value) => report_on_value(alloc, &value, decider),
+        Err(fault) => Err(fault),
+    }
 }
 
-/// The report of a script's bytes, which leaves the value that they spell, if they do, in `left`.
+/// The same of bytes that are dropped once they are read. The value that they spell, if they do,
+/// is left in `left`.
 fn report_leaving<D: Decider>(
     alloc: Global,
     bytes: Vec<u8>,

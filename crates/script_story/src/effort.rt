@@ -66,8 +66,8 @@ impl Effort {
     }
 
     /// Adds that so many participants are asked together.
-    pub fn ask(&self, people: usize) {
-        self.spend(self.join.saturating_mul(people as u64));
+    pub fn ask(&self, participants: usize) {
+        self.spend(self.join.saturating_mul(participants as u64));
     }
 
     /// Adds a run whose searches visited so many prefixes.

@@ -1,8 +1,8 @@
 //! Calls that stand too early: before the bind of what they are made on, or as the bind of what
 //! later ones need as a token.
 
-use crate::story::{Made, Milestone, Story};
-use explanation_text::Gathered;
+use crate::story::{MadeCall, Milestone, Story};
+use explanation_text::ListBuilder;
 use script_reading::Act;
 use std::alloc::{AllocError, Global};
 use sysmem_tree::NodeKind;
@@ -17,7 +17,7 @@ pub struct Move {
 /// The calls that were refused since a later one binds what they are made on; and those that bind a
 /// token, or are made on it since, of which a later call was refused since it needs the token.
 pub fn moves_in(alloc: Global, story: &Story<'_>) -> Result<Vec<Move>, AllocError> {
-    let mut moves = Gathered::new(alloc);
+    let mut moves = ListBuilder::new(alloc);
     for (index, call) in story.calls.iter().enumerate() {
         add_moves(&mut moves, story, call, index.saturating_add(1));
     }
@@ -25,7 +25,7 @@ pub fn moves_in(alloc: Global, story: &Story<'_>) -> Result<Vec<Move>, AllocErro
 }
 
 /// Adds what the answer to the call of a number says is to be moved.
-fn add_moves(moves: &mut Gathered<Move>, story: &Story<'_>, call: &Made<'_>, number: usize) {
+fn add_moves(moves: &mut ListBuilder<Move>, story: &Story<'_>, call: &MadeCall<'_>, number: usize) {
     if let Some(after) = binding(story, call, number) {
         moves.add(Move {
             call: number,
@@ -38,12 +38,12 @@ fn add_moves(moves: &mut Gathered<Move>, story: &Story<'_>, call: &Made<'_>, num
 }
 
 /// Whether a call was refused that needs a token.
-fn needs_token(call: &Made<'_>) -> bool {
+fn needs_token(call: &MadeCall<'_>) -> bool {
     matches!(call.act, Act::Duplicate(_) | Act::CreateGroup(_)) && call.code() == "E2"
 }
 
 /// Whether no call after that of a number was refused since it needs the same token.
-fn is_last(story: &Story<'_>, call: &Made<'_>, number: usize) -> bool {
+fn is_last(story: &Story<'_>, call: &MadeCall<'_>, number: usize) -> bool {
     for later in story.calls.iter().skip(number) {
         if later.node == call.node && needs_token(later) {
             return false;
@@ -54,7 +54,7 @@ fn is_last(story: &Story<'_>, call: &Made<'_>, number: usize) -> bool {
 
 /// Adds the call that bound the token on which the call of a number was refused, and those made on
 /// it since: they are to stand after that call.
-fn add_held(moves: &mut Gathered<Move>, story: &Story<'_>, call: &Made<'_>, number: usize) {
+fn add_held(moves: &mut ListBuilder<Move>, story: &Story<'_>, call: &MadeCall<'_>, number: usize) {
     let Some(node) = call.node else {
         return;
     };
@@ -80,7 +80,7 @@ fn add_held(moves: &mut Gathered<Move>, story: &Story<'_>, call: &Made<'_>, numb
 }
 
 /// The later call that binds the token on which the call of a number was refused.
-fn binding(story: &Story<'_>, call: &Made<'_>, number: usize) -> Option<usize> {
+fn binding(story: &Story<'_>, call: &MadeCall<'_>, number: usize) -> Option<usize> {
     let node = call.node?;
     let suits = match call.act {
         Act::SetConstraints(_) | Act::AttachToken(_) | Act::Check | Act::Wait => {

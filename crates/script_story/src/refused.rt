@@ -1,10 +1,10 @@
 //! Why calls were refused.
 
-use crate::story::{Made, Milestone, Story};
+use crate::story::{MadeCall, Milestone, Story};
 use explanation_text::wording::{MOST_NAMES, mark_after, put_few, put_joined};
-use explanation_text::{Gathered, Items, Name, Step, Text, Words};
+use explanation_text::{Items, ListBuilder, Name, Step, Text, TextBuilder};
 use record_reading::{Code, Fault};
-use script_faults::{Document, tell_record_fault};
+use script_faults::{Document, add_record_fault};
 use script_reading::Act;
 use std::alloc::{AllocError, Global};
 use sysmem_counts::Field;
@@ -19,7 +19,7 @@ const MOST_NUMBERS: usize = 8;
 
 /// Calls that have one reply and one cause.
 #[derive(Drop)]
-struct Row {
+struct RefusedCalls {
     /// Their numbers.
     numbers: Vec<usize>,
     cause: Text,
@@ -39,12 +39,12 @@ pub fn refused_calls(story: &Story<'_>) -> usize {
     count
 }
 
-fn is_refused(call: &Made<'_>) -> bool {
+fn is_refused(call: &MadeCall<'_>) -> bool {
     !call.is_accepted() && (!call.asks() || call.code() == "E2" || call.code() == "skipped")
 }
 
 /// Whether a call is to be looked at: the answers that its domain's own section tells are left out.
-fn is_told(story: &Story<'_>, call: &Made<'_>) -> bool {
+fn is_told(story: &Story<'_>, call: &MadeCall<'_>) -> bool {
     let code = call.code();
     if call.is_accepted() || code == "E7" || code == "E8" {
         return false;
@@ -58,7 +58,7 @@ fn end_of(story: &Story<'_>, node: usize) -> Option<usize> {
 }
 
 /// Tells the calls that were refused, those with one cause in one row.
-pub fn tell_refused(
+pub fn list_refused(
     items: &mut Items,
     document: &Document<'_>,
     story: &Story<'_>,
@@ -67,11 +67,11 @@ pub fn tell_refused(
     if rows.is_empty() {
         return Ok(());
     }
-    tell_rows(items, document, story, &rows);
+    add_rows(items, document, story, &rows);
     Ok(())
 }
 
-fn tell_rows(items: &mut Items, document: &Document<'_>, story: &Story<'_>, rows: &[Row]) {
+fn add_rows(items: &mut Items, document: &Document<'_>, story: &Story<'_>, rows: &[RefusedCalls]) {
     let most = if rows.len() <= MOST_ROWS.saturating_add(1) {
         rows.len()
     } else {
@@ -79,17 +79,17 @@ fn tell_rows(items: &mut Items, document: &Document<'_>, story: &Story<'_>, rows
     };
     items.title("calls to look at");
     for row in rows.iter().take(most) {
-        tell_row(items, document, story, row);
+        list_row(items, document, story, row);
     }
-    tell_more(items, rows.len().saturating_sub(most))
+    add_more(items, rows.len().saturating_sub(most))
 }
 
 /// Tells how many rows aren't told, if there are any.
-fn tell_more(items: &mut Items, more: usize) {
+fn add_more(items: &mut Items, more: usize) {
     if more == 0 {
         return;
     }
-    let mut words = Words::of(items.alloc(), "and ");
+    let mut words = TextBuilder::of(items.alloc(), "and ");
     words.put_number(more).put(" more");
     items.say(1, "", words)
 }
@@ -98,7 +98,7 @@ fn tell_more(items: &mut Items, more: usize) {
 /// constraints have a fault only its field and its code.
 pub fn refused_words(alloc: Global, story: &Story<'_>) -> Result<Vec<Text>, AllocError> {
     let rows = rows_of(alloc, story)?;
-    let mut texts = Gathered::new(alloc);
+    let mut texts = ListBuilder::new(alloc);
     for row in &rows {
         if let Some(call) = story.call(number_of(row)) {
             texts.add_text(row_text(alloc, story, call, row));
@@ -107,8 +107,8 @@ pub fn refused_words(alloc: Global, story: &Story<'_>) -> Result<Vec<Text>, Allo
     texts.done()
 }
 
-fn rows_of(alloc: Global, story: &Story<'_>) -> Result<Vec<Row>, AllocError> {
-    let mut rows: Vec<Row> = Vec::new(alloc);
+fn rows_of(alloc: Global, story: &Story<'_>) -> Result<Vec<RefusedCalls>, AllocError> {
+    let mut rows: Vec<RefusedCalls> = Vec::new(alloc);
     for (index, call) in story.calls.iter().enumerate() {
         add_call(&mut rows, story, call, index.saturating_add(1))?;
     }
@@ -117,9 +117,9 @@ fn rows_of(alloc: Global, story: &Story<'_>) -> Result<Vec<Row>, AllocError> {
 
 /// Adds a call that is told to the rows.
 fn add_call(
-    rows: &mut Vec<Row>,
+    rows: &mut Vec<RefusedCalls>,
     story: &Story<'_>,
-    call: &Made<'_>,
+    call: &MadeCall<'_>,
     number: usize,
 ) -> Result<(), AllocError> {
     if !is_told(story, call) {
@@ -133,13 +133,13 @@ fn add_call(
 fn row_of(
     alloc: Global,
     story: &Story<'_>,
-    call: &Made<'_>,
+    call: &MadeCall<'_>,
     number: usize,
-) -> Result<Row, AllocError> {
+) -> Result<RefusedCalls, AllocError> {
     let fault = fault_of(alloc, call)?;
-    let mut words = Words::new(alloc);
+    let mut words = TextBuilder::new(alloc);
     put_cause(&mut words, story, call, number);
-    Ok(Row {
+    Ok(RefusedCalls {
         numbers: vec![in alloc; number]?,
         cause: words.into_text()?,
         fault,
@@ -147,7 +147,11 @@ fn row_of(
 }
 
 /// Adds a row, to one with its reply and its cause where there is one.
-fn add_row(rows: &mut Vec<Row>, story: &Story<'_>, row: Row) -> Result<(), AllocError> {
+fn add_row(
+    rows: &mut Vec<RefusedCalls>,
+    story: &Story<'_>,
+    row: RefusedCalls,
+) -> Result<(), AllocError> {
     for other in rows.iter_mut() {
         if is_like(story, other, &row) {
             other.numbers.extend_from_slice(&row.numbers)?;
@@ -160,14 +164,14 @@ fn add_row(rows: &mut Vec<Row>, story: &Story<'_>, row: Row) -> Result<(), Alloc
 
 /// Whether the calls of two rows have one reply and one cause, and no fault, each of which has a
 /// place of its own.
-fn is_like(story: &Story<'_>, a: &Row, b: &Row) -> bool {
+fn is_like(story: &Story<'_>, a: &RefusedCalls, b: &RefusedCalls) -> bool {
     a.fault.is_none()
         && b.fault.is_none()
         && reply_of(story, a) == reply_of(story, b)
         && a.cause == b.cause
 }
 
-fn reply_of<'a>(story: &Story<'a>, row: &Row) -> &'a str {
+fn reply_of<'a>(story: &Story<'a>, row: &RefusedCalls) -> &'a str {
     match story.call(number_of(row)) {
         Some(call) => call.reply,
         None => "",
@@ -175,12 +179,12 @@ fn reply_of<'a>(story: &Story<'a>, row: &Row) -> &'a str {
 }
 
 /// The number of the first call of a row.
-fn number_of(row: &Row) -> usize {
+fn number_of(row: &RefusedCalls) -> usize {
     row.numbers.first().copied().unwrap_or(0)
 }
 
 /// The fault of the constraints that a call states, of one that was refused for it.
-fn fault_of(alloc: Global, call: &Made<'_>) -> Result<Option<Fault>, AllocError> {
+fn fault_of(alloc: Global, call: &MadeCall<'_>) -> Result<Option<Fault>, AllocError> {
     let Act::SetConstraints(Some(value)) = call.act else {
         return Ok(None);
     };
@@ -194,7 +198,7 @@ fn fault_of(alloc: Global, call: &Made<'_>) -> Result<Option<Fault>, AllocError>
     }
 }
 
-fn tell_row(items: &mut Items, document: &Document<'_>, story: &Story<'_>, row: &Row) {
+fn list_row(items: &mut Items, document: &Document<'_>, story: &Story<'_>, row: &RefusedCalls) {
     let number = number_of(row);
     let Some(call) = story.call(number) else {
         return;
@@ -209,14 +213,19 @@ fn tell_row(items: &mut Items, document: &Document<'_>, story: &Story<'_>, row: 
         Step::Item(number.saturating_sub(1)),
         Step::Key("constraints"),
     ];
-    let told = tell_record_fault(items, 2, document, &base, fault, false);
+    let told = add_record_fault(items, 2, document, &base, fault, false);
     items.note(told)
 }
 
 /// Calls and why they were refused, and behind it their reply; of a fault only its field and its
 /// code, for it is told below.
-fn row_text(alloc: Global, story: &Story<'_>, call: &Made<'_>, row: &Row) -> Words {
-    let mut words = Words::new(alloc);
+fn row_text(
+    alloc: Global,
+    story: &Story<'_>,
+    call: &MadeCall<'_>,
+    row: &RefusedCalls,
+) -> TextBuilder {
+    let mut words = TextBuilder::new(alloc);
     put_calls(&mut words, story, call, &row.numbers);
     let (code, reply) = (call.code(), call.reply);
     words.put(": ");
@@ -235,7 +244,7 @@ fn row_text(alloc: Global, story: &Story<'_>, call: &Made<'_>, row: &Row) -> Wor
 }
 
 /// Puts the fault that a reply names after a text: `S4 usage`.
-fn put_fault(text: &mut Words, code: &str, reply: &str) {
+fn put_fault(text: &mut TextBuilder, code: &str, reply: &str) {
     if code == "S2" {
         text.put("a key that isn't known");
         return;
@@ -251,7 +260,7 @@ fn put_fault(text: &mut Words, code: &str, reply: &str) {
 }
 
 /// Puts which calls they are after a text: `call 3, bind a`, or `calls 3, 4 and 5`.
-fn put_calls(text: &mut Words, story: &Story<'_>, call: &Made<'_>, numbers: &[usize]) {
+fn put_calls(text: &mut TextBuilder, story: &Story<'_>, call: &MadeCall<'_>, numbers: &[usize]) {
     let Some((number, others)) = numbers.split_first() else {
         return;
     };
@@ -263,14 +272,14 @@ fn put_calls(text: &mut Words, story: &Story<'_>, call: &Made<'_>, numbers: &[us
 }
 
 /// Puts the name of a node after a text, or one that no node has.
-fn put_name(text: &mut Words, story: &Story<'_>, name: &str) {
+fn put_name(text: &mut TextBuilder, story: &Story<'_>, name: &str) {
     match node_of(story, name) {
         Some(node) => text.name(story.called(node)),
         None => text.put(name),
     };
 }
 
-fn put_call(text: &mut Words, story: &Story<'_>, call: &Made<'_>, number: usize) {
+fn put_call(text: &mut TextBuilder, story: &Story<'_>, call: &MadeCall<'_>, number: usize) {
     text.put("call ").call(number).put(", ");
     text.put(call.name()).put(" ");
     call.put_on(text);
@@ -282,7 +291,7 @@ fn put_call(text: &mut Words, story: &Story<'_>, call: &Made<'_>, number: usize)
 }
 
 /// Puts the numbers of calls after a text: `3, 4 and 5`.
-fn put_numbers(text: &mut Words, numbers: &[usize]) {
+fn put_numbers(text: &mut TextBuilder, numbers: &[usize]) {
     let most = if numbers.len() > MOST_NUMBERS.saturating_add(1) {
         MOST_NUMBERS
     } else {
@@ -300,7 +309,7 @@ fn put_numbers(text: &mut Words, numbers: &[usize]) {
 }
 
 /// Puts why a call was refused after a text.
-fn put_cause(text: &mut Words, story: &Story<'_>, call: &Made<'_>, number: usize) {
+fn put_cause(text: &mut TextBuilder, story: &Story<'_>, call: &MadeCall<'_>, number: usize) {
     let Some(node) = call.node else {
         return put_unmade(text, story, call.on);
     };
@@ -329,7 +338,7 @@ fn plain_cause(code: &str) -> &'static str {
 }
 
 /// Puts why a call on a name was skipped after a text: the call that makes the name wasn't made.
-fn put_unmade(text: &mut Words, story: &Story<'_>, on: &str) {
+fn put_unmade(text: &mut TextBuilder, story: &Story<'_>, on: &str) {
     for (index, other) in story.calls.iter().enumerate() {
         if other.act.name_made() == Some(on) {
             let number = index.saturating_add(1);
@@ -342,13 +351,13 @@ fn put_unmade(text: &mut Words, story: &Story<'_>, on: &str) {
 }
 
 /// Puts a domain with its root's name after a text: `domain /0 (camera)`.
-pub fn put_domain(text: &mut Words, story: &Story<'_>, root: usize) {
+pub fn put_domain(text: &mut TextBuilder, story: &Story<'_>, root: usize) {
     text.put("domain ").put(story.path(root));
     text.put(" (").name(story.called(root)).put(")");
 }
 
 /// Puts what became of the domain of a node, and after which call, after a text.
-fn put_ended(text: &mut Words, story: &Story<'_>, node: usize) {
+fn put_ended(text: &mut TextBuilder, story: &Story<'_>, node: usize) {
     let Some(domain) = story.domain_of(node) else {
         return;
     };
@@ -364,13 +373,13 @@ fn put_ended(text: &mut Words, story: &Story<'_>, node: usize) {
 }
 
 /// Which group chose another child than the one above a node.
-pub fn left_out(alloc: Global, story: &Story<'_>, node: usize) -> Words {
-    let mut words = Words::new(alloc);
+pub fn left_out(alloc: Global, story: &Story<'_>, node: usize) -> TextBuilder {
+    let mut words = TextBuilder::new(alloc);
     put_left_out(&mut words, story, node);
     words
 }
 
-fn put_left_out(text: &mut Words, story: &Story<'_>, node: usize) {
+fn put_left_out(text: &mut TextBuilder, story: &Story<'_>, node: usize) {
     let Some((group, below)) = chooser(story, node) else {
         text.put("another selection was chosen");
         return;
@@ -416,7 +425,7 @@ fn chosen_child(
 }
 
 /// Puts who was still awaited when a verdict was asked for, and when it came, after a text.
-fn put_too_early(text: &mut Words, story: &Story<'_>, node: usize, number: usize) {
+fn put_too_early(text: &mut TextBuilder, story: &Story<'_>, node: usize, number: usize) {
     let index = match story.nodes.get(node) {
         Some(node) => node.domain,
         None => 0,
@@ -436,7 +445,7 @@ fn put_too_early(text: &mut Words, story: &Story<'_>, node: usize, number: usize
 }
 
 /// Puts for whom the domain of an index waits before the call of a number after a text.
-fn put_awaited(text: &mut Words, story: &Story<'_>, index: usize, number: usize) {
+fn put_awaited(text: &mut TextBuilder, story: &Story<'_>, index: usize, number: usize) {
     match awaited(text.alloc(), story, index, number) {
         Ok(names) => put_those_awaited(text, &names),
         Err(AllocError) => text.refuse(),
@@ -454,7 +463,7 @@ fn awaited<'a>(
     story.names(alloc, &nodes)
 }
 
-fn put_those_awaited(text: &mut Words, names: &[Name<'_>]) {
+fn put_those_awaited(text: &mut TextBuilder, names: &[Name<'_>]) {
     if names.is_empty() {
         text.put("the domain that it was attached to is still awaited");
         return;
@@ -464,15 +473,15 @@ fn put_those_awaited(text: &mut Words, names: &[Name<'_>]) {
 }
 
 /// Puts words on one name after a text, or those on several.
-fn put_by_count(text: &mut Words, names: &[Name<'_>], one: &str, many: &str) {
+fn put_by_count(text: &mut TextBuilder, names: &[Name<'_>], one: &str, many: &str) {
     text.put(if names.len() == 1 { one } else { many });
 }
 
 /// Puts which state of a node doesn't allow a call after a text.
 fn put_wrong_state(
-    text: &mut Words,
+    text: &mut TextBuilder,
     story: &Story<'_>,
-    call: &Made<'_>,
+    call: &MadeCall<'_>,
     node: usize,
     number: usize,
 ) {
@@ -492,7 +501,13 @@ fn put_wrong_state(
 }
 
 /// A call on a node that the call of the number `gone` released or closed.
-fn put_gone(text: &mut Words, story: &Story<'_>, call: &Made<'_>, number: usize, gone: usize) {
+fn put_gone(
+    text: &mut TextBuilder,
+    story: &Story<'_>,
+    call: &MadeCall<'_>,
+    number: usize,
+    gone: usize,
+) {
     let actor = story.actor(gone);
     let how = match story.call(gone) {
         Some(milestone) if matches!(milestone.act, Act::Close) => "closed",
@@ -506,7 +521,13 @@ fn put_gone(text: &mut Words, story: &Story<'_>, call: &Made<'_>, number: usize,
 }
 
 /// A call that needs a collection, on a token.
-fn put_unbound(text: &mut Words, story: &Story<'_>, call: &Made<'_>, node: usize, number: usize) {
+fn put_unbound(
+    text: &mut TextBuilder,
+    story: &Story<'_>,
+    call: &MadeCall<'_>,
+    node: usize,
+    number: usize,
+) {
     let Some(later) = story.milestone(node, Milestone::Bind) else {
         call.put_on(text);
         text.put(" is a token: bind makes it a collection");
@@ -521,7 +542,13 @@ fn put_unbound(text: &mut Words, story: &Story<'_>, call: &Made<'_>, node: usize
 
 /// Of a call that states constraints puts who was bound before it and has none after a text, if
 /// somebody is, with words before it: it may be meant.
-fn put_unset(text: &mut Words, story: &Story<'_>, call: &Made<'_>, number: usize, before: &str) {
+fn put_unset(
+    text: &mut TextBuilder,
+    story: &Story<'_>,
+    call: &MadeCall<'_>,
+    number: usize,
+    before: &str,
+) {
     if !matches!(call.act, Act::SetConstraints(_)) {
         return;
     }
@@ -545,7 +572,7 @@ fn unset<'a>(alloc: Global, story: &Story<'a>, number: usize) -> Result<Vec<Name
     Ok(names)
 }
 
-fn put_those_unset(text: &mut Words, names: &[Name<'_>], before: &str) {
+fn put_those_unset(text: &mut TextBuilder, names: &[Name<'_>], before: &str) {
     if names.is_empty() {
         return;
     }
@@ -555,9 +582,9 @@ fn put_those_unset(text: &mut Words, names: &[Name<'_>], before: &str) {
 }
 
 fn put_wrong_group(
-    text: &mut Words,
+    text: &mut TextBuilder,
     story: &Story<'_>,
-    call: &Made<'_>,
+    call: &MadeCall<'_>,
     node: usize,
     number: usize,
     makes: bool,
@@ -581,9 +608,9 @@ fn put_wrong_group(
 }
 
 fn put_wrong_collection(
-    text: &mut Words,
+    text: &mut TextBuilder,
     story: &Story<'_>,
-    call: &Made<'_>,
+    call: &MadeCall<'_>,
     node: usize,
     number: usize,
 ) {
@@ -600,7 +627,13 @@ fn put_wrong_collection(
 }
 
 /// A call that needs a token, on a collection.
-fn put_bound(text: &mut Words, story: &Story<'_>, call: &Made<'_>, node: usize, number: usize) {
+fn put_bound(
+    text: &mut TextBuilder,
+    story: &Story<'_>,
+    call: &MadeCall<'_>,
+    node: usize,
+    number: usize,
+) {
     let bound = story
         .milestone_before(node, Milestone::Bind, number)
         .unwrap_or(0);
@@ -617,9 +650,9 @@ fn put_bound(text: &mut Words, story: &Story<'_>, call: &Made<'_>, node: usize, 
 /// Constraints on a collection that has some; maybe a node whose name is that of the actor is
 /// meant.
 fn put_set_before(
-    text: &mut Words,
+    text: &mut TextBuilder,
     story: &Story<'_>,
-    call: &Made<'_>,
+    call: &MadeCall<'_>,
     node: usize,
     number: usize,
 ) {
@@ -649,7 +682,7 @@ fn node_of(story: &Story<'_>, name: &str) -> Option<usize> {
 }
 
 /// Puts who may be meant after a text: a node that is called as the actor is.
-fn put_meant(text: &mut Words, name: Name<'_>) {
+fn put_meant(text: &mut TextBuilder, name: Name<'_>) {
     text.put(" (is ").name(name);
     text.put(" meant? its actor is ").put(name.text).put(")");
 }

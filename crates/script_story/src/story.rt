@@ -3,7 +3,7 @@
 ghost use Rattle.std.specs.Prelude.{◌≡◌};
 ghost use Rattle.script_story.specs.Paths.{path_at};
 
-use explanation_text::{Name, Words};
+use explanation_text::{Name, TextBuilder};
 use negotiation_inputs::Constraints;
 use script_reading::Act;
 use std::alloc::{AllocError, Global};
@@ -12,7 +12,7 @@ use sysmem_tree::{NodeKind, NodeState};
 
 /// A call, with its answer.
 #[derive(Clone, Copy)]
-pub struct Made<'a> {
+pub struct MadeCall<'a> {
     pub act: Act<'a>,
     /// The name on which it is made.
     pub on: &'a str,
@@ -24,9 +24,9 @@ pub struct Made<'a> {
     pub reply: &'a str,
 }
 
-impl<'a> Made<'a> {
+impl<'a> MadeCall<'a> {
     /// Puts the name on which it is made after a text.
-    pub fn put_on(&self, text: &mut Words) {
+    pub fn put_on(&self, text: &mut TextBuilder) {
         match self.node {
             Some(node) => text.name(Name {
                 node,
@@ -169,7 +169,7 @@ impl<'a> Domain<'a> {
 
 /// What a script's calls did.
 pub struct Story<'a> {
-    pub calls: Vec<Made<'a>>,
+    pub calls: Vec<MadeCall<'a>>,
     pub nodes: Vec<Node<'a>>,
     pub domains: Vec<Domain<'a>>,
     /// The domains by index, in the order of the report.
@@ -241,7 +241,7 @@ impl<'a> Story<'a> {
     }
 
     /// The call of this number, from 1.
-    pub fn call(&self, number: usize) -> Option<&Made<'a>> {
+    pub fn call(&self, number: usize) -> Option<&MadeCall<'a>> {
         match number.checked_sub(1) {
             Some(index) => self.calls.get(index),
             None => None,

@@ -7,10 +7,10 @@ ghost use Rattle.script_story.specs.Told.{AreTold, IsOn};
 ghost use Rattle.sysmem_tree.specs.Domain.{HasDomain};
 ghost use Rattle.sysmem_tree.specs.Nodes.{HasNode};
 
-use crate::story::{Domain, Made, Milestones, Node, Story, first_word};
+use crate::story::{Domain, MadeCall, Milestones, Node, Story, first_word};
 use crate::words::{is_domain_line, reply_in, said_on};
 use certificate_text::push_path;
-use explanation_text::Gathered;
+use explanation_text::ListBuilder;
 use script_faults::actor_of;
 use script_reading::Call;
 use script_replay::Replayed;
@@ -50,7 +50,7 @@ fn calls_of<'a>(
     value: &'a Value,
     calls: &[Call<'a>],
     told: &'a Replayed,
-) -> Result<Vec<Made<'a>>, AllocError> {
+) -> Result<Vec<MadeCall<'a>>, AllocError> {
     let mut made = Vec::new(alloc);
     let values = match value.get("calls") {
         Some(Value::Array(values)) => values.as_slice(),
@@ -63,7 +63,7 @@ fn calls_of<'a>(
             Some(value) => actor_of(value),
             None => "",
         };
-        made.push(Made {
+        made.push(MadeCall {
             act: call.act,
             on: call.on,
             place: call.place,
@@ -79,7 +79,7 @@ fn calls_of<'a>(
 }
 
 fn nodes_of<'a>(alloc: Global, tree: &'a Tree) -> Result<Vec<Node<'a>>, AllocError> {
-    let mut nodes = Gathered::new(alloc);
+    let mut nodes = ListBuilder::new(alloc);
     for number in 0..tree.node_count() {
         if let Some(node) = tree.node(number) {
             nodes.add(node_of(alloc, tree, node)?);
@@ -146,7 +146,7 @@ fn name_nodes<'a>(nodes: &mut [Node<'a>], calls: &[Call<'a>], told: &Replayed) {
 }
 
 /// Keeps at each node which calls did something to it.
-fn note_deeds(nodes: &mut [Node<'_>], calls: &[Made<'_>]) {
+fn note_deeds(nodes: &mut [Node<'_>], calls: &[MadeCall<'_>]) {
     for (index, call) in calls.iter().enumerate() {
         let (true, Some(number)) = (call.is_accepted(), call.node) else {
             continue;

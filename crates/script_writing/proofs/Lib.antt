@@ -3,6 +3,5 @@ pub mod Growing
 pub mod Names
 pub mod Plain
 pub mod Reading
-pub mod Spaced
 pub mod Spelled
 pub mod Texts

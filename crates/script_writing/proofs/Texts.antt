@@ -23,7 +23,7 @@ use Rattle.script_reading.specs.Call.{ActFacts, duplicates, binds, states, creat
 use Rattle.script_writing.specs.Call.{WrittenCall, HasNames, call_data, member_if, stated_by, stated_text, text_if, text_member}
 use Rattle.script_writing.specs.Script.{IsCallSpelled, IsSpelled, calls_text, script_data, script_text}
 use Rattle.script_writing.proofs.Names.{IsUnescaped, name_plain, if_plain}
-use Rattle.script_writing.proofs.Spaced.{Piece, ends_after, gaps_of_both, gaps_of_plain, plain, print_plain, tokens_in, tokens_in_both, tokens_in_plain, tokens_line}
+use Rattle.json_lemmas.proofs.CallerLemmas.{Piece, ends_after, gaps_of_both, gaps_of_plain, plain, print_plain, tokens_in, tokens_in_both, tokens_in_plain, tokens_line}
 
 -- ---- what tokens leave
 

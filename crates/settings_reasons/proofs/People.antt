@@ -16,7 +16,7 @@ use Rattle.negotiation_inputs.specs.Participant.{Participant}
 use Rattle.negotiation_inputs.specs.Platform.{PlatformFacts}
 use Rattle.settings_reasons.specs.declared.rows.Reason.{Reason}
 use Rattle.settings_reasons.specs.True.{AreInTheWay, IsLineReason, IsPlaceReason}
-use Rattle.value_sources.specs.declared.asked.Asked.{Asked}
+use Rattle.value_sources.specs.declared.participant.NamedParticipant.{NamedParticipant}
 use Rattle.value_sources.specs.Sources.{all_asked}
 
 -- what is read of each, of one more
@@ -26,24 +26,24 @@ map_more f xs i x there is =
     ∙ (sym (map-append f (take i xs) (get_or xs i x ∷ [])) ∙ ap (map f) (sym (take_more xs i x there)))
 
 -- what all ask, with one more
-pub all_more : (people : List Asked) (i : ℕ) (one : Asked) → i < length people → one ≡ get_or people i one → all_asked (take i people) ++ one.asked.now ∷ [] ≡ all_asked (take (i + 1) people)
-all_more people i one there is = map_more (λ o. o.asked.now) people i one there is
+pub all_more : (participants : List NamedParticipant) (i : ℕ) (one : NamedParticipant) → i < length participants → one ≡ get_or participants i one → all_asked (take i participants) ++ one.asked.now ∷ [] ≡ all_asked (take (i + 1) participants)
+all_more participants i one there is = map_more (λ o. o.asked.now) participants i one there is
 
 -- what is read of what each asks, of one more
-pub asked_more : {Y : Type 0} (f : Participant → Y) (people : List Asked) (i : ℕ) (one : Asked) → i < length people → one ≡ get_or people i one → map f (all_asked (take i people)) ++ f one.asked.now ∷ [] ≡ map f (all_asked (take (i + 1) people))
-asked_more f people i one there is =
-    sym (map-append f (all_asked (take i people)) (one.asked.now ∷ [])) ∙ ap (map f) (all_more people i one there is)
+pub asked_more : {Y : Type 0} (f : Participant → Y) (participants : List NamedParticipant) (i : ℕ) (one : NamedParticipant) → i < length participants → one ≡ get_or participants i one → map f (all_asked (take i participants)) ++ f one.asked.now ∷ [] ≡ map f (all_asked (take (i + 1) participants))
+asked_more f participants i one there is =
+    sym (map-append f (all_asked (take i participants)) (one.asked.now ∷ [])) ∙ ap (map f) (all_more participants i one there is)
 
 -- a demand of these parts
 abbrev demand_of : MemoryWishes → Usage → PlaceDemand
 demand_of m u = record { memory = m; usage = u }
 
 -- what is asked of a place, with one more
-pub demands_more : (people : List Asked) (i : ℕ) (one : Asked) (m : MemoryWishes) (u : Usage) → i < length people → one ≡ get_or people i one → m ≡ one.asked.now.memory → u ≡ one.asked.now.usage
-    → place_demands (all_asked (take i people)) ++ demand_of m u ∷ [] ≡ place_demands (all_asked (take (i + 1) people))
-demands_more people i one m u there is memory usage =
+pub demands_more : (participants : List NamedParticipant) (i : ℕ) (one : NamedParticipant) (m : MemoryWishes) (u : Usage) → i < length participants → one ≡ get_or participants i one → m ≡ one.asked.now.memory → u ≡ one.asked.now.usage
+    → place_demands (all_asked (take i participants)) ++ demand_of m u ∷ [] ≡ place_demands (all_asked (take (i + 1) participants))
+demands_more participants i one m u there is memory usage =
     let same : demand_of m u ≡ place_demand one.asked.now = λ j. record { memory = memory j; usage = usage j } in
-    ap (λ d. place_demands (all_asked (take i people)) ++ d ∷ []) same ∙ asked_more place_demand people i one there is
+    ap (λ d. place_demands (all_asked (take i participants)) ++ d ∷ []) same ∙ asked_more place_demand participants i one there is
 
 -- what is said of no value holds where there is none
 pub none_means : {A : Type 0} (o : Option A) (P : Type 0) (b : Bool) → is_some o ≡ not b → IfNone o P → IsTrue b → P
@@ -56,26 +56,26 @@ err_means (Err e) P b same holds is = holds
 err_means (Ok x) P b same holds is = absurd (cc)
 
 -- one more line, which is true of all
-pub line_more : (whole : Bool) (offer : Offer) (old new : List Reason) (reason : Reason) (people : List Asked) → new ≡ old ++ reason ∷ [] → reason.people.items ≡ people → All (IsLineReason whole offer) old
-    → IsRefusingLine whole offer (offer_demands (all_asked people)) reason.field → All (IsLineReason whole offer) new
-line_more whole offer old new reason people pushed named all line =
+pub line_more : (whole : Bool) (offer : Offer) (old new : List Reason) (reason : Reason) (participants : List NamedParticipant) → new ≡ old ++ reason ∷ [] → reason.participants.items ≡ participants → All (IsLineReason whole offer) old
+    → IsRefusingLine whole offer (offer_demands (all_asked participants)) reason.field → All (IsLineReason whole offer) new
+line_more whole offer old new reason participants pushed named all line =
     subst (All (IsLineReason whole offer)) (sym pushed)
     (All-push (IsLineReason whole offer) old reason all (subst (λ ps. IsRefusingLine whole offer (offer_demands (all_asked ps)) reason.field) (sym named) line))
 
 -- the same participants are in the way
-pub same_in_the_way : (platform : PlatformFacts) (people some other : List Asked) → other ≡ some → AreInTheWay platform people some → AreInTheWay platform people other
-same_in_the_way platform people some other same way = subst (AreInTheWay platform people) (sym same) way
+pub same_in_the_way : (platform : PlatformFacts) (participants some other : List NamedParticipant) → other ≡ some → AreInTheWay platform participants some → AreInTheWay platform participants other
+same_in_the_way platform participants some other same way = subst (AreInTheWay platform participants) (sym same) way
 
 -- all are in the way, where no settings meet them
-pub all_in_the_way : (platform : PlatformFacts) (people kept : List Asked) → kept ≡ people → IsUnmet false platform (all_asked people) → AreInTheWay platform people kept
-all_in_the_way platform people kept same unmet = same_in_the_way platform people people kept same (record { unmet = unmet; among = All-contains_itself people })
+pub all_in_the_way : (platform : PlatformFacts) (participants kept : List NamedParticipant) → kept ≡ participants → IsUnmet false platform (all_asked participants) → AreInTheWay platform participants kept
+all_in_the_way platform participants kept same unmet = same_in_the_way platform participants participants kept same (record { unmet = unmet; among = All-contains_itself participants })
 
 -- so are those without one, where no settings meet these
-pub fewer_in_the_way : (platform : PlatformFacts) (people : List Asked) (node : ℕ) (kept these rest those : List Asked) → these ≡ kept → rest ≡ filter (λ one. not (one.node == node)) these → those ≡ rest
-    → AreInTheWay platform people kept → IsUnmet false platform (all_asked those) → AreInTheWay platform people rest
-fewer_in_the_way platform people node kept these rest those same left same' way unmet = record {
+pub fewer_in_the_way : (platform : PlatformFacts) (participants : List NamedParticipant) (node : ℕ) (kept these rest those : List NamedParticipant) → these ≡ kept → rest ≡ filter (λ one. not (one.node == node)) these → those ≡ rest
+    → AreInTheWay platform participants kept → IsUnmet false platform (all_asked those) → AreInTheWay platform participants rest
+fewer_in_the_way platform participants node kept these rest those same left same' way unmet = record {
   unmet = subst (λ ps. IsUnmet false platform (all_asked ps)) same' unmet;
-  among = subst (All (Contains people)) (sym (left ∙ ap (filter (λ one. not (one.node == node))) same)) (All-filter (λ one. not (one.node == node)) (Contains people) kept way.among);
+  among = subst (All (Contains participants)) (sym (left ∙ ap (filter (λ one. not (one.node == node))) same)) (All-filter (λ one. not (one.node == node)) (Contains participants) kept way.among);
 }
 
 -- one more field, which refuses the place to each

@@ -1,6 +1,6 @@
 //! Numbers and sizes that records state.
 
-use explanation_text::Words;
+use explanation_text::TextBuilder;
 use sysmem_counts::Field;
 use sysmem_image::{ImageBounds, Size, bounds_table};
 
@@ -25,7 +25,7 @@ impl Amount {
 }
 
 /// Puts what a field states after the text.
-pub(crate) fn put_amount(text: &mut Words, amount: Amount) {
+pub(crate) fn put_amount(text: &mut TextBuilder, amount: Amount) {
     match amount {
         Amount::Number(number) => {
             text.put_number(number);

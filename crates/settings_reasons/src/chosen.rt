@@ -4,59 +4,59 @@ use crate::listed::listed_before;
 use crate::offer_words::{least_side, offer_name};
 use crate::offering::{are_refused, offers_of};
 use crate::placing::{place_name, places_of};
-use crate::refusing::{place_rows, tell_offers};
-use crate::rows::tell_rows;
-use explanation_text::{Items, Words};
+use crate::refusing::{add_offers, place_rows};
+use crate::rows::add_rows;
+use explanation_text::{Items, TextBuilder};
 use negotiation_inputs::Platform;
 use std::alloc::{AllocError, Global};
 use sysmem_counts::Field;
 use sysmem_formats::{Offer, Pair, bytes_per_pixel};
 use sysmem_merge::Settings;
-use value_sources::{Asked, Derived, Side, Wishes, why_needed};
+use value_sources::{Derived, NamedParticipant, Side, Wishes, why_needed};
 
 /// Tells where the settings come from that were chosen for participants.
-pub fn tell_settings(
+pub fn add_settings(
     items: &mut Items,
     platform: &Platform,
-    people: &[Asked<'_>],
+    participants: &[NamedParticipant<'_>],
     settings: &Settings,
 ) -> Result<(), AllocError> {
-    tell_count(items, people, settings);
-    tell_place(items, platform, people, settings)?;
-    tell_offer(items, platform, people, settings)?;
+    add_count(items, participants, settings);
+    list_place(items, platform, participants, settings)?;
+    add_offer(items, platform, participants, settings)?;
     let wishes = Wishes {
-        people,
+        participants,
         offer: settings.offer,
     };
-    tell_sides(items, wishes)?;
+    add_sides(items, wishes)?;
     let size = wishes.size(items.alloc(), false);
-    tell_derived(items, "size", size);
+    add_derived(items, "size", size);
     note_size(items, wishes)
 }
 
-fn tell_count(items: &mut Items, people: &[Asked<'_>], settings: &Settings) {
-    let why = why_needed(items.alloc(), people);
+fn add_count(items: &mut Items, participants: &[NamedParticipant<'_>], settings: &Settings) {
+    let why = why_needed(items.alloc(), participants);
     let mark = if why.as_str().contains('(') {
         " = "
     } else {
         ": "
     };
-    let mut words = Words::new(items.alloc());
+    let mut words = TextBuilder::new(items.alloc());
     words.put_number(settings.count).put(mark).put_words(&why);
     items.say(1, "count", words)
 }
 
 /// Tells a number, and where it comes from; refuses the items where memory was refused to that.
-fn tell_derived(items: &mut Items, label: &'static str, derived: Result<Derived, AllocError>) {
+fn add_derived(items: &mut Items, label: &'static str, derived: Result<Derived, AllocError>) {
     match derived {
-        Ok(derived) => tell_number(items, label, &derived),
+        Ok(derived) => add_number(items, label, &derived),
         Err(AllocError) => items.refuse(),
     }
 }
 
 /// Tells a number, and where it comes from.
-fn tell_number(items: &mut Items, label: &'static str, derived: &Derived) {
-    let mut words = Words::new(items.alloc());
+fn add_number(items: &mut Items, label: &'static str, derived: &Derived) {
+    let mut words = TextBuilder::new(items.alloc());
     words
         .put_number(derived.value)
         .put(": ")
@@ -82,7 +82,7 @@ fn note_side(items: &mut Items, wishes: Wishes<'_, '_>, side: Side) -> Result<()
     if value <= asked.saturating_mul(2).max(32) {
         return Ok(());
     }
-    let mut words = Words::of(items.alloc(), "the ");
+    let mut words = TextBuilder::of(items.alloc(), "the ");
     words.put(side.name()).put(" is ").put_number(value);
     words.put(", more than twice the ").put_number(asked);
     words
@@ -102,7 +102,7 @@ fn note_row(items: &mut Items, wishes: Wishes<'_, '_>) -> Result<(), AllocError>
     if row <= packed.saturating_mul(2).max(512) {
         return Ok(());
     }
-    let mut words = Words::of(alloc, "a row is ");
+    let mut words = TextBuilder::of(alloc, "a row is ");
     words.put_number(row).put(" bytes, more than twice the ");
     words
         .put_number(packed)
@@ -112,68 +112,82 @@ fn note_row(items: &mut Items, wishes: Wishes<'_, '_>) -> Result<(), AllocError>
 }
 
 /// Tells the place, and who refused each of those before it.
-fn tell_place(
+fn list_place(
     items: &mut Items,
     platform: &Platform,
-    people: &[Asked<'_>],
+    participants: &[NamedParticipant<'_>],
     settings: &Settings,
 ) -> Result<(), AllocError> {
     let alloc = items.alloc();
     items.say(1, "place", place_name(alloc, platform, settings.place));
     let places = places_of(alloc, platform)?;
     let earlier = before(&places, &settings.place);
-    let rows = place_rows(alloc, platform, earlier, people, false)?;
-    tell_rows(items, 2, "not ", &rows, usize::MAX, "places before it");
+    let rows = place_rows(alloc, platform, earlier, participants, false)?;
+    add_rows(items, 2, "not ", &rows, usize::MAX, "places before it");
     Ok(())
 }
 
 /// Tells the offer, and who refused each of those before it.
-fn tell_offer(
+fn add_offer(
     items: &mut Items,
     platform: &Platform,
-    people: &[Asked<'_>],
+    participants: &[NamedParticipant<'_>],
     settings: &Settings,
 ) -> Result<(), AllocError> {
     let alloc = items.alloc();
     let name = match settings.offer {
-        Offer::NoImage => Words::of(alloc, "none"),
+        Offer::NoImage => TextBuilder::of(alloc, "none"),
         offer => offer_name(alloc, &offer),
     };
     items.say(1, "image", name);
     let offers = offers_of(alloc, platform)?;
     let earlier = before(&offers, &settings.offer);
-    tell_offers(items, platform, people, earlier, "not ", "offers before it")?;
-    tell_listed(items, platform, people, settings)
+    add_offers(
+        items,
+        platform,
+        participants,
+        earlier,
+        "not ",
+        "offers before it",
+    )?;
+    add_listed(items, platform, participants, settings)
 }
 
 /// Tells who refuses each pair that participants list before the chosen one, where all its offers
 /// are refused: such a pair stands later on the platform.
-fn tell_listed(
+fn add_listed(
     items: &mut Items,
     platform: &Platform,
-    people: &[Asked<'_>],
+    participants: &[NamedParticipant<'_>],
     settings: &Settings,
 ) -> Result<(), AllocError> {
     let Offer::Image(chosen, _) = settings.offer else {
         return Ok(());
     };
-    let pairs = listed_before(items.alloc(), platform, people, chosen)?;
+    let pairs = listed_before(items.alloc(), platform, participants, chosen)?;
     for pair in &pairs {
-        tell_pair(items, platform, people, *pair)?;
+        list_pair(items, platform, participants, *pair)?;
     }
     Ok(())
 }
 
 /// Tells who refuses a pair, where all its offers are refused.
-fn tell_pair(
+fn list_pair(
     items: &mut Items,
     platform: &Platform,
-    people: &[Asked<'_>],
+    participants: &[NamedParticipant<'_>],
     pair: Pair,
 ) -> Result<(), AllocError> {
     let offers = offers_with(items.alloc(), platform, pair)?;
-    if are_refused(&offers, people, true) {
-        return tell_offers(items, platform, people, &offers, "nor ", "offers after it");
+    if are_refused(&offers, participants, true) {
+        return add_offers(
+            items,
+            platform,
+            participants,
+            &offers,
+            "nor ",
+            "offers after it",
+        );
     }
     Ok(())
 }
@@ -198,21 +212,21 @@ fn before<'a, T: PartialEq>(list: &'a [T], one: &T) -> &'a [T] {
 }
 
 /// Tells where an image's width, height and row come from.
-fn tell_sides(items: &mut Items, wishes: Wishes<'_, '_>) -> Result<(), AllocError> {
+fn add_sides(items: &mut Items, wishes: Wishes<'_, '_>) -> Result<(), AllocError> {
     let Offer::Image(_, _) = wishes.offer else {
         return Ok(());
     };
     let alloc = items.alloc();
     let width = wishes.side(alloc, Side::Width)?;
-    tell_width(items, &width, &wishes.side(alloc, Side::Height)?);
-    tell_derived(items, "row", wishes.row(alloc, false));
+    add_width(items, &width, &wishes.side(alloc, Side::Height)?);
+    add_derived(items, "row", wishes.row(alloc, false));
     Ok(())
 }
 
 /// Tells where an image's width and height come from: both at once, if from the same.
-fn tell_width(items: &mut Items, width: &Derived, height: &Derived) {
+fn add_width(items: &mut Items, width: &Derived, height: &Derived) {
     if width.why == height.why {
-        let mut words = Words::new(items.alloc());
+        let mut words = TextBuilder::new(items.alloc());
         words
             .put_number(width.value)
             .put("x")
@@ -220,6 +234,6 @@ fn tell_width(items: &mut Items, width: &Derived, height: &Derived) {
         words.put(": ").put_text(&width.why);
         return items.say(1, "pixels", words);
     }
-    tell_number(items, "width", width);
-    tell_number(items, "height", height)
+    add_number(items, "width", width);
+    add_number(items, "height", height)
 }

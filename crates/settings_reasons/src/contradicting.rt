@@ -2,11 +2,11 @@
 
 use crate::amounts::{Amount, amount_at, put_amount};
 use crate::offer_words::pair_name;
-use explanation_text::{Items, Words};
+use explanation_text::{Items, TextBuilder};
 use negotiation_inputs::Constraints;
 use sysmem_counts::Field;
 use sysmem_image::{Entry, ImageBounds};
-use value_sources::Asked;
+use value_sources::NamedParticipant;
 
 /// How many are told.
 const MOST: usize = 4;
@@ -30,31 +30,35 @@ struct Clash {
 }
 
 /// Tells who contradicts itself, before all else that is in the way.
-pub(crate) fn tell_contradictions(items: &mut Items, depth: usize, people: &[Asked<'_>]) {
+pub(crate) fn add_contradictions(
+    items: &mut Items,
+    depth: usize,
+    participants: &[NamedParticipant<'_>],
+) {
     let most = items.len().saturating_add(MOST);
-    for one in people {
+    for one in participants {
         if let Some(clash) = whole_clash(one.asked) {
-            tell_clash(items, depth, *one, clash, None);
+            add_clash(items, depth, *one, clash, None);
         }
         for entry in one.asked.entries() {
             if items.len() >= most {
                 return;
             }
             if let Some(clash) = entry_clash(&entry.bounds.asked) {
-                tell_clash(items, depth, *one, clash, Some(entry));
+                add_clash(items, depth, *one, clash, Some(entry));
             }
         }
     }
 }
 
-fn tell_clash(
+fn add_clash(
     items: &mut Items,
     depth: usize,
-    one: Asked<'_>,
+    one: NamedParticipant<'_>,
     clash: Clash,
     entry: Option<&Entry>,
 ) {
-    let mut text = Words::of_name(items.alloc(), one.called());
+    let mut text = TextBuilder::of_name(items.alloc(), one.called());
     text.put(" contradicts itself: ")
         .field(clash.least)
         .put(" ");
@@ -68,7 +72,7 @@ fn tell_clash(
 }
 
 /// Puts in which entry it is after a text.
-fn put_entry(text: &mut Words, entry: &Entry) {
+fn put_entry(text: &mut TextBuilder, entry: &Entry) {
     let pair = pair_name(text.alloc(), entry.format, entry.modifier);
     text.put(", in its entry for ").put_words(&pair);
 }

@@ -5,76 +5,76 @@ ghost use Rattle.settings_reasons.specs.True.{AreInTheWay};
 ghost use Rattle.sysmem_merge.specs.Best.{IsUnmet};
 ghost use Rattle.value_sources.specs.Sources.{all_asked};
 
-use crate::contradicting::tell_contradictions;
-use crate::lacking::{tell_no_heaps, tell_no_images};
+use crate::contradicting::add_contradictions;
+use crate::lacking::{add_no_heaps, add_no_images};
 use crate::offering::{are_refused, offers_of};
 use crate::placing::{has_no_place, places_of};
 use crate::refusing::{offer_rows, place_rows};
-use crate::rows::{nearest, tell_rows};
+use crate::rows::{add_rows, nearest};
 use explanation_text::wording::MOST_NAMES;
-use explanation_text::{Items, Words};
+use explanation_text::{Items, TextBuilder};
 use negotiation_inputs::Platform;
 use std::alloc::{AllocError, Global};
 use sysmem_counts::Field;
 use sysmem_formats::Offer;
 use sysmem_merge::Aggregate;
-use value_sources::{Asked, count_text, is_count_line, put_people};
+use value_sources::{NamedParticipant, count_text, is_count_line, put_participants};
 
 /// The two lines on a count.
 const COUNTS: [Field; 2] = [Field::MaxBufferCount, Field::BufferCountLimit];
 
 /// Tells why no settings meet participants, who are all that a decision has if `whole` says so.
-pub fn tell_conflict(
+pub fn add_conflict(
     items: &mut Items,
     depth: usize,
     platform: &Platform,
-    people: &[Asked<'_>],
+    participants: &[NamedParticipant<'_>],
     whole: bool,
 ) -> Result<(), AllocError> {
-    tell_contradictions(items, depth, people);
-    tell_in_the_way(items, depth, platform, people)?;
-    tell_counts(items, depth, people);
-    tell_places(items, depth, platform, people)?;
-    tell_offers(items, depth, platform, people, whole)
+    add_contradictions(items, depth, participants);
+    add_in_the_way(items, depth, platform, participants)?;
+    add_counts(items, depth, participants);
+    list_places(items, depth, platform, participants)?;
+    add_offers(items, depth, platform, participants, whole)
 }
 
 /// Tells why no count suits participants, where none does.
-fn tell_counts(items: &mut Items, depth: usize, people: &[Asked<'_>]) {
+fn add_counts(items: &mut Items, depth: usize, participants: &[NamedParticipant<'_>]) {
     for field in COUNTS {
-        if is_count_line(field, people) {
-            let text = count_text(items.alloc(), field, people);
+        if is_count_line(field, participants) {
+            let text = count_text(items.alloc(), field, participants);
             items.say(depth, "count", text);
         }
     }
 }
 
 /// Tells who refuses each place, where somebody does.
-fn tell_places(
+fn list_places(
     items: &mut Items,
     depth: usize,
     platform: &Platform,
-    people: &[Asked<'_>],
+    participants: &[NamedParticipant<'_>],
 ) -> Result<(), AllocError> {
-    if !has_no_place(platform, people) {
+    if !has_no_place(platform, participants) {
         return Ok(());
     }
-    tell_place_rows(items, depth, platform, people)?;
-    tell_no_heaps(items, depth, platform, people)
+    add_place_rows(items, depth, platform, participants)?;
+    add_no_heaps(items, depth, platform, participants)
 }
 
 /// Tells who refuses each place.
-fn tell_place_rows(
+fn add_place_rows(
     items: &mut Items,
     depth: usize,
     platform: &Platform,
-    people: &[Asked<'_>],
+    participants: &[NamedParticipant<'_>],
 ) -> Result<(), AllocError> {
     let alloc = items.alloc();
     let places = places_of(alloc, platform)?;
     items.say(depth, "place", none_of(alloc, "place", places.len()));
-    let rows = place_rows(alloc, platform, &places, people, true)?;
+    let rows = place_rows(alloc, platform, &places, participants, true)?;
     let below = depth.saturating_add(1);
-    tell_rows(
+    add_rows(
         items,
         below,
         "",
@@ -86,42 +86,42 @@ fn tell_place_rows(
 }
 
 /// Tells who refuses each offer, where somebody does.
-fn tell_offers(
+fn add_offers(
     items: &mut Items,
     depth: usize,
     platform: &Platform,
-    people: &[Asked<'_>],
+    participants: &[NamedParticipant<'_>],
     whole: bool,
 ) -> Result<(), AllocError> {
     let offers = offers_of(items.alloc(), platform)?;
-    if !are_refused(&offers, people, whole) {
+    if !are_refused(&offers, participants, whole) {
         return Ok(());
     }
-    tell_offer_rows(items, depth, platform, &offers, people, whole)?;
-    tell_no_images(items, depth, platform, people)
+    add_offer_rows(items, depth, platform, &offers, participants, whole)?;
+    add_no_images(items, depth, platform, participants)
 }
 
 /// Tells who refuses each of a platform's offers.
-fn tell_offer_rows(
+fn add_offer_rows(
     items: &mut Items,
     depth: usize,
     platform: &Platform,
     offers: &[Offer],
-    people: &[Asked<'_>],
+    participants: &[NamedParticipant<'_>],
     whole: bool,
 ) -> Result<(), AllocError> {
     let alloc = items.alloc();
     items.say(depth, "image", none_of(alloc, "offer", offers.len()));
     let colours = platform.colours().len();
-    let rows = offer_rows(alloc, offers, people, whole, true, colours)?;
+    let rows = offer_rows(alloc, offers, participants, whole, true, colours)?;
     let far = nearest(&rows).saturating_add(1);
     let below = depth.saturating_add(1);
-    tell_rows(items, below, "", &rows, far, "offers are refused too");
+    add_rows(items, below, "", &rows, far, "offers are refused too");
     Ok(())
 }
 
-fn none_of(alloc: Global, what: &str, count: usize) -> Words {
-    let mut words = Words::new(alloc);
+fn none_of(alloc: Global, what: &str, count: usize) -> TextBuilder {
+    let mut words = TextBuilder::new(alloc);
     if count == 1 {
         words.put("the only ").put(what).put(" fails:");
         return words;
@@ -145,16 +145,16 @@ const MOST_ASKED: usize = 1024;
 pub fn is_unmet(
     alloc: Global,
     platform: &Platform,
-    people: &[Asked<'_>],
+    participants: &[NamedParticipant<'_>],
 ) -> Result<bool, AllocError>
     ensures { IfOk result
-        (λ unmet. IsTrue unmet → IsUnmet false platform.now (all_asked people.now)) }
+        (λ unmet. IsTrue unmet → IsUnmet false platform.now (all_asked participants.now)) }
 {
-    if people.len() > MOST_ASKED {
+    if participants.len() > MOST_ASKED {
         return Ok(false);
     }
     let mut asked = Aggregate::new(alloc, platform)?;
-    for one in people {
+    for one in participants {
         asked.add(one.asked)?;
     }
     Ok(asked.best_settings(false).is_err())
@@ -165,16 +165,16 @@ pub fn is_unmet(
 pub fn in_the_way<'a>(
     alloc: Global,
     platform: &Platform,
-    people: &[Asked<'a>],
-) -> Result<Option<Vec<Asked<'a>>>, AllocError>
+    participants: &[NamedParticipant<'a>],
+) -> Result<Option<Vec<NamedParticipant<'a>>>, AllocError>
     ensures { IfOk result (λ found. IfSome found
-        (λ some. AreInTheWay platform.now people.now some.items)) }
+        (λ some. AreInTheWay platform.now participants.now some.items)) }
 {
-    if !is_unmet(alloc, platform, people)? {
+    if !is_unmet(alloc, platform, participants)? {
         return Ok(None);
     }
-    let mut kept = Vec::from_slice(alloc, people)?;
-    for one in people {
+    let mut kept = Vec::from_slice(alloc, participants)?;
+    for one in participants {
         let rest = all_but(alloc, &kept, one.node)?;
         if is_unmet(alloc, platform, &rest)? {
             kept = rest;
@@ -184,20 +184,20 @@ pub fn in_the_way<'a>(
 }
 
 /// Tells those who leave no settings by themselves; or who can't be met even alone.
-fn tell_in_the_way(
+fn add_in_the_way(
     items: &mut Items,
     depth: usize,
     platform: &Platform,
-    people: &[Asked<'_>],
+    participants: &[NamedParticipant<'_>],
 ) -> Result<(), AllocError> {
     let alloc = items.alloc();
-    let Some(kept) = in_the_way(alloc, platform, people)? else {
+    let Some(kept) = in_the_way(alloc, platform, participants)? else {
         return Ok(());
     };
-    let others = people.len().saturating_sub(kept.len());
+    let others = participants.len().saturating_sub(kept.len());
     let text = unmet_text(alloc, "in the way", platform, &kept, others);
     items.say(depth, "", text);
-    tell_others_in_the_way(items, depth, platform, people, &kept)
+    add_others_in_the_way(items, depth, platform, participants, &kept)
 }
 
 /// Who leave no settings by themselves, whatever so many others ask; of one who is given no place
@@ -206,22 +206,22 @@ fn unmet_text(
     alloc: Global,
     start: &str,
     platform: &Platform,
-    people: &[Asked<'_>],
+    participants: &[NamedParticipant<'_>],
     others: usize,
-) -> Words {
-    let mut text = Words::of(alloc, start);
+) -> TextBuilder {
+    let mut text = TextBuilder::of(alloc, start);
     text.put(": ");
-    put_unmet(&mut text, people, others);
-    if people.len() == 1 && has_no_place(platform, people) {
+    put_unmet(&mut text, participants, others);
+    if participants.len() == 1 && has_no_place(platform, participants) {
         text.put(": the platform has no place for it");
     }
     text
 }
 
 /// Puts who leave no settings by themselves, whatever so many others ask, after a text.
-fn put_unmet(text: &mut Words, people: &[Asked<'_>], others: usize) {
-    put_people(text, people);
-    match (people.len(), others) {
+fn put_unmet(text: &mut TextBuilder, participants: &[NamedParticipant<'_>], others: usize) {
+    put_participants(text, participants);
+    match (participants.len(), others) {
         (1, _) => {
             text.put(" can't be met even by itself");
         }
@@ -238,34 +238,34 @@ fn put_unmet(text: &mut Words, people: &[Asked<'_>], others: usize) {
 }
 
 /// Tells others who leave no settings by themselves: without one of those who are told, and so on.
-fn tell_others_in_the_way<'a>(
+fn add_others_in_the_way<'a>(
     items: &mut Items,
     depth: usize,
     platform: &Platform,
-    people: &[Asked<'a>],
-    told: &[Asked<'a>],
+    participants: &[NamedParticipant<'a>],
+    told: &[NamedParticipant<'a>],
 ) -> Result<(), AllocError> {
-    let mut last = tell_next(items, depth, platform, people, told)?;
+    let mut last = add_next(items, depth, platform, participants, told)?;
     for _set in 1..MOST_SETS {
         let Some(others) = &last else {
             break;
         };
-        last = tell_next(items, depth, platform, &others.rest, &others.kept)?;
+        last = add_next(items, depth, platform, &others.rest, &others.kept)?;
     }
     Ok(())
 }
 
 /// Tells who leave no settings by themselves without one of some; `None` where nobody does, or too
 /// many to be told.
-fn tell_next<'a>(
+fn add_next<'a>(
     items: &mut Items,
     depth: usize,
     platform: &Platform,
-    people: &[Asked<'a>],
-    some: &[Asked<'a>],
+    participants: &[NamedParticipant<'a>],
+    some: &[NamedParticipant<'a>],
 ) -> Result<Option<Others<'a>>, AllocError> {
     let alloc = items.alloc();
-    match without_one(alloc, platform, people, some)? {
+    match without_one(alloc, platform, participants, some)? {
         Some(others) if others.kept.len() <= MOST_NAMES => {
             let text = unmet_text(alloc, "also in the way", platform, &others.kept, 0);
             items.say(depth, "", text);
@@ -278,8 +278,8 @@ fn tell_next<'a>(
 /// Participants, and some of them who leave no settings by themselves.
 #[derive(Drop)]
 struct Others<'a> {
-    rest: Vec<Asked<'a>>,
-    kept: Vec<Asked<'a>>,
+    rest: Vec<NamedParticipant<'a>>,
+    kept: Vec<NamedParticipant<'a>>,
 }
 
 /// Participants without one of some, and who of them leave no settings; `None` where without each
@@ -287,11 +287,11 @@ struct Others<'a> {
 fn without_one<'a>(
     alloc: Global,
     platform: &Platform,
-    people: &[Asked<'a>],
-    some: &[Asked<'a>],
+    participants: &[NamedParticipant<'a>],
+    some: &[NamedParticipant<'a>],
 ) -> Result<Option<Others<'a>>, AllocError> {
     for one in some {
-        let rest = all_but(alloc, people, one.node)?;
+        let rest = all_but(alloc, participants, one.node)?;
         if let Some(kept) = in_the_way(alloc, platform, &rest)? {
             return Ok(Some(Others { rest, kept }));
         }
@@ -302,13 +302,13 @@ fn without_one<'a>(
 /// The participants without the one of this number.
 fn all_but<'a>(
     alloc: Global,
-    people: &[Asked<'a>],
+    participants: &[NamedParticipant<'a>],
     node: usize,
-) -> Result<Vec<Asked<'a>>, AllocError>
+) -> Result<Vec<NamedParticipant<'a>>, AllocError>
     ensures { IfOk result
-        (λ rest. rest.items ≡ filter (λ one. not (one.node == node)) people.now) }
+        (λ rest. rest.items ≡ filter (λ one. not (one.node == node)) participants.now) }
 {
-    people
+    participants
         .iter()
         .copied()
         .filter(|one| one.node != node)

@@ -7,8 +7,8 @@ use crate::amounts::{amount_at, put_amount};
 use crate::offer_words::{offer_name, put_offer_reason};
 use crate::offering::{are_refused, offers_of};
 use crate::placing::{put_place, put_place_reason};
-use crate::refusing::tell_offers;
-use explanation_text::{Gathered, Items, Words};
+use crate::refusing::add_offers;
+use explanation_text::{Items, ListBuilder, TextBuilder};
 use negotiation_inputs::{Constraints, Platform};
 use std::alloc::{AllocError, Global};
 use sysmem_counts::Field;
@@ -16,7 +16,7 @@ use sysmem_formats::Offer;
 use sysmem_image::{bounds_table, entry_for, takes_colour};
 use sysmem_memory::PLACE_FIELDS;
 use sysmem_merge::{Settings, fails_in};
-use value_sources::Asked;
+use value_sources::NamedParticipant;
 
 macro_rules! failing_fields {
     (() $($name:ident: $shape:ident $rule:ident $field:ident $absent:ident $range:ident,)*) => {
@@ -36,19 +36,19 @@ const FIELDS: &[Field] = bounds_table!(failing_fields!());
 
 /// Tells in which fields settings fail participants who come late, and who of those before refuses
 /// the images that they take.
-pub fn tell_misfits(
+pub fn list_misfits(
     items: &mut Items,
     platform: &Platform,
-    people: &[Asked<'_>],
-    before: &[Asked<'_>],
+    participants: &[NamedParticipant<'_>],
+    before: &[NamedParticipant<'_>],
     settings: &Settings,
 ) -> Result<(), AllocError> {
     let start = items.len();
-    for one in people {
-        tell_misfit(items, platform, one, before, settings)?;
+    for one in participants {
+        add_misfit(items, platform, one, before, settings)?;
     }
     if items.len() == start {
-        let mut words = Words::new(items.alloc());
+        let mut words = TextBuilder::new(items.alloc());
         words
             .put_number(settings.count)
             .put(" buffers were decided: too few for these");
@@ -58,11 +58,11 @@ pub fn tell_misfits(
     Ok(())
 }
 
-fn tell_misfit(
+fn add_misfit(
     items: &mut Items,
     platform: &Platform,
-    one: &Asked<'_>,
-    before: &[Asked<'_>],
+    one: &NamedParticipant<'_>,
+    before: &[NamedParticipant<'_>],
     settings: &Settings,
 ) -> Result<(), AllocError> {
     let fields = failing(items.alloc(), platform, settings, one.asked)?;
@@ -70,7 +70,7 @@ fn tell_misfit(
         let text = misfit_text(items.alloc(), platform, settings, one, *field);
         items.say(1, "misfit", text);
         if matches!(field, Field::PixelFormat | Field::ColorSpaces) {
-            tell_refused(items, platform, one, before)?;
+            list_refused(items, platform, one, before)?;
         }
     }
     Ok(())
@@ -81,30 +81,30 @@ fn misfit_text(
     alloc: Global,
     platform: &Platform,
     settings: &Settings,
-    one: &Asked<'_>,
+    one: &NamedParticipant<'_>,
     field: Field,
-) -> Words {
-    let mut text = Words::new(alloc);
+) -> TextBuilder {
+    let mut text = TextBuilder::new(alloc);
     put_misfit(&mut text, platform, settings, one, field);
     text
 }
 
 /// Tells who of those before refuses the images that a participant takes; or that nobody does, and
 /// the platform has what was decided before them.
-fn tell_refused(
+fn list_refused(
     items: &mut Items,
     platform: &Platform,
-    one: &Asked<'_>,
-    before: &[Asked<'_>],
+    one: &NamedParticipant<'_>,
+    before: &[NamedParticipant<'_>],
 ) -> Result<(), AllocError> {
     let offers = taken(items.alloc(), platform, one.asked)?;
     for offer in &offers {
         if !are_refused(&[*offer], before, true) {
-            tell_unrefused(items, offer);
+            add_unrefused(items, offer);
             return Ok(());
         }
     }
-    tell_offers(
+    add_offers(
         items,
         platform,
         before,
@@ -115,7 +115,7 @@ fn tell_refused(
 }
 
 /// Tells that nobody refuses an offer.
-fn tell_unrefused(items: &mut Items, offer: &Offer) {
+fn add_unrefused(items: &mut Items, offer: &Offer) {
     let mut words = offer_name(items.alloc(), offer);
     words.put(" is refused by nobody before: the platform has what was decided before it");
     items.say(2, "", words)
@@ -128,7 +128,7 @@ fn taken(
     asked: &Constraints,
 ) -> Result<Vec<Offer>, AllocError> {
     let offers = offers_of(alloc, platform)?;
-    let mut taken = Gathered::new(alloc);
+    let mut taken = ListBuilder::new(alloc);
     for offer in &offers {
         match offer {
             Offer::Image(_, _) if takes(asked, offer) => taken.add(*offer),
@@ -167,10 +167,10 @@ pub fn failing(
 
 /// Puts a sentence on a field in which settings fail a participant into an empty text.
 fn put_misfit(
-    text: &mut Words,
+    text: &mut TextBuilder,
     platform: &Platform,
     settings: &Settings,
-    one: &Asked<'_>,
+    one: &NamedParticipant<'_>,
     field: Field,
 ) {
     match field {
@@ -182,17 +182,22 @@ fn put_misfit(
     }
 }
 
-fn put_offer(text: &mut Words, settings: &Settings, one: &Asked<'_>, field: Field) {
+fn put_offer(
+    text: &mut TextBuilder,
+    settings: &Settings,
+    one: &NamedParticipant<'_>,
+    field: Field,
+) {
     put_offer_reason(text, &settings.offer, field, &[*one]);
     let holds = offer_name(text.alloc(), &settings.offer);
     text.put("; the buffers are ").put_words(&holds);
 }
 
 fn put_heap(
-    text: &mut Words,
+    text: &mut TextBuilder,
     platform: &Platform,
     settings: &Settings,
-    one: &Asked<'_>,
+    one: &NamedParticipant<'_>,
     field: Field,
 ) {
     put_place_reason(text, field, &[*one]);
@@ -200,7 +205,7 @@ fn put_heap(
     put_place(text, platform, settings.place)
 }
 
-fn put_size(text: &mut Words, settings: &Settings, one: &Asked<'_>, field: Field) {
+fn put_size(text: &mut TextBuilder, settings: &Settings, one: &NamedParticipant<'_>, field: Field) {
     let memory = one.asked.memory();
     let mine = match field {
         Field::MinSizeBytes => memory.min_size_bytes,
@@ -216,7 +221,12 @@ fn put_size(text: &mut Words, settings: &Settings, one: &Asked<'_>, field: Field
         .put(" bytes");
 }
 
-fn put_bound(text: &mut Words, settings: &Settings, one: &Asked<'_>, field: Field) {
+fn put_bound(
+    text: &mut TextBuilder,
+    settings: &Settings,
+    one: &NamedParticipant<'_>,
+    field: Field,
+) {
     text.name(one.called()).put(" says ").field(field).put(" ");
     if let Some(entry) = entry_for(one.asked.entries(), &settings.offer) {
         put_amount(text, amount_at(&entry.bounds.asked, field));

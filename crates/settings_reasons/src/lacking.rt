@@ -2,36 +2,43 @@
 
 use crate::listed::is_taken;
 use crate::offer_words::pair_name;
-use crate::rows::{Row, add, tell_rows};
-use explanation_text::{Items, Text, Words};
+use crate::rows::{FailureRow, add, add_rows};
+use explanation_text::{Items, Text, TextBuilder};
 use negotiation_inputs::Platform;
 use std::alloc::AllocError;
 use sysmem_image::{ColourSet, Entry};
 use sysmem_memory::Heap;
-use value_sources::{Asked, put_has};
+use value_sources::{NamedParticipant, put_has};
 
 /// Something that a participant names.
 #[derive(Drop)]
 struct LackedName<'a> {
     name: Text,
-    people: Vec<Asked<'a>>,
+    participants: Vec<NamedParticipant<'a>>,
 }
 
 /// Tells which formats, modifiers and colour spaces participants take and the platform lacks, those
 /// that most take first.
-pub(crate) fn tell_no_images(
+pub(crate) fn add_no_images(
     items: &mut Items,
     depth: usize,
     platform: &Platform,
-    people: &[Asked<'_>],
+    participants: &[NamedParticipant<'_>],
 ) -> Result<(), AllocError> {
     let mut lacked: Vec<LackedName<'_>> = Vec::new(items.alloc());
-    for one in people {
+    for one in participants {
         for entry in one.asked.entries() {
             add_lacked(&mut lacked, platform, entry, one)?;
         }
     }
-    tell_lacked(items, depth, &lacked, people.len(), "takes it", "take it")
+    list_lacked(
+        items,
+        depth,
+        &lacked,
+        participants.len(),
+        "takes it",
+        "take it",
+    )
 }
 
 /// Adds what a participant's entry names, if the platform lacks it.
@@ -39,7 +46,7 @@ fn add_lacked<'a>(
     lacked: &mut Vec<LackedName<'a>>,
     platform: &Platform,
     entry: &Entry,
-    one: &Asked<'a>,
+    one: &NamedParticipant<'a>,
 ) -> Result<(), AllocError> {
     let has_pair = has_pair(platform, entry);
     if has_pair && has_colour(platform, entry.colours) {
@@ -53,28 +60,28 @@ fn add_lacked<'a>(
 }
 
 /// Tells which heaps participants permit and the platform lacks, those that most permit first.
-pub(crate) fn tell_no_heaps(
+pub(crate) fn add_no_heaps(
     items: &mut Items,
     depth: usize,
     platform: &Platform,
-    people: &[Asked<'_>],
+    participants: &[NamedParticipant<'_>],
 ) -> Result<(), AllocError> {
     let alloc = items.alloc();
     let mut lacked: Vec<LackedName<'_>> = Vec::new(alloc);
-    for one in people {
+    for one in participants {
         for heap in &one.asked.memory().permitted_heaps {
             if !has_heap(platform, heap) {
-                let mut name = Words::of(alloc, &heap.heap_type);
+                let mut name = TextBuilder::of(alloc, &heap.heap_type);
                 name.put("#").put_number(heap.id);
                 add_named(&mut lacked, name.into_text()?, one)?;
             }
         }
     }
-    tell_lacked(
+    list_lacked(
         items,
         depth,
         &lacked,
-        people.len(),
+        participants.len(),
         "permits it",
         "permit it",
     )
@@ -113,28 +120,28 @@ fn has_heap(platform: &Platform, heap: &Heap) -> bool {
 fn add_named<'a>(
     lacked: &mut Vec<LackedName<'a>>,
     name: Text,
-    one: &Asked<'a>,
+    one: &NamedParticipant<'a>,
 ) -> Result<(), AllocError> {
     let alloc = name.alloc();
     for known in lacked.iter_mut() {
         if known.name == name {
-            known.people.push(*one)?;
+            known.participants.push(*one)?;
             return Ok(());
         }
     }
     lacked.push(LackedName {
         name,
-        people: vec![in alloc; *one]?,
+        participants: vec![in alloc; *one]?,
     })?;
     Ok(())
 }
 
 /// Tells what is named and isn't there, by whom, those first that most of so many name.
-fn tell_lacked(
+fn list_lacked(
     items: &mut Items,
     depth: usize,
     lacked: &[LackedName<'_>],
-    people: usize,
+    participants: usize,
     one: &str,
     many: &str,
 ) -> Result<(), AllocError> {
@@ -142,29 +149,29 @@ fn tell_lacked(
         return Ok(());
     }
     let alloc = items.alloc();
-    items.say_text(depth, "lacks", "the platform doesn't have these:");
-    let mut rows: Vec<Row> = Vec::new(alloc);
+    items.list_text(depth, "lacks", "the platform doesn't have these:");
+    let mut rows: Vec<FailureRow> = Vec::new(alloc);
     for named in lacked {
-        let far = people.saturating_sub(named.people.len());
+        let far = participants.saturating_sub(named.participants.len());
         add_lacked_row(&mut rows, named, far, one, many)?;
     }
     let below = depth.saturating_add(1);
-    tell_rows(items, below, "", &rows, usize::MAX, "aren't there either");
+    add_rows(items, below, "", &rows, usize::MAX, "aren't there either");
     Ok(())
 }
 
 /// Adds a name with what those do who name it to the rows.
 fn add_lacked_row(
-    rows: &mut Vec<Row>,
+    rows: &mut Vec<FailureRow>,
     named: &LackedName<'_>,
     far: usize,
     one: &str,
     many: &str,
 ) -> Result<(), AllocError> {
     let alloc = *rows.allocator();
-    let mut text = Words::new(alloc);
-    put_has(&mut text, &named.people, one, many);
+    let mut text = TextBuilder::new(alloc);
+    put_has(&mut text, &named.participants, one, many);
     let reasons = vec![in alloc; text.into_text()?]?;
-    let name = Words::of_text(alloc, &named.name).into_text()?;
+    let name = TextBuilder::of_text(alloc, &named.name).into_text()?;
     add(rows, name, reasons, far, 1)
 }

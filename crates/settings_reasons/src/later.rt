@@ -1,15 +1,19 @@
 //! What later entries of participants would take, of which an earlier one holds.
 
-use explanation_text::{Gathered, Words};
+use explanation_text::{ListBuilder, TextBuilder};
 use std::alloc::AllocError;
 use sysmem_formats::Offer;
 use sysmem_image::{Entry, entry_for, takes_colour};
-use value_sources::{Asked, Side, Wishes, put_people};
+use value_sources::{NamedParticipant, Side, Wishes, put_participants};
 
 /// Puts whose later entries take an offer after a text, if some do.
-pub(crate) fn put_later(text: &mut Words, offer: &Offer, people: &[Asked<'_>]) {
-    let mut those = Gathered::new(text.alloc());
-    for one in people {
+pub(crate) fn put_later(
+    text: &mut TextBuilder,
+    offer: &Offer,
+    participants: &[NamedParticipant<'_>],
+) {
+    let mut those = ListBuilder::new(text.alloc());
+    for one in participants {
         if takes_later(one, offer, None) {
             those.add(*one);
         }
@@ -21,27 +25,27 @@ pub(crate) fn put_later(text: &mut Words, offer: &Offer, people: &[Asked<'_>]) {
 }
 
 /// Puts that later entries of participants would take it after a text, if they are some.
-fn put_would_take(text: &mut Words, people: &[Asked<'_>]) {
-    let entries = match people.len() {
+fn put_would_take(text: &mut TextBuilder, participants: &[NamedParticipant<'_>]) {
+    let entries = match participants.len() {
         0 => return,
         1 => "a later entry",
         _ => "later entries",
     };
     text.put(", though ").put(entries).put(" of ");
-    put_people(text, people);
+    put_participants(text, participants);
     text.put(" would take it");
 }
 
 /// Puts that a later entry of the participant of a name takes more than the one that holds for an
 /// offer, and at least so much in a side, after a text, if there is one.
 pub(crate) fn put_later_size(
-    text: &mut Words,
+    text: &mut TextBuilder,
     wishes: Wishes<'_, '_>,
-    who: &Asked<'_>,
+    who: &NamedParticipant<'_>,
     side: Side,
     least: u128,
 ) {
-    for one in wishes.people {
+    for one in wishes.participants {
         if one.node == who.node && takes_later(one, &wishes.offer, Some((side, least))) {
             text.put(", though a later entry of ")
                 .name(who.called())
@@ -53,7 +57,7 @@ pub(crate) fn put_later_size(
 
 /// Whether an entry of a participant takes an offer, though others before it take its format and
 /// modifier; and at least so much in a side, if that is asked for.
-fn takes_later(one: &Asked<'_>, offer: &Offer, least: Option<(Side, u128)>) -> bool {
+fn takes_later(one: &NamedParticipant<'_>, offer: &Offer, least: Option<(Side, u128)>) -> bool {
     let entries = one.asked.entries();
     for index in 0..entries.len() {
         match entry_for(&entries[index..], offer) {

@@ -4,8 +4,8 @@
 //!
 //! ```
 //! let mut items = Items::new(rt.alloc());
-//! tell_settings(&mut items, &platform, &people, &settings)?;
-//! tell_conflict(&mut items, 1, &platform, &people, true)?;
+//! add_settings(&mut items, &platform, &participants, &settings)?;
+//! add_conflict(&mut items, 1, &platform, &participants, true)?;
 //! ```
 #![tactic(auto)]
 
@@ -24,8 +24,8 @@ mod refusing;
 mod rows;
 mod unused;
 
-pub use chosen::tell_settings;
-pub use empty::{in_the_way, is_unmet, tell_conflict};
-pub use fixed::{failing, tell_misfits};
+pub use chosen::add_settings;
+pub use empty::{add_conflict, in_the_way, is_unmet};
+pub use fixed::{failing, list_misfits};
 pub use listed::{is_taken, listed_before};
 pub use unused::{holder_of, unused_entries};

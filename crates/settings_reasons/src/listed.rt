@@ -4,20 +4,20 @@ use negotiation_inputs::Platform;
 use std::alloc::{AllocError, Global};
 use sysmem_formats::{Modifier, Pair, PixelFormat};
 use sysmem_image::Entry;
-use value_sources::Asked;
+use value_sources::NamedParticipant;
 
 /// The pairs that stand after one on a platform, and that a participant names in an entry before
 /// its first that takes this one.
 pub fn listed_before(
     alloc: Global,
     platform: &Platform,
-    people: &[Asked<'_>],
+    participants: &[NamedParticipant<'_>],
     chosen: Pair,
 ) -> Result<Vec<Pair>, AllocError> {
     let mut listed = Vec::new(alloc);
     let mut is_after = false;
     for pair in platform.pairs() {
-        if is_after && is_listed(people, *pair, chosen) {
+        if is_after && is_listed(participants, *pair, chosen) {
             listed.push(*pair)?;
         }
         is_after = is_after || *pair == chosen;
@@ -26,8 +26,8 @@ pub fn listed_before(
 }
 
 /// Whether a participant names a pair in an entry before its first that takes another.
-fn is_listed(people: &[Asked<'_>], pair: Pair, other: Pair) -> bool {
-    for one in people {
+fn is_listed(participants: &[NamedParticipant<'_>], pair: Pair, other: Pair) -> bool {
+    for one in participants {
         if lists_before(one.asked.entries(), pair, other) {
             return true;
         }

@@ -5,19 +5,19 @@ use crate::later::{put_later, put_later_size};
 use crate::listed::has_format;
 use crate::rows::{mark_after, put_those};
 use explanation_text::wording::{put_few, put_joined};
-use explanation_text::{Gathered, Text, Words};
+use explanation_text::{ListBuilder, Text, TextBuilder};
 use std::alloc::{AllocError, Global};
 use sysmem_counts::Field;
 use sysmem_formats::{ColourSpace, Modifier, Offer, PixelFormat};
 use sysmem_image::{ColourSet, entry_for};
-use value_sources::{Asked, Derived, Side, Wish, Wishes, format_words, put_has};
+use value_sources::{Derived, NamedParticipant, Side, Wish, Wishes, format_words, put_has};
 
 /// The name of an offer: `NV12 LINEAR REC709`, or `without an image`.
-pub(crate) fn offer_name(alloc: Global, offer: &Offer) -> Words {
+pub(crate) fn offer_name(alloc: Global, offer: &Offer) -> TextBuilder {
     match offer {
-        Offer::NoImage => Words::of(alloc, "without an image"),
+        Offer::NoImage => TextBuilder::of(alloc, "without an image"),
         Offer::Image(pair, colour) => {
-            let mut words = Words::new(alloc);
+            let mut words = TextBuilder::new(alloc);
             words.format(pair.format).put(" ");
             words.modifier(pair.modifier).put(" ").put(colour.name());
             words
@@ -30,8 +30,8 @@ pub(crate) fn pair_name(
     alloc: Global,
     format: Option<PixelFormat>,
     modifier: Option<Modifier>,
-) -> Words {
-    let mut words = Words::new(alloc);
+) -> TextBuilder {
+    let mut words = TextBuilder::new(alloc);
     match format {
         Some(format) => words.format(format).put(" "),
         None => words.put("any format "),
@@ -46,21 +46,21 @@ pub(crate) fn pair_name(
 /// Puts the sentence of a reason against an offer, with the numbers of all participants, into an
 /// empty text.
 pub(crate) fn put_offer_reason(
-    text: &mut Words,
+    text: &mut TextBuilder,
     offer: &Offer,
     field: Field,
-    people: &[Asked<'_>],
+    participants: &[NamedParticipant<'_>],
 ) {
     let wishes = Wishes {
-        people,
+        participants,
         offer: *offer,
     };
     match field {
-        Field::PixelFormat => put_no_entry(text, offer, people),
-        Field::ColorSpaces => put_colours(text, offer, people),
-        Field::UnnamedPixelFormat => put_unnamed(text, people, "format"),
-        Field::UnnamedPixelFormatModifier => put_unnamed(text, people, "modifier"),
-        Field::UnnamedColorSpace => put_unnamed(text, people, "colour space"),
+        Field::PixelFormat => put_no_entry(text, offer, participants),
+        Field::ColorSpaces => put_colours(text, offer, participants),
+        Field::UnnamedPixelFormat => put_unnamed(text, participants, "format"),
+        Field::UnnamedPixelFormatModifier => put_unnamed(text, participants, "modifier"),
+        Field::UnnamedColorSpace => put_unnamed(text, participants, "colour space"),
         Field::RequiredMinSize => put_required(text, wishes),
         Field::MaxSize => put_too_large(text, wishes),
         Field::MaxWidthTimesHeight | Field::MaxBytesPerRow | Field::MaxSizeBytes => {
@@ -72,12 +72,12 @@ pub(crate) fn put_offer_reason(
 
 /// Puts who has no entry for an offer after a text, with the modifiers that they take its format
 /// with.
-fn put_no_entry(text: &mut Words, offer: &Offer, people: &[Asked<'_>]) {
+fn put_no_entry(text: &mut TextBuilder, offer: &Offer, participants: &[NamedParticipant<'_>]) {
     let Offer::Image(pair, _) = offer else {
-        return put_has(text, people, "takes images only", "take images only");
+        return put_has(text, participants, "takes images only", "take images only");
     };
-    let mut none = Gathered::new(text.alloc());
-    for one in people {
+    let mut none = ListBuilder::new(text.alloc());
+    for one in participants {
         match modifiers_of(text.alloc(), one, pair.format) {
             Ok(modifiers) if modifiers.is_empty() => none.add(*one),
             Ok(modifiers) => put_only_as(text, one, pair.format, &modifiers),
@@ -91,7 +91,12 @@ fn put_no_entry(text: &mut Words, offer: &Offer, people: &[Asked<'_>]) {
 }
 
 /// Puts with which modifiers alone a participant takes a format after a text.
-fn put_only_as(text: &mut Words, one: &Asked<'_>, format: PixelFormat, modifiers: &[Text]) {
+fn put_only_as(
+    text: &mut TextBuilder,
+    one: &NamedParticipant<'_>,
+    format: PixelFormat,
+    modifiers: &[Text],
+) {
     let mark = mark_after(text.as_str());
     text.put(mark)
         .name(one.called())
@@ -104,10 +109,10 @@ fn put_only_as(text: &mut Words, one: &Asked<'_>, format: PixelFormat, modifiers
 /// The modifiers that a participant takes a format with.
 fn modifiers_of(
     alloc: Global,
-    one: &Asked<'_>,
+    one: &NamedParticipant<'_>,
     format: PixelFormat,
 ) -> Result<Vec<Text>, AllocError> {
-    let mut names = Gathered::new(alloc);
+    let mut names = ListBuilder::new(alloc);
     for entry in one.asked.entries() {
         if has_format(entry, format) {
             names.add_text(modifier_words(alloc, entry.modifier));
@@ -117,8 +122,8 @@ fn modifiers_of(
 }
 
 /// The name of a modifier that an entry takes.
-fn modifier_words(alloc: Global, modifier: Option<Modifier>) -> Words {
-    let mut words = Words::new(alloc);
+fn modifier_words(alloc: Global, modifier: Option<Modifier>) -> TextBuilder {
+    let mut words = TextBuilder::new(alloc);
     match modifier {
         Some(modifier) => words.modifier(modifier),
         None => words.put("DO_NOT_CARE"),
@@ -127,12 +132,12 @@ fn modifier_words(alloc: Global, modifier: Option<Modifier>) -> Words {
 }
 
 /// Puts in which colour spaces participants take an offer after a text.
-fn put_colours(text: &mut Words, offer: &Offer, people: &[Asked<'_>]) {
+fn put_colours(text: &mut TextBuilder, offer: &Offer, participants: &[NamedParticipant<'_>]) {
     let mut done: Vec<ColourSet> = Vec::new(text.alloc());
-    for one in people {
+    for one in participants {
         match entry_for(one.asked.entries(), offer) {
             Some(entry) if !done.contains(&entry.colours) => {
-                put_only_in(text, offer, people, entry.colours);
+                put_only_in(text, offer, participants, entry.colours);
                 if done.push(entry.colours).is_err() {
                     return text.refuse();
                 }
@@ -143,8 +148,13 @@ fn put_colours(text: &mut Words, offer: &Offer, people: &[Asked<'_>]) {
 }
 
 /// Puts who takes an offer in these colour spaces only after a text.
-fn put_only_in(text: &mut Words, offer: &Offer, people: &[Asked<'_>], colours: ColourSet) {
-    let those = match with_colours(text.alloc(), offer, people, colours) {
+fn put_only_in(
+    text: &mut TextBuilder,
+    offer: &Offer,
+    participants: &[NamedParticipant<'_>],
+    colours: ColourSet,
+) {
+    let those = match with_colours(text.alloc(), offer, participants, colours) {
         Ok(those) => those,
         Err(AllocError) => return text.refuse(),
     };
@@ -157,11 +167,11 @@ fn put_only_in(text: &mut Words, offer: &Offer, people: &[Asked<'_>], colours: C
 fn with_colours<'a>(
     alloc: Global,
     offer: &Offer,
-    people: &[Asked<'a>],
+    participants: &[NamedParticipant<'a>],
     colours: ColourSet,
-) -> Result<Vec<Asked<'a>>, AllocError> {
+) -> Result<Vec<NamedParticipant<'a>>, AllocError> {
     let mut those = Vec::new(alloc);
-    for one in people {
+    for one in participants {
         match entry_for(one.asked.entries(), offer) {
             Some(entry) if entry.colours == colours => those.push(*one)?,
             _ => {}
@@ -170,8 +180,8 @@ fn with_colours<'a>(
     Ok(those)
 }
 
-fn put_colour_names(text: &mut Words, colours: ColourSet) {
-    let mut names: Gathered<&str> = Gathered::new(text.alloc());
+fn put_colour_names(text: &mut TextBuilder, colours: ColourSet) {
+    let mut names: ListBuilder<&str> = ListBuilder::new(text.alloc());
     for colour in &ColourSpace::ALL {
         if colours.lists(*colour) {
             names.add(colour.name());
@@ -184,8 +194,8 @@ fn put_colour_names(text: &mut Words, colours: ColourSet) {
 }
 
 /// Puts that nobody names a part of an image's name after a text.
-fn put_unnamed(text: &mut Words, people: &[Asked<'_>], what: &str) {
-    put_has(text, people, "takes", "take");
+fn put_unnamed(text: &mut TextBuilder, participants: &[NamedParticipant<'_>], what: &str) {
+    put_has(text, participants, "takes", "take");
     text.put(" any ")
         .put(what)
         .put(", but nobody names the ")
@@ -193,12 +203,12 @@ fn put_unnamed(text: &mut Words, people: &[Asked<'_>], what: &str) {
 }
 
 /// Puts that a least size is above what somebody will put after a text.
-fn put_required(text: &mut Words, wishes: Wishes<'_, '_>) {
+fn put_required(text: &mut TextBuilder, wishes: Wishes<'_, '_>) {
     put_required_side(text, wishes, Side::Width);
     put_required_side(text, wishes, Side::Height)
 }
 
-fn put_required_side(text: &mut Words, wishes: Wishes<'_, '_>, side: Side) {
+fn put_required_side(text: &mut TextBuilder, wishes: Wishes<'_, '_>, side: Side) {
     let low = wishes.greatest(Wish::Least(side));
     let top = wishes.least(Wish::RequiredLeast(side));
     let (Some((takes, least)), Some((puts, most))) = (low, top) else {
@@ -226,12 +236,12 @@ fn put_required_side(text: &mut Words, wishes: Wishes<'_, '_>, side: Side) {
 }
 
 /// Puts that the smallest image is larger than somebody takes after a text.
-fn put_too_large(text: &mut Words, wishes: Wishes<'_, '_>) {
+fn put_too_large(text: &mut TextBuilder, wishes: Wishes<'_, '_>) {
     put_too_large_side(text, wishes, Side::Width);
     put_too_large_side(text, wishes, Side::Height)
 }
 
-fn put_too_large_side(text: &mut Words, wishes: Wishes<'_, '_>, side: Side) {
+fn put_too_large_side(text: &mut TextBuilder, wishes: Wishes<'_, '_>, side: Side) {
     let Some((who, most)) = wishes.least(Wish::Most(side)) else {
         return;
     };
@@ -271,7 +281,7 @@ pub(crate) fn least_side(
 
 /// Puts how great the smallest image, row or buffer is, of which a field bounds the greatest, and
 /// who takes less, after a text.
-fn put_too_great(text: &mut Words, wishes: Wishes<'_, '_>, field: Field) {
+fn put_too_great(text: &mut TextBuilder, wishes: Wishes<'_, '_>, field: Field) {
     let alloc = text.alloc();
     let most = match field {
         Field::MaxWidthTimesHeight => {
@@ -301,7 +311,7 @@ fn put_too_great(text: &mut Words, wishes: Wishes<'_, '_>, field: Field) {
     }
 }
 
-fn put_pixels(text: &mut Words, wishes: Wishes<'_, '_>) {
+fn put_pixels(text: &mut TextBuilder, wishes: Wishes<'_, '_>) {
     let alloc = text.alloc();
     let width = least_side(alloc, wishes, Side::Width);
     let height = least_side(alloc, wishes, Side::Height);
@@ -320,7 +330,12 @@ fn put_pixels(text: &mut Words, wishes: Wishes<'_, '_>) {
 
 /// Puts a number of something, and where it comes from, after a text; refuses the text where memory
 /// was refused to that.
-fn put_derived(text: &mut Words, start: &str, derived: Result<Derived, AllocError>, unit: &str) {
+fn put_derived(
+    text: &mut TextBuilder,
+    start: &str,
+    derived: Result<Derived, AllocError>,
+    unit: &str,
+) {
     match derived {
         Ok(Derived { value, why }) => {
             text.put(start)
@@ -336,7 +351,7 @@ fn put_derived(text: &mut Words, start: &str, derived: Result<Derived, AllocErro
 }
 
 /// Puts that what participants want multiples of has no common multiple after a text.
-fn put_no_multiple(text: &mut Words, wishes: Wishes<'_, '_>, field: Field) {
+fn put_no_multiple(text: &mut TextBuilder, wishes: Wishes<'_, '_>, field: Field) {
     text.field(field).put(" of ");
     match amounts_of(text.alloc(), wishes, field) {
         Ok(amounts) => put_few(text, &amounts, 4),
@@ -354,10 +369,10 @@ fn amounts_of(
     wishes: Wishes<'_, '_>,
     field: Field,
 ) -> Result<Vec<Text>, AllocError> {
-    let mut amounts: Gathered<Text> = Gathered::new(alloc);
-    for one in wishes.people {
+    let mut amounts: ListBuilder<Text> = ListBuilder::new(alloc);
+    for one in wishes.participants {
         if let Some(entry) = entry_for(one.asked.entries(), &wishes.offer) {
-            let mut words = Words::of_name(alloc, one.called());
+            let mut words = TextBuilder::of_name(alloc, one.called());
             words.put(" ");
             put_amount(&mut words, amount_at(&entry.bounds.asked, field));
             amounts.add_text(words);

@@ -15,7 +15,7 @@ use sysmem_counts::Field;
 use sysmem_formats::{Offer, offer_at};
 use sysmem_image::{bounds_lines, bounds_table, entry_for, takes_colour};
 use sysmem_merge::OfferRead;
-use value_sources::Asked;
+use value_sources::NamedParticipant;
 
 macro_rules! image_lines {
     ($($line:ident)*) => {
@@ -49,29 +49,33 @@ pub(crate) fn offers_of(alloc: Global, platform: &Platform) -> Result<Vec<Offer>
 }
 
 /// What participants say of an offer together.
-fn read_of(offer: &Offer, people: &[Asked<'_>]) -> OfferRead
-    ensures { IsOfferRead offer.now (offer_demands (all_asked people.now)) result }
+fn read_of(offer: &Offer, participants: &[NamedParticipant<'_>]) -> OfferRead
+    ensures { IsOfferRead offer.now (offer_demands (all_asked participants.now)) result }
 {
     let mut read = OfferRead::new(offer);
-    for one in people {
+    for one in participants {
         read.add(one.asked);
     }
     read
 }
 
 /// Whether an offer is refused by participants, who are all that there are if `whole` says so.
-fn is_refused(offer: &Offer, people: &[Asked<'_>], whole: bool) -> bool
+fn is_refused(offer: &Offer, participants: &[NamedParticipant<'_>], whole: bool) -> bool
     ensures { IsTrue result
-        → IsOfferRefused whole offer.now (offer_demands (all_asked people.now)) }
+        → IsOfferRefused whole offer.now (offer_demands (all_asked participants.now)) }
 {
-    read_of(offer, people).first_line(whole).is_some()
+    read_of(offer, participants).first_line(whole).is_some()
 }
 
 /// Whether each of some offers is refused by participants, who are all that there are if `whole`
 /// says so.
-pub(crate) fn are_refused(offers: &[Offer], people: &[Asked<'_>], whole: bool) -> bool {
+pub(crate) fn are_refused(
+    offers: &[Offer],
+    participants: &[NamedParticipant<'_>],
+    whole: bool,
+) -> bool {
     for offer in offers {
-        if !is_refused(offer, people, whole) {
+        if !is_refused(offer, participants, whole) {
             return false;
         }
     }
@@ -82,12 +86,12 @@ pub(crate) fn are_refused(offers: &[Offer], people: &[Asked<'_>], whole: bool) -
 fn without_entry<'a>(
     alloc: Global,
     offer: &Offer,
-    people: &[Asked<'a>],
-) -> Result<Vec<Asked<'a>>, AllocError>
+    participants: &[NamedParticipant<'a>],
+) -> Result<Vec<NamedParticipant<'a>>, AllocError>
     ensures { IfOk result (λ those. All (LacksEntry offer.now) those.items) }
 {
     let mut those = Vec::new(alloc);
-    for one in people {
+    for one in participants {
         let entries = one.asked.entries();
         if !entries.is_empty() && entry_for(entries, offer).is_none() {
             those.push(*one)?;
@@ -100,12 +104,12 @@ fn without_entry<'a>(
 fn without_colour<'a>(
     alloc: Global,
     offer: &Offer,
-    people: &[Asked<'a>],
-) -> Result<Vec<Asked<'a>>, AllocError>
+    participants: &[NamedParticipant<'a>],
+) -> Result<Vec<NamedParticipant<'a>>, AllocError>
     ensures { IfOk result (λ those. All (LacksColour offer.now) those.items) }
 {
     let mut those = Vec::new(alloc);
-    for one in people {
+    for one in participants {
         if let Some(entry) = entry_for(one.asked.entries(), offer) {
             if !takes_colour(entry, offer) {
                 those.push(*one)?;
@@ -119,15 +123,18 @@ fn without_colour<'a>(
 fn entry_reasons<'a>(
     alloc: Global,
     offer: &Offer,
-    people: &[Asked<'a>],
+    participants: &[NamedParticipant<'a>],
 ) -> Result<Vec<Reason<'a>>, AllocError>
     ensures { IfOk result (λ reasons. All (IsEntryReason offer.now) reasons.items) }
 {
     let mut reasons = Vec::new(alloc);
-    let people = without_entry(alloc, offer, people)?;
-    if !people.is_empty() {
+    let participants = without_entry(alloc, offer, participants)?;
+    if !participants.is_empty() {
         let field = Field::PixelFormat;
-        reasons.push(Reason { field, people })?;
+        reasons.push(Reason {
+            field,
+            participants,
+        })?;
     }
     Ok(reasons)
 }
@@ -136,15 +143,18 @@ fn entry_reasons<'a>(
 fn colour_reasons<'a>(
     alloc: Global,
     offer: &Offer,
-    people: &[Asked<'a>],
+    participants: &[NamedParticipant<'a>],
 ) -> Result<Vec<Reason<'a>>, AllocError>
     ensures { IfOk result (λ reasons. All (IsColourReason offer.now) reasons.items) }
 {
     let mut reasons = Vec::new(alloc);
-    let people = without_colour(alloc, offer, people)?;
-    if !people.is_empty() {
+    let participants = without_colour(alloc, offer, participants)?;
+    if !participants.is_empty() {
         let field = Field::ColorSpaces;
-        reasons.push(Reason { field, people })?;
+        reasons.push(Reason {
+            field,
+            participants,
+        })?;
     }
     Ok(reasons)
 }
@@ -155,22 +165,22 @@ fn colour_reasons<'a>(
 pub(crate) fn offer_reasons<'a>(
     alloc: Global,
     offer: &Offer,
-    people: &[Asked<'a>],
+    participants: &[NamedParticipant<'a>],
     whole: bool,
 ) -> Result<Vec<Reason<'a>>, AllocError> {
-    let entries = entry_reasons(alloc, offer, people)?;
+    let entries = entry_reasons(alloc, offer, participants)?;
     if !entries.is_empty() {
         return Ok(entries);
     }
-    let colours = colour_reasons(alloc, offer, people)?;
+    let colours = colour_reasons(alloc, offer, participants)?;
     if !colours.is_empty() {
         return Ok(colours);
     }
-    let lines = line_reasons(alloc, offer, people, whole, LINES)?;
+    let lines = line_reasons(alloc, offer, participants, whole, LINES)?;
     if !lines.is_empty() {
         return Ok(lines);
     }
-    line_reasons(alloc, offer, people, whole, UNNAMED)
+    line_reasons(alloc, offer, participants, whole, UNNAMED)
 }
 
 /// Each of some lines that is true of participants, with all of them; one on names where they are
@@ -178,16 +188,16 @@ pub(crate) fn offer_reasons<'a>(
 fn line_reasons<'a>(
     alloc: Global,
     offer: &Offer,
-    people: &[Asked<'a>],
+    participants: &[NamedParticipant<'a>],
     whole: bool,
     fields: &[Field],
 ) -> Result<Vec<Reason<'a>>, AllocError>
     ensures { IfOk result (λ reasons. All (IsLineReason whole offer.now) reasons.items) }
 {
-    let read = read_of(offer, people);
+    let read = read_of(offer, participants);
     let mut reasons = Vec::new(alloc);
     for field in fields {
-        add_line(&mut reasons, &read, offer, people, whole, *field)?;
+        add_line(&mut reasons, &read, offer, participants, whole, *field)?;
     }
     Ok(reasons)
 }
@@ -197,11 +207,11 @@ fn add_line<'a>(
     reasons: &mut Vec<Reason<'a>>,
     read: &OfferRead,
     offer: &Offer,
-    people: &[Asked<'a>],
+    participants: &[NamedParticipant<'a>],
     whole: bool,
     field: Field,
 ) -> Result<(), AllocError>
-    requires { IsOfferRead offer.now (offer_demands (all_asked people.now)) read.now }
+    requires { IsOfferRead offer.now (offer_demands (all_asked participants.now)) read.now }
     ensures { OnOk result (All (IsLineReason whole offer.now) reasons.old.items
         → All (IsLineReason whole offer.now) reasons.new.items) }
 {
@@ -209,8 +219,11 @@ fn add_line<'a>(
         return Ok(());
     }
     let alloc = *reasons.allocator();
-    let people = Vec::from_slice(alloc, people)?;
-    reasons.push(Reason { field, people })?;
+    let participants = Vec::from_slice(alloc, participants)?;
+    reasons.push(Reason {
+        field,
+        participants,
+    })?;
     Ok(())
 }
 
@@ -231,17 +244,17 @@ fn is_true(read: &OfferRead, whole: bool, field: Field) -> bool
 /// How far an offer is from being taken by so many: how many have no entry for it, and how many
 /// lack its colour space, which is nearer. Where somebody takes images only, no image is the
 /// farthest.
-pub(crate) fn distance_of(offer: &Offer, reasons: &[Reason<'_>], people: usize) -> usize {
+pub(crate) fn distance_of(offer: &Offer, reasons: &[Reason<'_>], participants: usize) -> usize {
     let mut far = 0usize;
     for reason in reasons {
         if *offer == Offer::NoImage && reason.field == Field::PixelFormat {
-            return people.saturating_mul(2).saturating_add(1);
+            return participants.saturating_mul(2).saturating_add(1);
         }
         match reason.field {
             Field::PixelFormat => {
-                far = far.saturating_add(reason.people.len().saturating_mul(2));
+                far = far.saturating_add(reason.participants.len().saturating_mul(2));
             }
-            Field::ColorSpaces => far = far.saturating_add(reason.people.len()),
+            Field::ColorSpaces => far = far.saturating_add(reason.participants.len()),
             _ => {}
         }
     }

@@ -8,18 +8,18 @@ ghost use Rattle.value_sources.specs.Sources.{all_asked};
 
 use crate::rows::{Reason, put_those};
 use explanation_text::wording::put_visible;
-use explanation_text::{Gathered, Words};
+use explanation_text::{ListBuilder, TextBuilder};
 use negotiation_inputs::Platform;
 use std::alloc::{AllocError, Global};
 use sysmem_counts::Field;
 use sysmem_memory::{
     CoherencyDomain, Heap, HeapInfo, MemoryBounds, PLACE_FIELDS, Place, refuses_in,
 };
-use value_sources::{Asked, put_has};
+use value_sources::{NamedParticipant, put_has};
 
 /// The places of a platform, in its order.
 pub(crate) fn places_of(alloc: Global, platform: &Platform) -> Result<Vec<Place>, AllocError> {
-    let mut places = Gathered::new(alloc);
+    let mut places = ListBuilder::new(alloc);
     for (heap, info) in platform.heaps().iter().enumerate() {
         add_places(&mut places, heap, info);
     }
@@ -27,7 +27,7 @@ pub(crate) fn places_of(alloc: Global, platform: &Platform) -> Result<Vec<Place>
 }
 
 /// Adds the places of a heap.
-fn add_places(places: &mut Gathered<Place>, heap: usize, info: &HeapInfo) {
+fn add_places(places: &mut ListBuilder<Place>, heap: usize, info: &HeapInfo) {
     for coherency in &CoherencyDomain::ALL {
         if info.domains.has(*coherency) {
             places.add(Place {
@@ -44,12 +44,12 @@ fn refusing<'a>(
     heap: &HeapInfo,
     place: Place,
     field: Field,
-    people: &[Asked<'a>],
-) -> Result<Vec<Asked<'a>>, AllocError>
+    participants: &[NamedParticipant<'a>],
+) -> Result<Vec<NamedParticipant<'a>>, AllocError>
     ensures { IfOk result (λ those. All (Refuses field heap.now place.coherency) those.items) }
 {
     let mut those = Vec::new(alloc);
-    for one in people {
+    for one in participants {
         let memory = one.asked.memory();
         if refuses_in(field, memory, one.asked.usage(), heap, place.coherency) {
             those.push(*one)?;
@@ -63,10 +63,10 @@ pub(crate) fn place_reasons<'a>(
     alloc: Global,
     platform: &Platform,
     place: Place,
-    people: &[Asked<'a>],
+    participants: &[NamedParticipant<'a>],
 ) -> Result<Vec<Reason<'a>>, AllocError> {
     match platform.heaps().get(place.heap) {
-        Some(heap) => reasons_in(alloc, heap, place, people),
+        Some(heap) => reasons_in(alloc, heap, place, participants),
         None => Ok(Vec::new(alloc)),
     }
 }
@@ -76,14 +76,14 @@ fn reasons_in<'a>(
     alloc: Global,
     heap: &HeapInfo,
     place: Place,
-    people: &[Asked<'a>],
+    participants: &[NamedParticipant<'a>],
 ) -> Result<Vec<Reason<'a>>, AllocError>
     ensures { IfOk result
         (λ reasons. All (IsPlaceReason heap.now place.coherency) reasons.items) }
 {
     let mut reasons = Vec::new(alloc);
     for field in &PLACE_FIELDS {
-        let those = refusing(alloc, heap, place, *field, people)?;
+        let those = refusing(alloc, heap, place, *field, participants)?;
         add_reason(&mut reasons, heap, place, *field, those)?;
     }
     Ok(reasons)
@@ -95,40 +95,44 @@ fn add_reason<'a>(
     heap: &HeapInfo,
     place: Place,
     field: Field,
-    people: Vec<Asked<'a>>,
+    participants: Vec<NamedParticipant<'a>>,
 ) -> Result<(), AllocError>
-    requires { All (Refuses field heap.now place.coherency) people.items }
+    requires { All (Refuses field heap.now place.coherency) participants.items }
     ensures { OnOk result (All (IsPlaceReason heap.now place.coherency) reasons.old.items
         → All (IsPlaceReason heap.now place.coherency) reasons.new.items) }
 {
-    if people.is_empty() {
+    if participants.is_empty() {
         return Ok(());
     }
-    reasons.push(Reason { field, people })?;
+    reasons.push(Reason {
+        field,
+        participants,
+    })?;
     Ok(())
 }
 
 /// Whether each place of the platform is refused by somebody.
-pub(crate) fn has_no_place(platform: &Platform, people: &[Asked<'_>]) -> bool
-    ensures { IsTrue result → HasNoPlace platform.now.heaps (place_demands (all_asked people.now)) }
+pub(crate) fn has_no_place(platform: &Platform, participants: &[NamedParticipant<'_>]) -> bool
+    ensures { IsTrue result
+        → HasNoPlace platform.now.heaps (place_demands (all_asked participants.now)) }
 {
     let heaps = platform.heaps();
     let mut bounds = MemoryBounds::new(heaps);
-    for one in people {
+    for one in participants {
         bounds.add(heaps, one.asked.memory(), one.asked.usage());
     }
     bounds.first_place(heaps).is_none()
 }
 
 /// The name of a place: `cma#0 ram`.
-pub(crate) fn place_name(alloc: Global, platform: &Platform, place: Place) -> Words {
-    let mut text = Words::new(alloc);
+pub(crate) fn place_name(alloc: Global, platform: &Platform, place: Place) -> TextBuilder {
+    let mut text = TextBuilder::new(alloc);
     put_place(&mut text, platform, place);
     text
 }
 
 /// Puts the name of a place after a text.
-pub(crate) fn put_place(text: &mut Words, platform: &Platform, place: Place) {
+pub(crate) fn put_place(text: &mut TextBuilder, platform: &Platform, place: Place) {
     let coherency = place.coherency.name();
     let Some(info) = platform.heaps().get(place.heap) else {
         text.put(coherency);
@@ -142,24 +146,33 @@ pub(crate) fn put_place(text: &mut Words, platform: &Platform, place: Place) {
 }
 
 /// Puts why participants refuse a place by a field into an empty text.
-pub(crate) fn put_place_reason(text: &mut Words, field: Field, people: &[Asked<'_>]) {
+pub(crate) fn put_place_reason(
+    text: &mut TextBuilder,
+    field: Field,
+    participants: &[NamedParticipant<'_>],
+) {
     match field {
-        Field::PermittedHeaps => put_permits(text, people),
-        Field::PhysicallyContiguousRequired => put_needs(text, people, "contiguous", field),
-        Field::SecureRequired => put_needs(text, people, "secure", field),
+        Field::PermittedHeaps => put_permits(text, participants),
+        Field::PhysicallyContiguousRequired => put_needs(text, participants, "contiguous", field),
+        Field::SecureRequired => put_needs(text, participants, "secure", field),
         Field::Usage => put_has(
             text,
-            people,
+            participants,
             "uses the CPU (usage cpu), which doesn't reach it",
             "use the CPU (usage cpu), which doesn't reach it",
         ),
-        _ => put_unsupported(text, people, field),
+        _ => put_unsupported(text, participants, field),
     }
 }
 
 /// Puts which memory participants need by a field after a text.
-fn put_needs(text: &mut Words, people: &[Asked<'_>], what: &str, field: Field) {
-    put_has(text, people, "needs", "need");
+fn put_needs(
+    text: &mut TextBuilder,
+    participants: &[NamedParticipant<'_>],
+    what: &str,
+    field: Field,
+) {
+    put_has(text, participants, "needs", "need");
     text.put(" ")
         .put(what)
         .put(" memory (")
@@ -169,21 +182,21 @@ fn put_needs(text: &mut Words, people: &[Asked<'_>], what: &str, field: Field) {
 
 /// Puts which heaps participants permit after a text; of several with other lists only that it
 /// isn't this one.
-fn put_permits(text: &mut Words, people: &[Asked<'_>]) {
-    let [one] = people else {
+fn put_permits(text: &mut TextBuilder, participants: &[NamedParticipant<'_>]) {
+    let [one] = participants else {
         return put_has(
             text,
-            people,
+            participants,
             "doesn't permit this heap",
             "don't permit this heap",
         );
     };
-    put_has(text, people, "permits only", "permit only");
+    put_has(text, participants, "permits only", "permit only");
     put_heaps(text, &one.asked.memory().permitted_heaps)
 }
 
 /// Puts at most four heaps after a text.
-fn put_heaps(text: &mut Words, heaps: &[Heap]) {
+fn put_heaps(text: &mut TextBuilder, heaps: &[Heap]) {
     for (k, heap) in heaps.iter().take(4).enumerate() {
         let mark = if k == 0 { " " } else { ", " };
         text.put(mark)
@@ -194,7 +207,7 @@ fn put_heaps(text: &mut Words, heaps: &[Heap]) {
 }
 
 /// Whether a participant states a field of its memory.
-fn states(one: &Asked<'_>, field: &str) -> bool {
+fn states(one: &NamedParticipant<'_>, field: &str) -> bool {
     match one.stated {
         Some(value) => match value.get("buffer_memory_constraints") {
             Some(memory) => memory.get(field).is_some(),
@@ -206,15 +219,20 @@ fn states(one: &Asked<'_>, field: &str) -> bool {
 
 /// Puts who says that it doesn't take a coherency domain into an empty text, and who doesn't say
 /// that it does.
-fn put_unsupported(text: &mut Words, people: &[Asked<'_>], field: Field) {
-    put_stating(text, people, field, true);
-    put_stating(text, people, field, false)
+fn put_unsupported(text: &mut TextBuilder, participants: &[NamedParticipant<'_>], field: Field) {
+    put_stating(text, participants, field, true);
+    put_stating(text, participants, field, false)
 }
 
 /// Puts who states a field, or who doesn't, after a text, if somebody does.
-fn put_stating(text: &mut Words, people: &[Asked<'_>], field: Field, is_stated: bool) {
-    let mut those = Gathered::new(text.alloc());
-    for one in people {
+fn put_stating(
+    text: &mut TextBuilder,
+    participants: &[NamedParticipant<'_>],
+    field: Field,
+    is_stated: bool,
+) {
+    let mut those = ListBuilder::new(text.alloc());
+    for one in participants {
         if states(one, field.name()) == is_stated {
             those.add(*one);
         }
@@ -226,8 +244,13 @@ fn put_stating(text: &mut Words, people: &[Asked<'_>], field: Field, is_stated: 
 }
 
 /// Puts that participants state a field, or don't, after a text, if they are some.
-fn put_stated(text: &mut Words, people: &[Asked<'_>], field: Field, is_stated: bool) {
-    if people.is_empty() {
+fn put_stated(
+    text: &mut TextBuilder,
+    participants: &[NamedParticipant<'_>],
+    field: Field,
+    is_stated: bool,
+) {
+    if participants.is_empty() {
         return;
     }
     let (one, many, end) = if is_stated {
@@ -235,6 +258,6 @@ fn put_stated(text: &mut Words, people: &[Asked<'_>], field: Field, is_stated: b
     } else {
         ("doesn't say", "don't say", ", so it's false")
     };
-    put_those(text, people, one, many);
+    put_those(text, participants, one, many);
     text.put(" ").field(field).put(end);
 }

@@ -3,14 +3,14 @@
 use crate::offer_words::{offer_name, pair_name, put_offer_reason};
 use crate::offering::{distance_of, offer_reasons};
 use crate::placing::{place_name, place_reasons, put_place_reason};
-use crate::rows::{Reason, Row, add, tell_rows};
-use explanation_text::{Gathered, Items, Text, Words};
+use crate::rows::{FailureRow, Reason, add, add_rows};
+use explanation_text::{Items, ListBuilder, Text, TextBuilder};
 use negotiation_inputs::Platform;
 use std::alloc::{AllocError, Global};
 use std::mem;
 use sysmem_formats::Offer;
 use sysmem_memory::Place;
-use value_sources::Asked;
+use value_sources::NamedParticipant;
 
 /// Rows of places that participants refuse. Where all reasons of all are asked for, the nearest
 /// place has the fewest who refuse it; else the first reason is enough, and the order stays.
@@ -18,26 +18,26 @@ pub(crate) fn place_rows(
     alloc: Global,
     platform: &Platform,
     places: &[Place],
-    people: &[Asked<'_>],
+    participants: &[NamedParticipant<'_>],
     all: bool,
-) -> Result<Vec<Row>, AllocError> {
+) -> Result<Vec<FailureRow>, AllocError> {
     let mut rows = Vec::new(alloc);
     for place in places {
-        add_place(&mut rows, platform, *place, people, all)?;
+        add_place(&mut rows, platform, *place, participants, all)?;
     }
     Ok(rows)
 }
 
 /// Adds a place with the reasons against it.
 fn add_place(
-    rows: &mut Vec<Row>,
+    rows: &mut Vec<FailureRow>,
     platform: &Platform,
     place: Place,
-    people: &[Asked<'_>],
+    participants: &[NamedParticipant<'_>],
     all: bool,
 ) -> Result<(), AllocError> {
     let alloc = *rows.allocator();
-    let reasons = place_reasons(alloc, platform, place, people)?;
+    let reasons = place_reasons(alloc, platform, place, participants)?;
     let far = if all { refusals(&reasons) } else { 0 };
     let texts = texts_of(alloc, None, &reasons, all)?;
     let name = place_name(alloc, platform, place).into_text()?;
@@ -53,7 +53,7 @@ fn texts_of(
     all: bool,
 ) -> Result<Vec<Text>, AllocError> {
     let most = if all { reasons.len() } else { 1 };
-    let mut texts: Gathered<Text> = Gathered::new(alloc);
+    let mut texts: ListBuilder<Text> = ListBuilder::new(alloc);
     for reason in reasons.iter().take(most) {
         texts.add_text(text_of(alloc, offer, reason));
     }
@@ -61,11 +61,11 @@ fn texts_of(
 }
 
 /// A reason in words.
-fn text_of(alloc: Global, offer: Option<&Offer>, reason: &Reason<'_>) -> Words {
-    let mut text = Words::new(alloc);
+fn text_of(alloc: Global, offer: Option<&Offer>, reason: &Reason<'_>) -> TextBuilder {
+    let mut text = TextBuilder::new(alloc);
     match offer {
-        Some(offer) => put_offer_reason(&mut text, offer, reason.field, &reason.people),
-        None => put_place_reason(&mut text, reason.field, &reason.people),
+        Some(offer) => put_offer_reason(&mut text, offer, reason.field, &reason.participants),
+        None => put_place_reason(&mut text, reason.field, &reason.participants),
     }
     text
 }
@@ -74,7 +74,7 @@ fn text_of(alloc: Global, offer: Option<&Offer>, reason: &Reason<'_>) -> Words {
 fn refusals(reasons: &[Reason<'_>]) -> usize {
     let mut count = 0usize;
     for reason in reasons {
-        count = count.saturating_add(reason.people.len());
+        count = count.saturating_add(reason.participants.len());
     }
     count
 }
@@ -84,35 +84,35 @@ fn refusals(reasons: &[Reason<'_>]) -> usize {
 pub(crate) fn offer_rows(
     alloc: Global,
     offers: &[Offer],
-    people: &[Asked<'_>],
+    participants: &[NamedParticipant<'_>],
     whole: bool,
     all: bool,
     colours: usize,
-) -> Result<Vec<Row>, AllocError> {
+) -> Result<Vec<FailureRow>, AllocError> {
     let mut rows = Vec::new(alloc);
     let mut pair: Vec<Refused> = Vec::new(alloc);
     for offer in offers {
         if is_next_pair(&pair, offer) {
             add_pair(&mut rows, &mut pair, colours)?;
         }
-        pair.push(refused_by(alloc, offer, people, whole, all)?)?;
+        pair.push(refused_by(alloc, offer, participants, whole, all)?)?;
     }
     add_pair(&mut rows, &mut pair, colours)?;
     Ok(rows)
 }
 
 /// Tells who refuses each of some offers, in their order.
-pub(crate) fn tell_offers(
+pub(crate) fn add_offers(
     items: &mut Items,
     platform: &Platform,
-    people: &[Asked<'_>],
+    participants: &[NamedParticipant<'_>],
     offers: &[Offer],
     before: &str,
     what: &str,
 ) -> Result<(), AllocError> {
     let colours = platform.colours().len();
-    let rows = offer_rows(items.alloc(), offers, people, true, false, colours)?;
-    tell_rows(items, 2, before, &rows, usize::MAX, what);
+    let rows = offer_rows(items.alloc(), offers, participants, true, false, colours)?;
+    add_rows(items, 2, before, &rows, usize::MAX, what);
     Ok(())
 }
 
@@ -128,13 +128,13 @@ struct Refused {
 fn refused_by(
     alloc: Global,
     offer: &Offer,
-    people: &[Asked<'_>],
+    participants: &[NamedParticipant<'_>],
     whole: bool,
     all: bool,
 ) -> Result<Refused, AllocError> {
-    let reasons = offer_reasons(alloc, offer, people, whole)?;
+    let reasons = offer_reasons(alloc, offer, participants, whole)?;
     let distance = if all {
-        distance_of(offer, &reasons, people.len())
+        distance_of(offer, &reasons, participants.len())
     } else {
         0
     };
@@ -163,7 +163,7 @@ fn are_one_pair(a: &Offer, b: &Offer) -> bool {
 /// Moves the offers of one pair to the rows: as one, where they fail in all of so many colour
 /// spaces for the same reasons.
 fn add_pair(
-    rows: &mut Vec<Row>,
+    rows: &mut Vec<FailureRow>,
     offers: &mut Vec<Refused>,
     colours: usize,
 ) -> Result<(), AllocError> {
@@ -181,7 +181,7 @@ fn add_pair(
 }
 
 /// The name of an offer, or of its pair where that stands for all its colour spaces.
-fn name_of(alloc: Global, offer: &Offer, is_pair: bool) -> Words {
+fn name_of(alloc: Global, offer: &Offer, is_pair: bool) -> TextBuilder {
     match offer {
         Offer::Image(pair, _) if is_pair => {
             pair_name(alloc, Some(pair.format), Some(pair.modifier))

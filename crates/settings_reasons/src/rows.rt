@@ -1,10 +1,10 @@
 //! Rows of what fails for the same reasons.
 
 use explanation_text::wording::put_few;
-use explanation_text::{Items, Text, Words};
+use explanation_text::{Items, Text, TextBuilder};
 use std::alloc::{AllocError, Global};
 use sysmem_counts::Field;
-use value_sources::{Asked, put_has};
+use value_sources::{NamedParticipant, put_has};
 
 /// How many rows of one kind are told; one more is shown rather than counted.
 const MOST_ROWS: usize = 6;
@@ -16,11 +16,11 @@ const MOST_ROW_NAMES: usize = 3;
 #[derive(Drop)]
 pub(crate) struct Reason<'a> {
     pub(crate) field: Field,
-    pub(crate) people: Vec<Asked<'a>>,
+    pub(crate) participants: Vec<NamedParticipant<'a>>,
 }
 
 /// What fails for the same reasons.
-pub(crate) struct Row {
+pub(crate) struct FailureRow {
     /// The names of what fails.
     pub(crate) names: Vec<Text>,
     /// Each reason in words.
@@ -31,9 +31,9 @@ pub(crate) struct Row {
     pub(crate) count: usize,
 }
 
-impl Drop for Row {
+impl Drop for FailureRow {
     fn drop(self) {
-        let Row {
+        let FailureRow {
             names: _,
             reasons: _,
             distance: _,
@@ -44,7 +44,7 @@ impl Drop for Row {
 
 /// Puts what fails into the row of those with its reasons.
 pub(crate) fn add(
-    rows: &mut Vec<Row>,
+    rows: &mut Vec<FailureRow>,
     name: Text,
     reasons: Vec<Text>,
     distance: usize,
@@ -58,7 +58,7 @@ pub(crate) fn add(
             return Ok(());
         }
     }
-    rows.push(Row {
+    rows.push(FailureRow {
         names: vec![in alloc; name]?,
         reasons,
         distance,
@@ -69,7 +69,7 @@ pub(crate) fn add(
 
 /// How many of the rows, the nearest first, are told: of those that aren't farther than a distance
 /// so many; one more is shown rather than counted.
-fn shown(rows: &[Row], far: usize) -> usize {
+fn shown(rows: &[FailureRow], far: usize) -> usize {
     let near = near(rows, far);
     let some = if rows.len() <= near.saturating_add(1) {
         rows.len()
@@ -84,7 +84,7 @@ fn shown(rows: &[Row], far: usize) -> usize {
 }
 
 /// How many of the rows aren't farther than a distance.
-fn near(rows: &[Row], far: usize) -> usize {
+fn near(rows: &[FailureRow], far: usize) -> usize {
     let mut count = 0usize;
     for row in rows {
         if row.distance <= far {
@@ -96,11 +96,11 @@ fn near(rows: &[Row], far: usize) -> usize {
 
 /// Tells the rows, the nearest first and else in their order; more than some are counted, with what
 /// is said of them, and so are those that are farther than a distance.
-pub(crate) fn tell_rows(
+pub(crate) fn add_rows(
     items: &mut Items,
     depth: usize,
     before: &str,
-    rows: &[Row],
+    rows: &[FailureRow],
     far: usize,
     what: &str,
 ) {
@@ -113,22 +113,22 @@ pub(crate) fn tell_rows(
                 continue;
             }
             if told < most {
-                tell_row(items, depth, before, row);
+                add_row(items, depth, before, row);
                 told = told.saturating_add(1);
             } else {
                 others = others.saturating_add(row.count);
             }
         }
     }
-    tell_others(items, depth, before, others, what)
+    add_others(items, depth, before, others, what)
 }
 
 /// Tells how many others there are, if there are some, with what is said of them.
-fn tell_others(items: &mut Items, depth: usize, before: &str, others: usize, what: &str) {
+fn add_others(items: &mut Items, depth: usize, before: &str, others: usize, what: &str) {
     if others == 0 {
         return;
     }
-    let mut words = Words::of(items.alloc(), before);
+    let mut words = TextBuilder::of(items.alloc(), before);
     words
         .put("the other ")
         .put_number(others)
@@ -138,7 +138,7 @@ fn tell_others(items: &mut Items, depth: usize, before: &str, others: usize, wha
 }
 
 /// The distance of the nearest row.
-pub(crate) fn nearest(rows: &[Row]) -> usize {
+pub(crate) fn nearest(rows: &[FailureRow]) -> usize {
     let mut least = usize::MAX;
     for row in rows {
         least = least.min(row.distance);
@@ -146,7 +146,7 @@ pub(crate) fn nearest(rows: &[Row]) -> usize {
     least
 }
 
-fn farthest(rows: &[Row]) -> usize {
+fn farthest(rows: &[FailureRow]) -> usize {
     let mut most = 0usize;
     for row in rows {
         most = most.max(row.distance);
@@ -154,7 +154,7 @@ fn farthest(rows: &[Row]) -> usize {
     most
 }
 
-fn tell_row(items: &mut Items, depth: usize, before: &str, row: &Row) {
+fn add_row(items: &mut Items, depth: usize, before: &str, row: &FailureRow) {
     let head = head_of(items.alloc(), before, row);
     items.say(depth, "", head);
     if row.reasons.len() <= 1 {
@@ -162,20 +162,20 @@ fn tell_row(items: &mut Items, depth: usize, before: &str, row: &Row) {
     }
     let below = depth.saturating_add(1);
     for reason in &row.reasons {
-        items.say(below, "", Words::of_text(items.alloc(), reason));
+        items.say(below, "", TextBuilder::of_text(items.alloc(), reason));
     }
 }
 
 /// A row's names, with its reason where it has one alone.
-fn head_of(alloc: Global, before: &str, row: &Row) -> Words {
-    let mut text = Words::of(alloc, before);
+fn head_of(alloc: Global, before: &str, row: &FailureRow) -> TextBuilder {
+    let mut text = TextBuilder::of(alloc, before);
     put_few(&mut text, &row.names, MOST_ROW_NAMES);
     put_reason(&mut text, &row.reasons);
     text
 }
 
 /// Puts the reason of a row after its names, where it has one alone.
-fn put_reason(text: &mut Words, reasons: &[Text]) {
+fn put_reason(text: &mut TextBuilder, reasons: &[Text]) {
     match reasons {
         [] => {}
         [reason] => {
@@ -193,11 +193,16 @@ pub(crate) fn mark_after(text: &str) -> &'static str {
 }
 
 /// Puts a sentence on participants after a text, if they are some.
-pub(crate) fn put_those(text: &mut Words, people: &[Asked<'_>], one: &str, many: &str) {
-    if people.is_empty() {
+pub(crate) fn put_those(
+    text: &mut TextBuilder,
+    participants: &[NamedParticipant<'_>],
+    one: &str,
+    many: &str,
+) {
+    if participants.is_empty() {
         return;
     }
     let mark = mark_after(text.as_str());
     text.put(mark);
-    put_has(text, people, one, many)
+    put_has(text, participants, one, many)
 }

@@ -7,7 +7,7 @@ use Rattle.sysmem_image.specs.Entries.{first_match}
 use Rattle.sysmem_image.specs.declared.entry.Entry.{Entry}
 use Rattle.sysmem_image.specs.declared.size.Size.{Size}
 use Rattle.negotiation_inputs.specs.Participant.{Participant}
-use Rattle.value_sources.specs.declared.asked.Asked.{Asked}
+use Rattle.value_sources.specs.declared.participant.NamedParticipant.{NamedParticipant}
 use Rattle.value_sources.specs.declared.counting.CountPart.{CountPart}
 use Rattle.value_sources.specs.declared.counting.CountPart.TheVariants.{Camping, Dedicated, Shared}
 use Rattle.value_sources.specs.declared.counting.CountPart.TheVariants.{Minimum}
@@ -21,19 +21,20 @@ use Rattle.value_sources.specs.declared.wishes.Wish.TheVariants.{RowDivisor}
 use Rattle.value_sources.specs.declared.wishes.Wish.TheVariants.{WholePixels, MostPixels}
 
 -- what participants ask, in their order
-abbrev pub all_asked : List Asked → List Participant
-all_asked people = map (λ one. one.asked.now) people
+abbrev pub all_asked : List NamedParticipant → List Participant
+all_asked participants = map (λ one. one.asked.now) participants
 
 -- somebody of this name has this number
-abbrev pub IsNumberOf : (Asked → ℕ) → List Asked → List ℕ → ℕ → Type 0
-IsNumberOf number people name n = Any (λ one. (one.name.now ≡ name) × (number one ≡ n)) people
+abbrev pub IsNumberOf : (NamedParticipant → ℕ) → List NamedParticipant → List ℕ → ℕ → Type 0
+IsNumberOf number participants name n =
+    Any (λ one. (one.name.now ≡ name) × (number one ≡ n)) participants
 
 -- what participants ask of the count, in their order
-abbrev pub counts_of : List Asked → List CountConstraints
-counts_of people = map (λ one. one.asked.now.counts) people
+abbrev pub counts_of : List NamedParticipant → List CountConstraints
+counts_of participants = map (λ one. one.asked.now.counts) participants
 
 -- a part of the count that a participant asks for
-abbrev pub part_of : CountPart → Asked → ℕ
+abbrev pub part_of : CountPart → NamedParticipant → ℕ
 part_of Camping one = one.asked.now.counts.min_buffer_count_for_camping
 part_of Dedicated one = one.asked.now.counts.min_buffer_count_for_dedicated_slack
 part_of Shared one = one.asked.now.counts.min_buffer_count_for_shared_slack
@@ -63,6 +64,6 @@ wish_of (WholePixels bytes) entry = whole_pixels entry.bounds.at_pixel_boundary 
 wish_of MostPixels entry = entry.bounds.asked.max_width_times_height
 
 -- what a participant's entry for the offer asks for; this number where it has none
-abbrev pub wish_or : ℕ → Offer → Wish → Asked → ℕ
+abbrev pub wish_or : ℕ → Offer → Wish → NamedParticipant → ℕ
 wish_or absent offer wish one =
     option_map_or (wish_of wish) (first_match offer one.asked.now.entries) absent

@@ -3,19 +3,19 @@
 //! so, in words.
 //!
 //! ```
-//! let wishes = Wishes { people: &people, offer };
+//! let wishes = Wishes { participants: &participants, offer };
 //! let width = wishes.side(rt.alloc(), Side::Width)?;
 //! println!(rt; "{}: {}", width.value, width.why)?;
 //! ```
 #![tactic(auto)]
 
-mod asked;
 mod counting;
 mod multiples;
+mod participant;
 mod sizes;
 mod wishes;
 
-pub use asked::{Asked, put_has, put_people};
 pub use counting::{MOST_COUNTED, count_text, is_count_line, why_needed};
+pub use participant::{NamedParticipant, put_has, put_participants};
 pub use sizes::{Derived, format_words};
 pub use wishes::{Side, Wish, Wishes};

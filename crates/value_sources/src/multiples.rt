@@ -2,7 +2,7 @@
 
 use crate::sizes::Derived;
 use explanation_text::wording::{MOST_NAMES, put_few};
-use explanation_text::{Gathered, Text, Words};
+use explanation_text::{ListBuilder, Text, TextBuilder};
 use std::alloc::{AllocError, Global};
 
 /// A number that others are multiples of, and who asks for it.
@@ -57,7 +57,7 @@ pub(crate) fn multiple_of(alloc: Global, parts: Vec<Multiple>) -> Result<Derived
 fn who_asks(alloc: Global, parts: &[Multiple], whole: u128) -> Result<Text, AllocError> {
     let left_out = needless(alloc, parts, whole)?;
     let texts = texts_of(alloc, parts, &left_out)?;
-    let mut words = Words::new(alloc);
+    let mut words = TextBuilder::new(alloc);
     put_few(&mut words, &texts, MOST_NAMES);
     words.into_text()
 }
@@ -85,7 +85,7 @@ fn texts_of(
     left_out: &[usize],
 ) -> Result<Vec<Text>, AllocError> {
     let kept = parts.len().saturating_sub(left_out.len());
-    let mut texts: Gathered<Text> = Gathered::new(alloc);
+    let mut texts: ListBuilder<Text> = ListBuilder::new(alloc);
     for (k, part) in parts.iter().enumerate() {
         if !left_out.contains(&k) {
             texts.add_text(text_of(alloc, part, kept == 1));
@@ -95,8 +95,8 @@ fn texts_of(
 }
 
 /// Who asks for a part, with its number where others are asked for too.
-fn text_of(alloc: Global, part: &Multiple, is_alone: bool) -> Words {
-    let mut words = Words::of_text(alloc, &part.who);
+fn text_of(alloc: Global, part: &Multiple, is_alone: bool) -> TextBuilder {
+    let mut words = TextBuilder::of_text(alloc, &part.who);
     if !is_alone {
         words.put(" ").put_number(part.value);
     }

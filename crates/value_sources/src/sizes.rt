@@ -1,9 +1,9 @@
 //! The sizes of the smallest image, each with where it comes from.
 
-use crate::asked::Asked;
 use crate::multiples::{Multiple, multiple_of, up};
+use crate::participant::NamedParticipant;
 use crate::wishes::{Side, Wish, Wishes};
-use explanation_text::{Gathered, Text, Words};
+use explanation_text::{ListBuilder, Text, TextBuilder};
 use std::alloc::{AllocError, Global};
 use sysmem_counts::Field;
 use sysmem_formats::{
@@ -19,8 +19,8 @@ pub struct Derived {
 }
 
 /// The name of an offer's format.
-pub fn format_words(alloc: Global, offer: &Offer) -> Words {
-    let mut words = Words::new(alloc);
+pub fn format_words(alloc: Global, offer: &Offer) -> TextBuilder {
+    let mut words = TextBuilder::new(alloc);
     match offer {
         Offer::NoImage => words.put("none"),
         Offer::Image(pair, _) => words.format(pair.format),
@@ -64,14 +64,14 @@ impl<'a> Wishes<'a, '_> {
     /// are given.
     fn add_multiples(
         &self,
-        parts: &mut Gathered<Multiple>,
+        parts: &mut ListBuilder<Multiple>,
         field: Option<Field>,
         wish: Wish,
     ) -> Result<(), AllocError> {
-        for one in self.people {
+        for one in self.participants {
             if let Some(entry) = entry_for(one.asked.entries(), &self.offer) {
                 let value = u128::from(wish.of(entry));
-                let mut words = Words::of_name(parts.alloc(), one.called());
+                let mut words = TextBuilder::of_name(parts.alloc(), one.called());
                 words.put(" ");
                 match field {
                     Some(field) => words.field(field),
@@ -101,7 +101,7 @@ impl<'a> Wishes<'a, '_> {
 
     /// The least width or height that somebody asks for, with who does and by which field, where it
     /// is above 1.
-    fn side_asked(&self, side: Side) -> (u64, Option<(Asked<'a>, Field)>) {
+    fn side_asked(&self, side: Side) -> (u64, Option<(NamedParticipant<'a>, Field)>) {
         let wish = self.greatest(Wish::RequiredMost(side));
         match self.greatest(Wish::Least(side)) {
             Some((one, least)) if least > 1 => match wish {
@@ -136,7 +136,7 @@ impl<'a> Wishes<'a, '_> {
         if width == height {
             return Ok(width);
         }
-        let mut words = Words::of(alloc, "the width ");
+        let mut words = TextBuilder::of(alloc, "the width ");
         words
             .put_text(&width)
             .put("; the height ")
@@ -153,10 +153,10 @@ impl<'a> Wishes<'a, '_> {
 
     /// The least row before it is rounded, and where it comes from: that of the least width, or a
     /// longer one that somebody asks for.
-    fn plain_row(&self, alloc: Global, is_alone: bool) -> Result<(u128, Words), AllocError> {
+    fn plain_row(&self, alloc: Global, is_alone: bool) -> Result<(u128, TextBuilder), AllocError> {
         let width = self.side(alloc, Side::Width)?;
         let packed = self.packed_row(width.value);
-        let mut words = Words::new(alloc);
+        let mut words = TextBuilder::new(alloc);
         match self.greatest(Wish::LeastRow) {
             Some((one, least)) if u128::from(least) > packed => {
                 words
@@ -179,7 +179,7 @@ impl<'a> Wishes<'a, '_> {
     }
 
     /// Puts where that row comes from after a text.
-    fn put_packed(&self, text: &mut Words, width: &Derived, is_alone: bool) {
+    fn put_packed(&self, text: &mut TextBuilder, width: &Derived, is_alone: bool) {
         let pixel = u128::from(bytes_per_pixel(&self.offer));
         put_pixels(text, width.value, pixel);
         if is_alone {
@@ -198,14 +198,14 @@ impl<'a> Wishes<'a, '_> {
         let who = if modifier_of(&self.offer) == Modifier::Linear {
             itself(alloc, &self.offer)
         } else {
-            Words::of(alloc, "tiles")
+            TextBuilder::of(alloc, "tiles")
         };
         let mut parts = own_multiple(who, u128::from(own_row_divisor(&self.offer)))?;
         self.add_row_multiples(&mut parts)?;
         multiple_of(alloc, parts.done()?)
     }
 
-    fn add_row_multiples(&self, parts: &mut Gathered<Multiple>) -> Result<(), AllocError> {
+    fn add_row_multiples(&self, parts: &mut ListBuilder<Multiple>) -> Result<(), AllocError> {
         self.add_multiples(parts, Some(Field::BytesPerRowDivisor), Wish::RowDivisor)?;
         let whole = Wish::WholePixels(bytes_per_pixel(&self.offer));
         self.add_multiples(parts, None, whole)
@@ -225,7 +225,7 @@ impl<'a> Wishes<'a, '_> {
                 return Ok(image);
             }
         }
-        let mut words = Words::new(alloc);
+        let mut words = TextBuilder::new(alloc);
         match least {
             Some((one, _)) => words.name(one.called()).put(" ").field(Field::MinSizeBytes),
             None => words.put("nobody asks for more"),
@@ -239,7 +239,7 @@ impl<'a> Wishes<'a, '_> {
     /// The bytes of the smallest image.
     fn image(&self, alloc: Global, is_alone: bool) -> Result<Derived, AllocError> {
         let image = self.smallest(alloc)?;
-        let mut words = Words::new(alloc);
+        let mut words = TextBuilder::new(alloc);
         image.put(&mut words);
         if is_alone {
             self.put_sides(&mut words, image);
@@ -260,7 +260,7 @@ impl<'a> Wishes<'a, '_> {
     }
 
     /// Puts the sides of an image after a text, and where they come from.
-    fn put_sides(&self, text: &mut Words, image: Image) {
+    fn put_sides(&self, text: &mut TextBuilder, image: Image) {
         text.put(", for ").put_number(image.width);
         text.put("x").put_number(image.height);
         match self.why_size(text.alloc()) {
@@ -297,7 +297,7 @@ impl Image {
     }
 
     /// Puts its bytes as a product after a text.
-    fn put(&self, text: &mut Words) {
+    fn put(&self, text: &mut TextBuilder) {
         let rows = self.rows();
         let word = if rows == 1 { "row" } else { "rows" };
         text.put("row ").put_number(self.row).put(" x ");
@@ -314,8 +314,8 @@ impl Image {
 }
 
 /// Who asks for a side, and by which field.
-fn side_words(alloc: Global, first: Option<(Asked<'_>, Field)>) -> Words {
-    let mut words = Words::new(alloc);
+fn side_words(alloc: Global, first: Option<(NamedParticipant<'_>, Field)>) -> TextBuilder {
+    let mut words = TextBuilder::new(alloc);
     match first {
         Some((one, field)) => words.name(one.called()).put(" ").field(field),
         None => words.put("nobody asks for more than 1"),
@@ -324,15 +324,15 @@ fn side_words(alloc: Global, first: Option<(Asked<'_>, Field)>) -> Words {
 }
 
 /// That an offer's format asks for it itself.
-fn itself(alloc: Global, offer: &Offer) -> Words {
+fn itself(alloc: Global, offer: &Offer) -> TextBuilder {
     let mut words = format_words(alloc, offer);
     words.put(" itself");
     words
 }
 
 /// A list of one multiple.
-fn own_multiple(words: Words, value: u128) -> Result<Gathered<Multiple>, AllocError> {
-    let mut parts = Gathered::new(words.alloc());
+fn own_multiple(words: TextBuilder, value: u128) -> Result<ListBuilder<Multiple>, AllocError> {
+    let mut parts = ListBuilder::new(words.alloc());
     parts.add(Multiple {
         value,
         who: words.into_text()?,
@@ -346,7 +346,7 @@ fn rounded(
     base: u128,
     multiple: Derived,
     mark: Option<&str>,
-    why: Words,
+    why: TextBuilder,
 ) -> Result<Derived, AllocError> {
     let mut words = why;
     let value = up(base, multiple.value);
@@ -359,7 +359,7 @@ fn rounded(
     })
 }
 
-fn put_rounding(text: &mut Words, base: u128, multiple: &Derived, mark: Option<&str>) {
+fn put_rounding(text: &mut TextBuilder, base: u128, multiple: &Derived, mark: Option<&str>) {
     if let Some(mark) = mark {
         text.put(mark).put_number(base);
     }
@@ -369,7 +369,7 @@ fn put_rounding(text: &mut Words, base: u128, multiple: &Derived, mark: Option<&
 }
 
 /// Puts how many pixels of how many bytes after a text.
-fn put_pixels(text: &mut Words, width: u128, bytes: u128) {
+fn put_pixels(text: &mut TextBuilder, width: u128, bytes: u128) {
     let pixels = if width == 1 { "pixel" } else { "pixels" };
     let word = if bytes == 1 { "byte" } else { "bytes" };
     text.put_number(width).put(" ").put(pixels).put(" of ");

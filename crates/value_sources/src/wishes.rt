@@ -4,7 +4,7 @@
 ghost use Rattle.std.specs.Prelude.{◌≡◌, ◌≤◌, ◌<◌, ◌^◌, All, IfSome, IfNone};
 ghost use Rattle.value_sources.specs.Sources.{IsNumberOf, side_of, wish_of, wish_or};
 
-use crate::asked::Asked;
+use crate::participant::NamedParticipant;
 use sysmem_formats::Offer;
 use sysmem_image::{Entry, Size, entry_for};
 
@@ -85,12 +85,12 @@ impl Wish {
 /// Participants, with an offer.
 #[derive(Clone, Copy)]
 pub struct Wishes<'a, 'b> {
-    pub people: &'b [Asked<'a>],
+    pub participants: &'b [NamedParticipant<'a>],
     pub offer: Offer,
 }
 
 /// What a participant's entry for an offer asks for; this number where it has none.
-fn asked_or(one: &Asked<'_>, offer: &Offer, wish: Wish, absent: u64) -> u64
+fn asked_or(one: &NamedParticipant<'_>, offer: &Offer, wish: Wish, absent: u64) -> u64
     ensures { result ≡ wish_or absent offer.now wish one.now }
 {
     match entry_for(one.asked.entries(), offer) {
@@ -102,18 +102,18 @@ fn asked_or(one: &Asked<'_>, offer: &Offer, wish: Wish, absent: u64) -> u64
 impl<'a> Wishes<'a, '_> {
     /// The first who asks for the greatest of some numbers, with that, if anybody asks for more
     /// than 0.
-    pub fn greatest(&self, wish: Wish) -> Option<(Asked<'a>, u64)>
+    pub fn greatest(&self, wish: Wish) -> Option<(NamedParticipant<'a>, u64)>
         ensures from { IfSome result (λ r.
-            IsNumberOf (wish_or 0 self.now.offer wish) self.now.people.now r.0.name.now r.1) }
+            IsNumberOf (wish_or 0 self.now.offer wish) self.now.participants.now r.0.name.now r.1) }
         ensures most { IfSome result (λ r.
-            All (λ one. wish_or 0 self.now.offer wish one ≤ r.1) self.now.people.now) }
+            All (λ one. wish_or 0 self.now.offer wish one ≤ r.1) self.now.participants.now) }
         ensures some { IfSome result (λ r. 0 < r.1) }
         ensures none { IfNone result
-            (All (λ one. wish_or 0 self.now.offer wish one ≡ 0) self.now.people.now) }
+            (All (λ one. wish_or 0 self.now.offer wish one ≡ 0) self.now.participants.now) }
     {
         let offer = self.offer;
-        let people = self.people;
-        let one = people
+        let participants = self.participants;
+        let one = participants
             .iter()
             .rev()
             .max_by_key(|one| asked_or(one, &offer, wish, 0))?;
@@ -126,17 +126,19 @@ impl<'a> Wishes<'a, '_> {
 
     /// The first who asks for the least of some numbers, with that, if anybody asks for less than
     /// the greatest of 64 bits.
-    pub fn least(&self, wish: Wish) -> Option<(Asked<'a>, u64)>
+    pub fn least(&self, wish: Wish) -> Option<(NamedParticipant<'a>, u64)>
         ensures from { IfSome result (λ r.
-            IsNumberOf (wish_or u64.MAX self.now.offer wish) self.now.people.now r.0.name.now r.1) }
+            IsNumberOf (wish_or u64.MAX self.now.offer wish)
+            self.now.participants.now r.0.name.now r.1) }
         ensures least { IfSome result (λ r.
-            All (λ one. r.1 ≤ wish_or u64.MAX self.now.offer wish one) self.now.people.now) }
+            All (λ one. r.1 ≤ wish_or u64.MAX self.now.offer wish one) self.now.participants.now) }
         ensures none { IfNone result
-            (All (λ one. wish_or u64.MAX self.now.offer wish one ≡ u64.MAX) self.now.people.now) }
+            (All (λ one. wish_or u64.MAX self.now.offer wish one ≡ u64.MAX)
+            self.now.participants.now) }
     {
         let offer = self.offer;
-        let people = self.people;
-        let one = people
+        let participants = self.participants;
+        let one = participants
             .iter()
             .min_by_key(|one| asked_or(one, &offer, wish, u64::MAX))?;
         let least = asked_or(one, &offer, wish, u64::MAX);
@@ -148,16 +150,16 @@ impl<'a> Wishes<'a, '_> {
 
     /// The first who states the greatest least size of a buffer, in bytes, with that, if anybody
     /// states more than 1.
-    pub(crate) fn least_size(&self) -> Option<(Asked<'a>, u64)>
+    pub(crate) fn least_size(&self) -> Option<(NamedParticipant<'a>, u64)>
         ensures from { IfSome result (λ r. IsNumberOf (λ one. one.asked.now.memory.min_size_bytes)
-            self.now.people.now r.0.name.now r.1) }
+            self.now.participants.now r.0.name.now r.1) }
         ensures most { IfSome result (λ r.
-            All (λ one. one.asked.now.memory.min_size_bytes ≤ r.1) self.now.people.now) }
+            All (λ one. one.asked.now.memory.min_size_bytes ≤ r.1) self.now.participants.now) }
         ensures none { IfNone result
-            (All (λ one. one.asked.now.memory.min_size_bytes ≤ 1) self.now.people.now) }
+            (All (λ one. one.asked.now.memory.min_size_bytes ≤ 1) self.now.participants.now) }
     {
-        let people = self.people;
-        let one = people
+        let participants = self.participants;
+        let one = participants
             .iter()
             .rev()
             .max_by_key(|one| one.asked.memory().min_size_bytes)?;
@@ -169,14 +171,14 @@ impl<'a> Wishes<'a, '_> {
     }
 
     /// The first who takes the fewest bytes of a buffer at most, with that, if anybody says so.
-    pub fn greatest_size(&self) -> Option<(Asked<'a>, u64)>
+    pub fn greatest_size(&self) -> Option<(NamedParticipant<'a>, u64)>
         ensures from { IfSome result (λ r. IsNumberOf (λ one. one.asked.now.memory.max_size_bytes)
-            self.now.people.now r.0.name.now r.1) }
+            self.now.participants.now r.0.name.now r.1) }
         ensures least { IfSome result (λ r.
-            All (λ one. r.1 ≤ one.asked.now.memory.max_size_bytes) self.now.people.now) }
+            All (λ one. r.1 ≤ one.asked.now.memory.max_size_bytes) self.now.participants.now) }
     {
-        let people = self.people;
-        let one = people
+        let participants = self.participants;
+        let one = participants
             .iter()
             .min_by_key(|one| one.asked.memory().max_size_bytes)?;
         Some((*one, one.asked.memory().max_size_bytes))

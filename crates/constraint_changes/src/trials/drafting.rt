@@ -3,14 +3,14 @@
 use crate::trials::bounding::Bound;
 use crate::trials::entries::states_bound;
 use constraint_edits::{Amount, Edit};
-use explanation_text::Gathered;
+use explanation_text::ListBuilder;
 use negotiation_inputs::Constraints;
 use serde_json::Value;
 use std::alloc::{AllocError, Global};
 use sysmem_counts::{CountConstraints, Field, Usage};
 use sysmem_image::Entry;
 use sysmem_memory::{Heap, MemoryConstraints};
-use value_sources::Asked;
+use value_sources::NamedParticipant;
 
 /// A change of a participant: an edit, after which the field has an amount if one is given.
 #[derive(Clone, Copy)]
@@ -24,7 +24,7 @@ pub struct Change {
 /// something else, or a record might have a fault then.
 pub fn asked_after(
     alloc: Global,
-    one: &Asked<'_>,
+    one: &NamedParticipant<'_>,
     changes: &[Change],
 ) -> Result<Option<Constraints>, AllocError> {
     let mut draft = Draft::of(alloc, one)?;
@@ -48,7 +48,7 @@ struct Draft<'a> {
 }
 
 impl<'a> Draft<'a> {
-    fn of(alloc: Global, one: &Asked<'a>) -> Result<Draft<'a>, AllocError> {
+    fn of(alloc: Global, one: &NamedParticipant<'a>) -> Result<Draft<'a>, AllocError> {
         Ok(Draft {
             stated: one.stated,
             usage: one.asked.usage(),
@@ -171,7 +171,7 @@ fn copied_memory(
 }
 
 fn copied_heaps(alloc: Global, heaps: &[Heap]) -> Result<Vec<Heap>, AllocError> {
-    let mut copies = Gathered::new(alloc);
+    let mut copies = ListBuilder::new(alloc);
     for heap in heaps {
         copies.add(Heap {
             heap_type: heap.heap_type.clone()?,

@@ -7,7 +7,7 @@ use std::alloc::{AllocError, Global};
 use sysmem_counts::Field;
 use sysmem_formats::Pair;
 use sysmem_image::Entry;
-use value_sources::Asked;
+use value_sources::NamedParticipant;
 
 const ENTRIES: &str = "image_format_constraints";
 
@@ -71,7 +71,7 @@ fn pairs_of(entry: &Value) -> usize {
 pub fn entries_behind(
     alloc: Global,
     platform: &Platform,
-    one: &Asked<'_>,
+    one: &NamedParticipant<'_>,
 ) -> Result<Vec<usize>, AllocError> {
     let entries = one.asked.entries();
     let items = items_of(alloc, one)?;
@@ -85,7 +85,7 @@ pub fn entries_behind(
 }
 
 /// The entry of the record to which each pair of a participant belongs.
-fn items_of(alloc: Global, one: &Asked<'_>) -> Result<Vec<usize>, AllocError> {
+fn items_of(alloc: Global, one: &NamedParticipant<'_>) -> Result<Vec<usize>, AllocError> {
     let mut items = Vec::new(alloc);
     for index in 0..one.asked.entries().len() {
         items.push(entry_place(one.stated, index).item)?;

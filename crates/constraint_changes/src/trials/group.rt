@@ -3,12 +3,12 @@
 use crate::trials::changed_lines::{changed_lines, entry_lines};
 use constraint_edits::Edit;
 use explanation_text::wording::put_few;
-use explanation_text::{Gathered, Step, Text, Words, line_of};
+use explanation_text::{ListBuilder, Step, Text, TextBuilder, line_of};
 use script_faults::{Document, RecordPart};
 use script_story::{Milestone, Scenario, Story};
 use serde_json::Value;
 use std::alloc::{AllocError, Global};
-use value_sources::Asked;
+use value_sources::NamedParticipant;
 
 /// How long a text may be, in bytes, of which lines are told: for each line it is gone through.
 const LONGEST: usize = 262_144;
@@ -22,7 +22,7 @@ pub struct Group<'a, 'b> {
     pub path: &'b str,
     /// The root of the domain, by number.
     pub root: usize,
-    pub people: &'b [Asked<'a>],
+    pub participants: &'b [NamedParticipant<'a>],
 }
 
 impl Group<'_, '_> {
@@ -42,9 +42,9 @@ impl Group<'_, '_> {
     }
 
     /// The same participant.
-    pub(crate) fn one_stating(&self, place: usize) -> Option<&Asked<'_>> {
+    pub(crate) fn one_stating(&self, place: usize) -> Option<&NamedParticipant<'_>> {
         let number = Some(place.saturating_add(1));
-        for one in self.people {
+        for one in self.participants {
             if self.story.milestone(one.node, Milestone::SetConstraints) == number {
                 return Some(one);
             }
@@ -54,7 +54,7 @@ impl Group<'_, '_> {
 
     /// A participant, with the call that states its constraints and its line: `camera (call 5, line
     /// 14)`.
-    pub fn who(&self, alloc: Global, one: &Asked<'_>) -> Result<Text, AllocError> {
+    pub fn who(&self, alloc: Global, one: &NamedParticipant<'_>) -> Result<Text, AllocError> {
         let number = self
             .story
             .milestone(one.node, Milestone::SetConstraints)
@@ -65,7 +65,7 @@ impl Group<'_, '_> {
             Step::Key("constraints"),
         ];
         let line = line_at(alloc, self.document, &path, RecordPart::Key)?;
-        let mut words = Words::of_name(alloc, one.called());
+        let mut words = TextBuilder::of_name(alloc, one.called());
         words.put(" (call ").call(number);
         if let Some(line) = line {
             words.put(", line ").put_number(line);
@@ -79,7 +79,7 @@ impl Group<'_, '_> {
     pub fn who_changes(
         &self,
         alloc: Global,
-        one: &Asked<'_>,
+        one: &NamedParticipant<'_>,
         edit: Edit,
         changed: &Value,
     ) -> Result<Text, AllocError> {
@@ -93,7 +93,7 @@ impl Group<'_, '_> {
             (_, Some(stated)) => changed_lines(alloc, self.document, place, stated, changed)?,
             _ => Vec::new(alloc),
         };
-        let mut words = Words::of_name(alloc, one.called());
+        let mut words = TextBuilder::of_name(alloc, one.called());
         words.put(" (call ").call(number);
         put_lines(&mut words, &lines);
         words.put(")");
@@ -102,7 +102,7 @@ impl Group<'_, '_> {
 }
 
 /// Puts lines after a text: `, line 14`, `, lines 14 and 19`.
-fn put_lines(text: &mut Words, lines: &[usize]) {
+fn put_lines(text: &mut TextBuilder, lines: &[usize]) {
     if lines.is_empty() {
         return;
     }
@@ -111,9 +111,9 @@ fn put_lines(text: &mut Words, lines: &[usize]) {
     } else {
         ", lines "
     });
-    let mut texts: Gathered<Text> = Gathered::new(text.alloc());
+    let mut texts: ListBuilder<Text> = ListBuilder::new(text.alloc());
     for line in lines {
-        let mut words = Words::new(text.alloc());
+        let mut words = TextBuilder::new(text.alloc());
         words.put_number(*line);
         texts.add_text(words);
     }

@@ -5,7 +5,7 @@ use crate::trials::group::Group;
 use std::alloc::{AllocError, Global};
 use sysmem_counts::BUFFER_COUNT_LIMIT;
 use sysmem_memory::{CoherencyDomain, HeapInfo, refuses};
-use value_sources::Asked;
+use value_sources::NamedParticipant;
 
 /// How many buffers participants need at least, and how many they take at most.
 #[derive(Clone, Copy)]
@@ -30,7 +30,7 @@ impl Need {
     }
 
     /// That of a participant, in a place if one is given: without end where it refuses that.
-    fn of(one: &Asked<'_>, place: Option<(&HeapInfo, CoherencyDomain)>) -> Need {
+    fn of(one: &NamedParticipant<'_>, place: Option<(&HeapInfo, CoherencyDomain)>) -> Need {
         let (memory, usage) = (one.asked.memory(), one.asked.usage());
         let is_refused = match place {
             Some((heap, coherency)) => refuses(memory, usage, heap, coherency).is_some(),
@@ -84,15 +84,15 @@ impl Need {
 pub(crate) fn need_too_many(
     alloc: Global,
     group: Group<'_, '_>,
-    people: &[Asked<'_>],
+    participants: &[NamedParticipant<'_>],
 ) -> Result<bool, AllocError> {
-    if need_in(alloc, group, people, None)?.is_too_great() {
+    if need_in(alloc, group, participants, None)?.is_too_great() {
         return Ok(true);
     }
     for heap in group.scenario.platform.heaps() {
         for coherency in &CoherencyDomain::ALL {
             if heap.domains.has(*coherency)
-                && !need_in(alloc, group, people, Some((heap, *coherency)))?.is_too_great()
+                && !need_in(alloc, group, participants, Some((heap, *coherency)))?.is_too_great()
             {
                 return Ok(false);
             }
@@ -102,9 +102,9 @@ pub(crate) fn need_too_many(
 }
 
 /// Whether participants who are all asked need more buffers than they take or than there can be.
-pub(crate) fn together_need_too_many(people: &[Asked<'_>]) -> bool {
+pub(crate) fn together_need_too_many(participants: &[NamedParticipant<'_>]) -> bool {
     let mut total = Need::none();
-    for one in people {
+    for one in participants {
         total = total.with(Need::of(one, None));
     }
     total.is_too_great()
@@ -115,14 +115,14 @@ pub(crate) fn together_need_too_many(people: &[Asked<'_>]) -> bool {
 pub(crate) fn need_in(
     alloc: Global,
     group: Group<'_, '_>,
-    people: &[Asked<'_>],
+    participants: &[NamedParticipant<'_>],
     place: Option<(&HeapInfo, CoherencyDomain)>,
 ) -> Result<Need, AllocError> {
     let mut needs: Vec<Option<Need>> = Vec::new(alloc);
     for _node in 0..group.story.nodes.len() {
         needs.push(None)?;
     }
-    for one in people {
+    for one in participants {
         if let Some(need) = needs.get_mut(one.node) {
             *need = Some(Need::of(one, place));
         }

@@ -2,10 +2,10 @@
 
 use crate::trials::group::Group;
 use crate::trials::need::need_in;
-use crate::trials::unmet::{Read, has_groups};
+use crate::trials::unmet::{ReadRecord, has_groups};
 use settings_reasons::{in_the_way, is_unmet};
 use std::alloc::{AllocError, Global};
-use value_sources::Asked;
+use value_sources::NamedParticipant;
 
 /// How many parties are looked for at most.
 const MOST: usize = 24;
@@ -16,14 +16,14 @@ const STEPS: usize = 64;
 /// Participants who are asked together where some children of groups are selected.
 #[derive(Drop)]
 pub struct Party<'a> {
-    pub(crate) people: Vec<Asked<'a>>,
+    pub(crate) participants: Vec<NamedParticipant<'a>>,
     /// Those of them who leave no settings by themselves.
-    pub(crate) needed: Vec<Asked<'a>>,
+    pub(crate) needed: Vec<NamedParticipant<'a>>,
 }
 
 impl Party<'_> {
     /// Whether somebody of those who leave no settings by themselves asks something else.
-    pub(crate) fn is_changed(&self, read: &[Read<'_>]) -> bool {
+    pub(crate) fn is_changed(&self, read: &[ReadRecord<'_>]) -> bool {
         for other in read {
             if self.needs(other.node) {
                 return true;
@@ -60,15 +60,18 @@ pub fn can_help(parties: &[Party<'_>], node: usize) -> bool {
 /// buffers tells it, or nothing more is to be tried. Without groups of tokens it is one of all.
 pub fn parties_of<'a>(alloc: Global, group: Group<'a, '_>) -> Result<Vec<Party<'a>>, AllocError> {
     let mut parties = Vec::new(alloc);
-    if has_groups(group.story) && need_in(alloc, group, group.people, None)?.is_too_great() {
+    if has_groups(group.story) && need_in(alloc, group, group.participants, None)?.is_too_great() {
         return Ok(parties);
     }
     for chosen in selections(alloc, group)? {
-        let people = asked_with(alloc, group, &chosen)?;
-        let Some(needed) = hindering(alloc, group, &people)? else {
+        let participants = asked_with(alloc, group, &chosen)?;
+        let Some(needed) = hindering(alloc, group, &participants)? else {
             return Ok(Vec::new(alloc));
         };
-        parties.push(Party { people, needed })?;
+        parties.push(Party {
+            participants,
+            needed,
+        })?;
     }
     Ok(parties)
 }
@@ -78,16 +81,16 @@ pub fn parties_of<'a>(alloc: Global, group: Group<'a, '_>) -> Result<Vec<Party<'
 fn hindering<'a>(
     alloc: Global,
     group: Group<'_, '_>,
-    people: &[Asked<'a>],
-) -> Result<Option<Vec<Asked<'a>>>, AllocError> {
+    participants: &[NamedParticipant<'a>],
+) -> Result<Option<Vec<NamedParticipant<'a>>>, AllocError> {
     let scenario = group.scenario;
     if scenario.effort.is_spent() {
         return Ok(None);
     }
     scenario
         .effort
-        .ask(people.len().saturating_mul(people.len()));
-    in_the_way(alloc, scenario.platform, people)
+        .ask(participants.len().saturating_mul(participants.len()));
+    in_the_way(alloc, scenario.platform, participants)
 }
 
 /// Children of groups that are selected, so that whatever is selected has one of these lists; none
@@ -126,14 +129,14 @@ fn next_group(
     chosen: &[usize],
 ) -> Result<Option<usize>, AllocError> {
     let scenario = group.scenario;
-    let people = asked_with(alloc, group, chosen)?;
-    scenario.effort.ask(people.len());
-    if is_unmet(alloc, scenario.platform, &people)? {
+    let participants = asked_with(alloc, group, chosen)?;
+    scenario.effort.ask(participants.len());
+    if is_unmet(alloc, scenario.platform, &participants)? {
         return Ok(None);
     }
     let longer = with_firsts(alloc, group, chosen)?;
-    let people = asked_with(alloc, group, &longer)?;
-    if let Some(few) = hindering(alloc, group, &people)? {
+    let participants = asked_with(alloc, group, &longer)?;
+    if let Some(few) = hindering(alloc, group, &participants)? {
         for one in &few {
             if let Some(open) = open_above(group, chosen, one.node) {
                 return Ok(Some(open));
@@ -197,14 +200,14 @@ fn asked_with<'a>(
     alloc: Global,
     group: Group<'a, '_>,
     chosen: &[usize],
-) -> Result<Vec<Asked<'a>>, AllocError> {
-    let mut people = Vec::new(alloc);
-    for one in group.people {
+) -> Result<Vec<NamedParticipant<'a>>, AllocError> {
+    let mut participants = Vec::new(alloc);
+    for one in group.participants {
         if is_asked(group, chosen, one.node) {
-            people.push(*one)?;
+            participants.push(*one)?;
         }
     }
-    Ok(people)
+    Ok(participants)
 }
 
 /// Whether a node has its place wherever these children are selected: each group above it has the

@@ -10,24 +10,24 @@ use serde_json::Value;
 use std::alloc::{AllocError, Global};
 
 /// Constraints that a call states in the place of its own.
-pub struct Stated {
+pub struct RestatedConstraints {
     /// The place of the call, from 0.
     pub place: usize,
     pub value: Value,
 }
 
-impl Drop for Stated {
+impl Drop for RestatedConstraints {
     fn drop(self) {
-        let Stated { place: _, value: _ } = self;
+        let RestatedConstraints { place: _, value: _ } = self;
     }
 }
 
-impl Stated {
+impl RestatedConstraints {
     /// The constraints alone.
     pub fn into_value(self) -> Value
         ensures { result ≡ self.value }
     {
-        let Stated { value, place: _ } = self;
+        let RestatedConstraints { value, place: _ } = self;
         value
     }
 }
@@ -36,7 +36,7 @@ impl Stated {
 pub fn restated<'a>(
     alloc: Global,
     calls: &[Call<'a>],
-    stated: &'a [Stated],
+    stated: &'a [RestatedConstraints],
 ) -> Result<Vec<Call<'a>>, AllocError>
     ensures { IfOk result
         (λ made. IsRestated (map call_seen calls.now) (map call_seen made.items)) }

@@ -10,7 +10,7 @@ ghost use Rattle.constraint_changes.specs.Edited.{IsPromised, stating};
 use crate::trials::group::Group;
 use crate::trials::parties::Party;
 use crate::trials::unmet::least_met;
-use constraint_edits::{Amount, Changed, Edit, Halving, is_absurd};
+use constraint_edits::{Amount, Edit, EditedConstraints, Halving, is_absurd};
 use explanation_text::Text;
 use script_reading::{Act, Call};
 use script_story::Scenario;
@@ -21,16 +21,16 @@ use std::alloc::{AllocError, Global};
 pub const MOST_HALVINGS: usize = 140;
 
 /// A change that helps, with the decision that comes then.
-pub struct Found {
+pub struct TrialResult {
     pub words: Text,
     pub line: String,
     /// The constraints with the change.
     pub value: Value,
 }
 
-impl Drop for Found {
+impl Drop for TrialResult {
     fn drop(self) {
-        let Found {
+        let TrialResult {
             words: _,
             line: _,
             value: _,
@@ -38,12 +38,12 @@ impl Drop for Found {
     }
 }
 
-impl Found {
+impl TrialResult {
     /// The line of the decision alone.
     pub fn into_line(self) -> String
         ensures { result ≡ self.line }
     {
-        let Found {
+        let TrialResult {
             line,
             words: _,
             value: _,
@@ -83,8 +83,8 @@ impl Trial<'_, '_> {
         parties: &[Party<'_>],
         value: &Value,
         edit: Edit,
-        found: Found,
-    ) -> Result<Found, AllocError>
+        found: TrialResult,
+    ) -> Result<TrialResult, AllocError>
         requires { IsPromised self.now.scenario.now.platform.now
             (map call_seen self.now.scenario.now.calls.now) self.now.place self.now.path.now
             (string_bytes found.line) }
@@ -108,8 +108,8 @@ impl Trial<'_, '_> {
         alloc: Global,
         value: &Value,
         edit: Edit,
-        found: Found,
-    ) -> Result<Found, AllocError>
+        found: TrialResult,
+    ) -> Result<TrialResult, AllocError>
         requires { IsPromised self.now.scenario.now.platform.now
             (map call_seen self.now.scenario.now.calls.now) self.now.place self.now.path.now
             (string_bytes found.line) }
@@ -146,7 +146,11 @@ impl Trial<'_, '_> {
     }
 
     /// A change with the decision that comes then, if one is chosen that may be meant.
-    fn promised(&self, alloc: Global, change: Changed) -> Result<Option<Found>, AllocError>
+    fn promised(
+        &self,
+        alloc: Global,
+        change: EditedConstraints,
+    ) -> Result<Option<TrialResult>, AllocError>
         ensures { IfOk result (λ told. IfSome told (λ found. IsPromised
             self.now.scenario.now.platform.now (map call_seen self.now.scenario.now.calls.now)
             self.now.place self.now.path.now (string_bytes found.line))) }
@@ -154,7 +158,7 @@ impl Trial<'_, '_> {
         match self.outcome(alloc, &change.value)? {
             Some(line) if !is_absurd(&line, false) => {
                 let (value, words) = change.into_parts();
-                Ok(Some(Found { words, line, value }))
+                Ok(Some(TrialResult { words, line, value }))
             }
             _ => Ok(None),
         }

@@ -4,10 +4,10 @@ use crate::trials::drafting::{Change, asked_after};
 use crate::trials::group::Group;
 use crate::trials::need::{need_too_many, together_need_too_many};
 use crate::trials::parties::Party;
-use crate::trials::restating::Stated;
+use crate::trials::restating::RestatedConstraints;
 use crate::trials::trying::MOST_HALVINGS;
-use constraint_edits::{Amount, Changed, Edit, Halving};
-use explanation_text::Gathered;
+use constraint_edits::{Amount, Edit, EditedConstraints, Halving};
+use explanation_text::ListBuilder;
 use negotiation_inputs::Constraints;
 use record_reading::Code;
 use script_story::Story;
@@ -16,11 +16,11 @@ use settings_reasons::is_unmet;
 use std::alloc::{AllocError, Global};
 use std::slice::from_ref;
 use sysmem_sanitise::read_constraints;
-use value_sources::Asked;
+use value_sources::NamedParticipant;
 
 /// What a participant asks in the place of what it states.
 #[derive(Clone, Copy)]
-pub struct Read<'a> {
+pub struct ReadRecord<'a> {
     /// Its number among all.
     pub node: usize,
     pub asked: &'a Constraints,
@@ -43,7 +43,7 @@ pub fn leaves_none(
     alloc: Global,
     group: Group<'_, '_>,
     parties: &[Party<'_>],
-    stated: &[Stated],
+    stated: &[RestatedConstraints],
 ) -> Result<bool, AllocError> {
     let mut asked = Vec::new(alloc);
     for one in stated {
@@ -55,10 +55,10 @@ pub fn leaves_none(
             None => return Ok(false),
         }
     }
-    let mut read = Gathered::new(alloc);
+    let mut read = ListBuilder::new(alloc);
     for (one, constraints) in stated.iter().zip(&asked) {
         if let Some(node) = group.stating(one.place) {
-            read.add(Read {
+            read.add(ReadRecord {
                 node,
                 asked: constraints,
             });
@@ -85,15 +85,15 @@ pub fn leave_none(
     alloc: Global,
     group: Group<'_, '_>,
     parties: &[Party<'_>],
-    read: &[Read<'_>],
+    read: &[ReadRecord<'_>],
 ) -> Result<bool, AllocError> {
     if group.scenario.effort.is_spent() {
         return Ok(false);
     }
     if parties.is_empty() && has_groups(group.story) {
-        let people = all_with(alloc, group.people, read)?;
-        group.scenario.effort.ask(people.len());
-        if need_too_many(alloc, group, &people)? {
+        let participants = all_with(alloc, group.participants, read)?;
+        group.scenario.effort.ask(participants.len());
+        if need_too_many(alloc, group, &participants)? {
             return Ok(true);
         }
     }
@@ -111,7 +111,7 @@ fn leaves_none_with(
     alloc: Global,
     group: Group<'_, '_>,
     party: &Party<'_>,
-    read: &[Read<'_>],
+    read: &[ReadRecord<'_>],
 ) -> Result<bool, AllocError> {
     let platform = group.scenario.platform;
     let effort = group.scenario.effort;
@@ -120,19 +120,19 @@ fn leaves_none_with(
     if together_need_too_many(&few) || is_unmet(alloc, platform, &few)? {
         return Ok(true);
     }
-    effort.ask(party.people.len());
-    let people = all_with(alloc, &party.people, read)?;
-    is_unmet(alloc, platform, &people)
+    effort.ask(party.participants.len());
+    let participants = all_with(alloc, &party.participants, read)?;
+    is_unmet(alloc, platform, &participants)
 }
 
 /// Participants, of whom some ask what was read.
 fn all_with<'a>(
     alloc: Global,
-    people: &[Asked<'a>],
-    read: &[Read<'a>],
-) -> Result<Vec<Asked<'a>>, AllocError> {
+    participants: &[NamedParticipant<'a>],
+    read: &[ReadRecord<'a>],
+) -> Result<Vec<NamedParticipant<'a>>, AllocError> {
     let mut others = Vec::new(alloc);
-    for one in people {
+    for one in participants {
         let mut other = *one;
         for known in read {
             if known.node == one.node {
@@ -150,12 +150,12 @@ pub fn change_leaves_none(
     alloc: Global,
     group: Group<'_, '_>,
     parties: &[Party<'_>],
-    one: &Asked<'_>,
+    one: &NamedParticipant<'_>,
     change: Change,
 ) -> Result<Option<bool>, AllocError> {
     match asked_after(alloc, one, &[change])? {
         Some(asked) => {
-            let read = Read {
+            let read = ReadRecord {
                 node: one.node,
                 asked: &asked,
             };
@@ -176,7 +176,7 @@ pub(crate) fn least_met(
     value: &Value,
     edit: Edit,
     line: &str,
-) -> Result<Option<Changed>, AllocError> {
+) -> Result<Option<EditedConstraints>, AllocError> {
     let mut best = None;
     let Some(mut halving) = Halving::of(value, edit, line) else {
         return Ok(None);
@@ -188,7 +188,7 @@ pub(crate) fn least_met(
         if group.scenario.effort.is_spent() {
             break;
         }
-        let tried = Tried {
+        let tried = TriedAmount {
             place,
             value,
             edit,
@@ -208,14 +208,14 @@ pub(crate) fn least_met(
 
 /// An amount in the place of what the call at a place states.
 #[derive(Clone, Copy)]
-struct Tried<'a> {
+struct TriedAmount<'a> {
     place: usize,
     value: &'a Value,
     edit: Edit,
     amount: Amount,
 }
 
-impl Tried<'_> {
+impl TriedAmount<'_> {
     /// Whether those of a group aren't known to have no settings then.
     fn does(
         &self,
@@ -234,7 +234,7 @@ impl Tried<'_> {
             }
         }
         group.scenario.effort.change(self.place, 1);
-        let stated = Stated {
+        let stated = RestatedConstraints {
             place: self.place,
             value: halving
                 .changed(alloc, self.value, self.amount)?

@@ -4,46 +4,51 @@ use constraint_edits::Edit;
 use settings_reasons::is_taken;
 use sysmem_formats::{ColourSpace, Pair};
 use sysmem_image::Entry;
-use value_sources::Asked;
+use value_sources::NamedParticipant;
 
 /// Whether a change of a participant is worth a try, where at most so many are changed: a format or
 /// a colour space that it doesn't take, and that few others lack; or one that nobody names.
-pub fn is_worth(edit: Edit, one: &Asked<'_>, people: &[Asked<'_>], few: usize) -> bool {
+pub fn is_worth(
+    edit: Edit,
+    one: &NamedParticipant<'_>,
+    participants: &[NamedParticipant<'_>],
+    few: usize,
+) -> bool {
     match edit {
-        Edit::TakesPair(pair) => match lacking_pair(people, pair) {
-            0 => !is_named(people, pair),
+        Edit::TakesPair(pair) => match lacking_pair(participants, pair) {
+            0 => !is_named(participants, pair),
             lacking => lacking <= few && lacks_pair(one, pair),
         },
-        Edit::TakesColour(colour) => match lacking_colour(people, colour) {
-            0 => !is_colour_named(people, colour),
+        Edit::TakesColour(colour) => match lacking_colour(participants, colour) {
+            0 => !is_colour_named(participants, colour),
             lacking => lacking <= few && lacks_colour(one, colour),
         },
-        Edit::NoCpu => is_secure_required(people),
+        Edit::NoCpu => is_secure_required(participants),
         _ => true,
     }
 }
 
 /// How many participants have entries, and none for a pair.
-fn lacking_pair(people: &[Asked<'_>], pair: Pair) -> usize {
+fn lacking_pair(participants: &[NamedParticipant<'_>], pair: Pair) -> usize {
     let mut lacking = 0usize;
-    for one in people {
+    for one in participants {
         lacking = lacking.saturating_add(usize::from(lacks_pair(one, pair)));
     }
     lacking
 }
 
 /// How many participants have entries, none of which takes a colour space.
-fn lacking_colour(people: &[Asked<'_>], colour: ColourSpace) -> usize {
+fn lacking_colour(participants: &[NamedParticipant<'_>], colour: ColourSpace) -> usize {
     let mut lacking = 0usize;
-    for one in people {
+    for one in participants {
         lacking = lacking.saturating_add(usize::from(lacks_colour(one, colour)));
     }
     lacking
 }
 
 /// Whether somebody needs secure memory.
-fn is_secure_required(people: &[Asked<'_>]) -> bool {
-    for one in people {
+fn is_secure_required(participants: &[NamedParticipant<'_>]) -> bool {
+    for one in participants {
         if one.asked.memory().secure_required {
             return true;
         }
@@ -55,8 +60,8 @@ fn is_secure_required(people: &[Asked<'_>]) -> bool {
 const SIZED: u32 = 16;
 
 /// Whether somebody asks for images of some size.
-pub fn are_sized(people: &[Asked<'_>]) -> bool {
-    for one in people {
+pub fn are_sized(participants: &[NamedParticipant<'_>]) -> bool {
+    for one in participants {
         for entry in one.asked.entries() {
             if is_sized(entry) {
                 return true;
@@ -74,7 +79,7 @@ fn is_sized(entry: &Entry) -> bool {
 }
 
 /// Whether a participant has entries, and none for a pair.
-fn lacks_pair(one: &Asked<'_>, pair: Pair) -> bool {
+fn lacks_pair(one: &NamedParticipant<'_>, pair: Pair) -> bool {
     let entries = one.asked.entries();
     for entry in entries {
         if is_taken(entry, pair) {
@@ -85,7 +90,7 @@ fn lacks_pair(one: &Asked<'_>, pair: Pair) -> bool {
 }
 
 /// Whether a participant has entries, and none of them takes a colour space.
-fn lacks_colour(one: &Asked<'_>, colour: ColourSpace) -> bool {
+fn lacks_colour(one: &NamedParticipant<'_>, colour: ColourSpace) -> bool {
     let entries = one.asked.entries();
     for entry in entries {
         if entry.colours.accepts(colour) {
@@ -96,8 +101,8 @@ fn lacks_colour(one: &Asked<'_>, colour: ColourSpace) -> bool {
 }
 
 /// Whether somebody names a pair, and takes it not only as any.
-fn is_named(people: &[Asked<'_>], pair: Pair) -> bool {
-    for one in people {
+fn is_named(participants: &[NamedParticipant<'_>], pair: Pair) -> bool {
+    for one in participants {
         for entry in one.asked.entries() {
             if entry.format == Some(pair.format) && entry.modifier == Some(pair.modifier) {
                 return true;
@@ -107,8 +112,8 @@ fn is_named(people: &[Asked<'_>], pair: Pair) -> bool {
     false
 }
 
-fn is_colour_named(people: &[Asked<'_>], colour: ColourSpace) -> bool {
-    for one in people {
+fn is_colour_named(participants: &[NamedParticipant<'_>], colour: ColourSpace) -> bool {
+    for one in participants {
         for entry in one.asked.entries() {
             if entry.colours.lists(colour) {
                 return true;

@@ -6,7 +6,7 @@ use crate::json::object::Object;
 use crate::json::places::{place_of_call, put_source};
 use crate::json::scene::Scene;
 use crate::json::values::{count_value, measure};
-use explanation_text::{Gathered, Item, Kind, Thing};
+use explanation_text::{Item, Kind, ListBuilder, Thing};
 use serde_json::Value;
 use std::alloc::{AllocError, Global};
 
@@ -103,7 +103,7 @@ fn lines_in(alloc: Global, text: &str) -> Result<Vec<Value>, AllocError> {
     let Some((_, told)) = text.split_once(": ") else {
         return Ok(Vec::new(alloc));
     };
-    let mut lines = Gathered::new(alloc);
+    let mut lines = ListBuilder::new(alloc);
     for part in told.split(", ") {
         if let Some((field, place)) = part.split_once(" in line ") {
             lines.add(line_value(alloc, field, place)?);

@@ -4,7 +4,7 @@ use crate::json::object::Object;
 use crate::json::scene::Scene;
 use crate::json::values::count_value;
 use drm_images::{bits_of, letters_of};
-use explanation_text::{Gathered, Mention, Thing};
+use explanation_text::{ListBuilder, Mention, Thing};
 use serde_json::Value;
 use std::alloc::{AllocError, Global};
 use sysmem_counts::Field;
@@ -70,7 +70,7 @@ impl Mentions {
     }
 
     fn field_values(&self, alloc: Global) -> Result<Vec<Value>, AllocError> {
-        let mut values = Gathered::new(alloc);
+        let mut values = ListBuilder::new(alloc);
         for field in &self.fields {
             values.add(Value::try_from_str(alloc, field.name())?);
         }
@@ -79,7 +79,7 @@ impl Mentions {
 
     /// Each format with the letters of its code, or null.
     fn format_values(&self, alloc: Global) -> Result<Vec<Value>, AllocError> {
-        let mut values = Gathered::new(alloc);
+        let mut values = ListBuilder::new(alloc);
         for format in &self.formats {
             let mut object = Object::new(alloc);
             match letters_of(*format) {
@@ -94,7 +94,7 @@ impl Mentions {
 
     /// Each modifier with its 64 bits.
     fn modifier_values(&self, alloc: Global) -> Result<Vec<Value>, AllocError> {
-        let mut values = Gathered::new(alloc);
+        let mut values = ListBuilder::new(alloc);
         for modifier in &self.modifiers {
             let mut object = Object::new(alloc);
             let bits = bits_of(*modifier);
@@ -106,7 +106,7 @@ impl Mentions {
     }
 
     fn node_values(&self, alloc: Global, scene: &Scene<'_, '_>) -> Result<Vec<Value>, AllocError> {
-        let mut values = Gathered::new(alloc);
+        let mut values = ListBuilder::new(alloc);
         for node in &self.nodes {
             values.add(scene.node_value(alloc, *node)?);
         }

@@ -4,7 +4,7 @@ use crate::json::object::Object;
 use crate::json::scene::Scene;
 use crate::json::values::count_value;
 use explanation_text::wording::put_visible;
-use explanation_text::{Step, Words, column_of, line_of};
+use explanation_text::{Step, TextBuilder, column_of, line_of};
 use script_faults::{Document, RecordPart};
 use serde_json::Value;
 use std::alloc::{AllocError, Global};
@@ -34,7 +34,7 @@ pub(crate) fn put_source(
 
 /// The place that the first line tells: `   --> camera.json:19:13: calls[6].call`.
 fn told_place(alloc: Global, file: &str, head: &str) -> Result<Option<Value>, AllocError> {
-    let mut words = Words::new(alloc);
+    let mut words = TextBuilder::new(alloc);
     put_visible(&mut words, file);
     let shown = words.done()?;
     let Some(named) = head.trim_start().strip_prefix("--> ") else {
@@ -82,14 +82,14 @@ fn note_in(marked: &str) -> &str {
 /// What helps: each begins with `=`, and goes on in the lines below it.
 fn helps_in(alloc: Global, lines: &[&str]) -> Result<Vec<Value>, AllocError> {
     let mut helps = Vec::new(alloc);
-    let mut words = Words::new(alloc);
+    let mut words = TextBuilder::new(alloc);
     for line in lines {
         let told = line.trim_start();
         match told.strip_prefix("= ") {
             Some(begun) => {
                 add_help(
                     &mut helps,
-                    mem::replace(&mut words, Words::of(alloc, begun)),
+                    mem::replace(&mut words, TextBuilder::of(alloc, begun)),
                 )?;
             }
             None => {
@@ -101,7 +101,7 @@ fn helps_in(alloc: Global, lines: &[&str]) -> Result<Vec<Value>, AllocError> {
     Ok(helps)
 }
 
-fn add_help(helps: &mut Vec<Value>, words: Words) -> Result<(), AllocError> {
+fn add_help(helps: &mut Vec<Value>, words: TextBuilder) -> Result<(), AllocError> {
     let help = words.done()?;
     if !help.is_empty() {
         helps.push(Value::String(help))?;
@@ -126,7 +126,7 @@ pub(crate) fn place_of_call(
     let at = span.start.min(document.bytes.len());
     let line = line_of(document.bytes, at);
     let column = column_of(document.bytes, at);
-    let mut words = Words::of(alloc, "calls[");
+    let mut words = TextBuilder::of(alloc, "calls[");
     words.put_number(index).put("]");
     let path = words.done()?;
     Ok(Some(place_value(alloc, document.file, line, column, &path)?))

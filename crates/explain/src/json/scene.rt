@@ -1,7 +1,7 @@
 //! What is known of the script whose explanation is told.
 
 use crate::json::object::Object;
-use explanation_text::Gathered;
+use explanation_text::ListBuilder;
 use negotiation_inputs::Platform;
 use script_faults::Document;
 use script_reading::Call;
@@ -67,7 +67,7 @@ impl Scene<'_, '_> {
         let Some(played) = self.played else {
             return Ok(Vec::new(alloc));
         };
-        let mut values = Gathered::new(alloc);
+        let mut values = ListBuilder::new(alloc);
         for domain in &played.story.domains {
             values.add(self.domain_value(alloc, domain)?);
         }

@@ -1,7 +1,7 @@
 //! Values of JSON for what words say.
 
 use crate::json::object::Object;
-use explanation_text::Words;
+use explanation_text::TextBuilder;
 use serde_json::Value;
 use std::alloc::{AllocError, Global};
 
@@ -13,7 +13,7 @@ pub(crate) fn number_value(alloc: Global, number: u64) -> Result<Value, AllocErr
     if number <= MOST_EXACT {
         return Ok(Value::from(number));
     }
-    let mut words = Words::new(alloc);
+    let mut words = TextBuilder::new(alloc);
     words.put_number(number);
     Ok(Value::String(words.done()?))
 }

@@ -4,7 +4,7 @@ ghost use Rattle.std.specs.Prelude.{[], ⊤};
 
 use crate::json::Played;
 use explanation_text::wording::put_count;
-use explanation_text::{Gathered, Words};
+use explanation_text::{ListBuilder, TextBuilder};
 use script_replay::{Decider, Stop, proved_claim_for, report_of};
 use script_story::{Story, put_domain};
 use std::alloc::{AllocError, Global};
@@ -51,7 +51,7 @@ fn lines_of(conflict: &Conflict) -> usize {
 #[derive(Drop)]
 struct Telling<'a, 'b> {
     story: &'b Story<'a>,
-    proofs: Gathered<String>,
+    proofs: ListBuilder<String>,
 }
 
 impl Decider for Telling<'_, '_> {
@@ -82,7 +82,7 @@ impl Decider for Telling<'_, '_> {
 pub(crate) fn proofs_of(alloc: Global, played: Played<'_, '_>) -> Result<Vec<String>, AllocError> {
     let mut telling = Telling {
         story: played.story,
-        proofs: Gathered::new(alloc),
+        proofs: ListBuilder::new(alloc),
     };
     let platform = played.platform.copy()?;
     match report_of(alloc, platform, played.calls, &mut telling) {
@@ -92,8 +92,8 @@ pub(crate) fn proofs_of(alloc: Global, played: Played<'_, '_>) -> Result<Vec<Str
 }
 
 /// What proves a claim about the domain of a root, in words.
-fn proof_of(alloc: Global, story: &Story<'_>, root: usize, claim: &Claim) -> Words {
-    let mut words = Words::new(alloc);
+fn proof_of(alloc: Global, story: &Story<'_>, root: usize, claim: &Claim) -> TextBuilder {
+    let mut words = TextBuilder::new(alloc);
     put_domain(&mut words, story, root);
     words.put(": ");
     match &claim.proof {
@@ -106,7 +106,7 @@ fn proof_of(alloc: Global, story: &Story<'_>, root: usize, claim: &Claim) -> Wor
     words
 }
 
-fn put_empty(text: &mut Words, refutation: &Refutation) {
+fn put_empty(text: &mut TextBuilder, refutation: &Refutation) {
     let mut tally = Tally::default();
     tally.add(refutation);
     put_tally(text, tally);
@@ -117,14 +117,14 @@ fn put_empty(text: &mut Words, refutation: &Refutation) {
     });
 }
 
-fn put_tally(text: &mut Words, tally: Tally) {
+fn put_tally(text: &mut TextBuilder, tally: Tally) {
     put_count(text, tally.conflicts, "conflict", "conflicts");
     text.put(" of ");
     put_count(text, tally.lines, "line", "lines")
 }
 
 /// Puts what proves settings after a text: of an attached domain they were decided before.
-fn put_chosen(text: &mut Words, story: &Story<'_>, root: usize, certificate: &Certificate) {
+fn put_chosen(text: &mut TextBuilder, story: &Story<'_>, root: usize, certificate: &Certificate) {
     if is_attached(story, root) {
         text.put("the settings decided before suit all");
     } else {
@@ -146,7 +146,7 @@ fn is_attached(story: &Story<'_>, root: usize) -> bool {
 }
 
 /// Puts what refutes the children before the chosen ones after a text.
-fn put_earlier(text: &mut Words, earlier: &[EarlierChoices]) {
+fn put_earlier(text: &mut TextBuilder, earlier: &[EarlierChoices]) {
     let mut tally = Tally::default();
     let mut children = 0usize;
     for choices in earlier {

@@ -9,7 +9,7 @@ pub(crate) fn put_calls(page: &mut Page, drawing: &Drawing<'_>) {
         "<h2>Calls</h2>\n<div class=\"scroll\"><table>\n<thead><tr><th scope=\"col\">call</th>",
     );
     for actor in &drawing.actors {
-        page.say_in("<th scope=\"col\">", actor, "</th>");
+        page.add_in("<th scope=\"col\">", actor, "</th>");
     }
     page.put("</tr></thead>\n<tbody>\n");
     let columns = drawing.actors.len();
@@ -43,7 +43,7 @@ fn put_decision(page: &mut Page, line: &Line, columns: usize) {
     page.put(class_of(line.standing));
     page.put("\"><td class=\"n\">&#9656;</td><td colspan=\"");
     page.put_number(columns.max(1));
-    page.say_in("\">", &line.words, "</td></tr>\n")
+    page.add_in("\">", &line.words, "</td></tr>\n")
 }
 
 /// Puts what proves each decision after the page, and the commands that write and test it.
@@ -55,7 +55,7 @@ pub(crate) fn put_proofs(page: &mut Page, drawing: &Drawing<'_>) {
     }
     page.put("<ul>\n");
     for proof in &drawing.proofs {
-        page.say_in("<li>", proof, "</li>\n");
+        page.add_in("<li>", proof, "</li>\n");
     }
     page.put(
         "</ul>\n<p class=\"soft\"><code>sysmem_replay run FILE --proof OUT</code> writes it, and ",

@@ -7,7 +7,7 @@ ghost use Rattle.std.specs.String.{string_bytes};
 ghost use Rattle.explanation_text.specs.Spelled.{Says, spelled, spelling};
 
 use crate::wording::put_visible;
-use crate::words::Words;
+use crate::words::TextBuilder;
 use std::alloc::{AllocError, Global};
 use std::fmt::Write;
 
@@ -64,7 +64,7 @@ impl Page {
     }
 
     /// Puts words after the page, as `say` does, between markup.
-    pub(crate) fn say_in(&mut self, before: &'static str, words: &str, after: &'static str) {
+    pub(crate) fn add_in(&mut self, before: &'static str, words: &str, after: &'static str) {
         self.put(before);
         self.say(words);
         self.put(after);
@@ -82,7 +82,7 @@ impl Page {
     }
 
     /// Puts lines after the page in the same way.
-    pub(crate) fn say_lines(&mut self, lines: &str) {
+    pub(crate) fn add_lines(&mut self, lines: &str) {
         for line in lines.lines() {
             self.say(line);
             self.put("\n");
@@ -94,7 +94,7 @@ impl Page {
 fn put_words(text: &mut String, words: &str) -> Result<(), AllocError>
     ensures { OnOk result (Says (string_bytes text.old) (string_bytes text.new)) }
 {
-    let mut seen = Words::new(*text.allocator());
+    let mut seen = TextBuilder::new(*text.allocator());
     put_visible(&mut seen, words);
     put_spelled(text, &seen.done()?)
 }

@@ -139,7 +139,7 @@ fn put_words(page: &mut Page, joint: &Joint<'_>, y: usize, columns: Columns) {
     let base = y.saturating_add(4);
     let x = x_of(joint.depth).saturating_add(22);
     page.put_numbers(&[("<text x=\"", x), ("\" y=\"", base)]);
-    page.say_in("\"><tspan class=\"name\">", joint.name, "</tspan> ");
+    page.add_in("\"><tspan class=\"name\">", joint.name, "</tspan> ");
     page.say(joint.path);
     page.put(" </text>\n");
     put_column(page, "soft", columns.states, base, &joint.state);
@@ -158,7 +158,7 @@ fn put_column(page: &mut Page, class: &'static str, x: usize, y: usize, words: &
     page.put("<text class=\"");
     page.put(class);
     page.put_numbers(&[("\" x=\"", x), ("\" y=\"", y)]);
-    page.say_in("\">", words, " </text>\n")
+    page.add_in("\">", words, " </text>\n")
 }
 
 /// Puts the joints as nested lists after the page.
@@ -189,7 +189,7 @@ fn close_lists(page: &mut Page, open: usize, wanted: usize) {
 
 fn put_entry(page: &mut Page, joint: &Joint<'_>) {
     page.say(joint.name);
-    page.say_in(" ", joint.path, ": ");
+    page.add_in(" ", joint.path, ": ");
     page.say(&joint.state);
     if !joint.word.is_empty() {
         page.put("; ");

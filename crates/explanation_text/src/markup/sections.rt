@@ -64,12 +64,12 @@ impl Sections<'_> {
             self.is_in_decisions = true;
         }
         if !is_domain {
-            self.page.say_in("<h2>", title, "</h2>\n");
+            self.page.add_in("<h2>", title, "</h2>\n");
         }
         self.page.put(article_of(title));
         self.is_in_article = true;
         if is_domain {
-            self.page.say_in("<h3>", title, "</h3>\n");
+            self.page.add_in("<h3>", title, "</h3>\n");
         }
     }
 
@@ -118,7 +118,7 @@ impl Sections<'_> {
         self.want_article();
         self.close_lists(item.depth);
         self.page.put("<pre>");
-        self.page.say_lines(&item.text);
+        self.page.add_lines(&item.text);
         self.page.put("</pre>\n")
     }
 
@@ -127,7 +127,7 @@ impl Sections<'_> {
         self.want_article();
         self.close_lists(item.depth);
         self.page
-            .say_in("<br>&rarr; <code>", &item.text, "</code>\n")
+            .add_in("<br>&rarr; <code>", &item.text, "</code>\n")
     }
 
     /// An entry of a list, which is open or a new one. What has no label is told of the term before
@@ -148,7 +148,7 @@ impl Sections<'_> {
         if item.kind != Kind::Decision {
             return self.page.say(&item.text);
         }
-        self.page.say_in("<code>", &item.text, "</code>")
+        self.page.add_in("<code>", &item.text, "</code>")
     }
 
     /// Closes an entry, and begins the next of its list.
@@ -185,7 +185,7 @@ impl Sections<'_> {
     }
 
     fn put_term(&mut self, label: &'static str) {
-        self.page.say_in("<dt>", label, "</dt>\n")
+        self.page.add_in("<dt>", label, "</dt>\n")
     }
 }
 

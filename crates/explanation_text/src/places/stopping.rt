@@ -8,7 +8,7 @@ use std::alloc::{AllocError, Global};
 
 /// Where a text stops being the beginning of JSON.
 #[derive(Drop)]
-pub struct Stop {
+pub struct JsonStop {
     /// The byte that can't stand there, or the length of the text.
     pub at: usize,
     pub expected: Expected,
@@ -18,7 +18,7 @@ pub struct Stop {
 
 /// The first byte from which on the text is no beginning of JSON, or its end where it is one that
 /// isn't complete; `None` where it is JSON. The text is taken as UTF-8.
-pub fn stop_of(alloc: Global, bytes: &[u8]) -> Result<Option<Stop>, AllocError> {
+pub fn stop_of(alloc: Global, bytes: &[u8]) -> Result<Option<JsonStop>, AllocError> {
     let mut machine = Machine::new(alloc);
     match end_of_json(alloc, &mut machine, bytes)? {
         Some((at, expected)) => stopped(alloc, &machine, bytes, at, expected),
@@ -59,9 +59,9 @@ fn stopped(
     bytes: &[u8],
     at: usize,
     expected: Expected,
-) -> Result<Option<Stop>, AllocError> {
+) -> Result<Option<JsonStop>, AllocError> {
     let help = help_of(alloc, machine, bytes, at, expected)?;
-    Ok(Some(Stop { at, expected, help }))
+    Ok(Some(JsonStop { at, expected, help }))
 }
 
 /// Whether the number that ends before a place is none that can be read.

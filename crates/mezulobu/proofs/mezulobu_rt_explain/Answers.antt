@@ -10,10 +10,10 @@ returns-in_default c = no_memory refl refl
 
 pub returns-then-hand_out : goal.returns-then-hand_out
 returns-then-hand_out c =
-    ends_out (ExplanationSays c.args.script.now c.args.is_strict) c.args.text.now c.hand_out.new.buffer c.len.result c.in-Ok.told.status c.in-Ok.told.text.items c.deref.result.now c.in-Ok.ensures (omega (arith, c.len.ensures, c.in-Ok.told.text.ok.0)) c.deref.ensures.value
+    ends_out (ExplanationSays c.args.script.now c.args.is_strict) c.args.text.now c.hand_out.new.buffer c.len.result c.in-Ok.answer.status c.in-Ok.answer.text.items c.deref.result.now c.in-Ok.ensures (omega (arith, c.len.ensures, c.in-Ok.answer.text.ok.0)) c.deref.ensures.value
     (c.hand_out.ensures.out c.if-hand_out.true)
 
 pub returns : goal.returns
 returns c =
-    ends_small (ExplanationSays c.args.script.now c.args.is_strict) c.args.text.now c.hand_out.new.buffer c.len.result c.in-Ok.told.status c.in-Ok.told.text.items c.deref.result.now c.in-Ok.ensures (omega (arith, c.len.ensures, c.in-Ok.told.text.ok.0)) c.deref.ensures.value
+    ends_small (ExplanationSays c.args.script.now c.args.is_strict) c.args.text.now c.hand_out.new.buffer c.len.result c.in-Ok.answer.status c.in-Ok.answer.text.items c.deref.result.now c.in-Ok.ensures (omega (arith, c.len.ensures, c.in-Ok.answer.text.ok.0)) c.deref.ensures.value
     (c.hand_out.ensures.small c.if-hand_out.false) (c.hand_out.ensures.kept c.if-hand_out.false)

@@ -1,7 +1,7 @@
 //! Records with a list cut off, by which the item with a fault is found.
 
 use crate::record::paths::{Path, extended};
-use explanation_text::{Step, Words, value_at};
+use explanation_text::{Step, TextBuilder, value_at};
 use record_reading::{Code, Fault, read_platform};
 use serde_json::Value;
 use std::alloc::{AllocError, Global};
@@ -20,8 +20,8 @@ fn cut(alloc: Global, value: &Value, path: &[Step<'_>], most: usize) -> Result<V
 }
 
 /// A path as a JSON pointer; a record's keys have no `/` and no `~`.
-fn pointer_of(alloc: Global, path: &[Step<'_>]) -> Words {
-    let mut words = Words::new(alloc);
+fn pointer_of(alloc: Global, path: &[Step<'_>]) -> TextBuilder {
+    let mut words = TextBuilder::new(alloc);
     for step in path {
         match *step {
             Step::Key(key) => {

@@ -6,7 +6,9 @@ ghost use Rattle.explanation_text.specs.Places.{IsPlaceOf, value_on};
 ghost use Rattle.script_faults.specs.declared.record.document.RecordPart.TheVariants.{Key};
 
 use crate::record::paths::put_path;
-use explanation_text::{Items, Mark, Span, Step, Words, key_span_of, show, span_of, value_at};
+use explanation_text::{
+    Items, Mark, Span, Step, TextBuilder, key_span_of, show, span_of, value_at,
+};
 use serde_json::Value;
 use std::alloc::{AllocError, Global};
 use std::slice::from_ref;
@@ -23,15 +25,15 @@ fn pointed(span: Span, part: RecordPart) -> Span {
 }
 
 /// Says what is wrong at a path that isn't found in the text.
-fn say_unplaced(items: &mut Items, depth: usize, said: &str, note: &str) {
-    let mut words = Words::of(items.alloc(), said);
+fn add_unplaced(items: &mut Items, depth: usize, said: &str, note: &str) {
+    let mut words = TextBuilder::of(items.alloc(), said);
     words.put(": ").put(note);
     items.say(depth, "", words)
 }
 
 /// `: calls[4].constraints`, or `: the script`.
-fn path_words(alloc: Global, path: &[Step<'_>], whole: Whole) -> Words {
-    let mut words = Words::of(alloc, ": ");
+fn path_words(alloc: Global, path: &[Step<'_>], whole: Whole) -> TextBuilder {
+    let mut words = TextBuilder::of(alloc, ": ");
     if path.is_empty() {
         words.put(whole.words());
     }
@@ -124,7 +126,7 @@ impl<'a> Document<'a> {
             (Ok(Some(span)), Ok(said)) => {
                 self.show(items, depth, pointed(span, part), &said, note, helps)
             }
-            (Ok(None), Ok(said)) => say_unplaced(items, depth, &said, note),
+            (Ok(None), Ok(said)) => add_unplaced(items, depth, &said, note),
             _ => items.refuse(),
         }
     }
@@ -137,7 +139,7 @@ impl<'a> Document<'a> {
         path: &[Step<'_>],
         part: RecordPart,
         note: &str,
-        help: Words,
+        help: TextBuilder,
     ) {
         match help.done() {
             Ok(help) => self.point(items, depth, path, part, note, from_ref(&help)),
@@ -152,8 +154,8 @@ impl<'a> Document<'a> {
         depth: usize,
         path: &[Step<'_>],
         part: RecordPart,
-        note: Words,
-        help: Words,
+        note: TextBuilder,
+        help: TextBuilder,
     ) {
         match note.done() {
             Ok(note) => self.advise(items, depth, path, part, &note, help),

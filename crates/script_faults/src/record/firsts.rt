@@ -1,14 +1,14 @@
 //! Where what a list has twice stands first.
 
 use crate::record::paths::put_longer;
-use explanation_text::{Step, Words, value_at};
+use explanation_text::{Step, TextBuilder, value_at};
 use record_reading::Code;
 use serde_json::Value;
 
 /// Puts where the value at a path, which its list has twice, stands first after a text, if it is
 /// found.
 pub(crate) fn put_first_like(
-    text: &mut Words,
+    text: &mut TextBuilder,
     script: &Value,
     path: &[Step<'_>],
     code: Code,
@@ -81,7 +81,7 @@ enum KeyPlace {
 }
 
 /// Puts where the pair at a path stands first among the pairs of a record's entries.
-fn put_first_pair(text: &mut Words, script: &Value, path: &[Step<'_>]) -> bool {
+fn put_first_pair(text: &mut TextBuilder, script: &Value, path: &[Step<'_>]) -> bool {
     let Some(end) = path.iter().position(|step| matches!(
         *step,
         Step::Key("image_format_constraints")

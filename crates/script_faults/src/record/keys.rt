@@ -1,7 +1,7 @@
 //! The keys of a script's records, and what may stand at them.
 
 use crate::record::names::names_for;
-use explanation_text::Words;
+use explanation_text::TextBuilder;
 use explanation_text::wording::put_joined;
 use std::alloc::{AllocError, Global};
 use sysmem_counts::{Field, Kind};
@@ -117,7 +117,7 @@ fn allowed_at(field: Field) -> &'static str {
 }
 
 /// Puts what may stand at a field after a text.
-pub(crate) fn put_allowed(text: &mut Words, field: Field, is_platform: bool) {
+pub(crate) fn put_allowed(text: &mut TextBuilder, field: Field, is_platform: bool) {
     match field {
         Field::PixelFormat => {
             text.put("the name of a format");
@@ -150,7 +150,7 @@ pub(crate) fn put_allowed(text: &mut Words, field: Field, is_platform: bool) {
 }
 
 /// Puts the names that a field takes after a text, but for the first few.
-fn put_names(text: &mut Words, field: Field, is_platform: bool, first: usize, word: &str) {
+fn put_names(text: &mut TextBuilder, field: Field, is_platform: bool, first: usize, word: &str) {
     match names_for(text.alloc(), field, is_platform) {
         Ok(names) => put_joined(text, names.get(first..).unwrap_or(&[]), word),
         Err(AllocError) => text.refuse(),

@@ -1,7 +1,7 @@
 //! What is wrong with a value, in words.
 
 use crate::record::keys::{kind_at, range_of};
-use explanation_text::Words;
+use explanation_text::TextBuilder;
 use serde_json::{Number, Value};
 use std::alloc::Global;
 use sysmem_counts::Kind;
@@ -26,7 +26,7 @@ pub(crate) fn wrong_value(
     value: &Value,
     written: &[u8],
     is_item: bool,
-) -> Words {
+) -> TextBuilder {
     match kind_at(field) {
         Kind::Flag => wrong_kind(alloc, value, "true or false is"),
         Kind::Sides | Kind::Object => wrong_kind(alloc, value, "an object is"),
@@ -42,14 +42,14 @@ pub(crate) fn wrong_value(
 }
 
 /// `a string, where a list is due`.
-pub fn wrong_kind(alloc: Global, value: &Value, due: &str) -> Words {
-    let mut words = Words::of(alloc, kind_of(value));
+pub fn wrong_kind(alloc: Global, value: &Value, due: &str) -> TextBuilder {
+    let mut words = TextBuilder::of(alloc, kind_of(value));
     words.put(", where ").put(due).put(" due");
     words
 }
 
 /// What is wrong with a heap's type, or with what stands for a name.
-fn wrong_name(alloc: Global, value: &Value) -> Words {
+fn wrong_name(alloc: Global, value: &Value) -> TextBuilder {
     let Some(text) = value.as_str() else {
         return wrong_kind(alloc, value, "a name is");
     };
@@ -60,7 +60,7 @@ fn wrong_name(alloc: Global, value: &Value) -> Words {
     } else {
         "a wrong character"
     };
-    Words::of(alloc, what)
+    TextBuilder::of(alloc, what)
 }
 
 /// What is wrong with what stands for a number.
@@ -70,19 +70,19 @@ pub(crate) fn wrong_number(
     written: &[u8],
     least: u64,
     most: u64,
-) -> Words {
+) -> TextBuilder {
     let Value::Number(number) = value else {
         return wrong_kind(alloc, value, "a number is");
     };
     if number.is_f64() {
-        return Words::of(alloc, wrong_float(written));
+        return TextBuilder::of(alloc, wrong_float(written));
     }
     match number.as_u64() {
-        None => Words::of(alloc, "below 0"),
+        None => TextBuilder::of(alloc, "below 0"),
         Some(n) => if n < least {
-            Words::of(alloc, "too small")
+            TextBuilder::of(alloc, "too small")
         } else {
-            let mut words = Words::of(alloc, "above ");
+            let mut words = TextBuilder::of(alloc, "above ");
             words.put_number(most);
             words
         },

@@ -4,7 +4,7 @@ use crate::record::keys::{Table, found, is_one_of};
 use bitflags::Flags;
 use drm_images::letters_of;
 use explanation_text::wording::put_joined;
-use explanation_text::{Words, nearest};
+use explanation_text::{TextBuilder, nearest};
 use std::alloc::{AllocError, Global};
 use sysmem_counts::{Field, Usage};
 use sysmem_formats::{ColourSpace, Modifier, PixelFormat};
@@ -124,11 +124,16 @@ const LEFT_OUT: &[&str] = &[
 ];
 
 /// What an unknown name at a field may mean, in words; or else the names that the field takes.
-pub(crate) fn hint_of_name(alloc: Global, field: Field, name: &str, is_platform: bool) -> Words {
+pub(crate) fn hint_of_name(
+    alloc: Global,
+    field: Field,
+    name: &str,
+    is_platform: bool,
+) -> TextBuilder {
     match names_for(alloc, field, is_platform) {
         Ok(known) => hint_among(alloc, field, name, &known),
         Err(AllocError) => {
-            let mut words = Words::new(alloc);
+            let mut words = TextBuilder::new(alloc);
             words.refuse();
             words
         }
@@ -136,13 +141,13 @@ pub(crate) fn hint_of_name(alloc: Global, field: Field, name: &str, is_platform:
 }
 
 /// The same, where the field takes these names.
-fn hint_among(alloc: Global, field: Field, name: &str, known: &[&str]) -> Words {
+fn hint_among(alloc: Global, field: Field, name: &str, known: &[&str]) -> TextBuilder {
     if field == Field::PixelFormat {
         return hint_of_format(alloc, name, known);
     }
     match found(others_for(field), name) {
         Some(meant) => {
-            let mut words = Words::of(alloc, "it is ");
+            let mut words = TextBuilder::of(alloc, "it is ");
             words.put(meant).put(" here");
             words
         }
@@ -166,15 +171,15 @@ fn format_of_drm(name: &str) -> Option<&'static str> {
 }
 
 /// The same of a format.
-fn hint_of_format(alloc: Global, name: &str, known: &[&str]) -> Words {
+fn hint_of_format(alloc: Global, name: &str, known: &[&str]) -> TextBuilder {
     let drm = name.strip_prefix("DRM_FORMAT_").unwrap_or(name);
     if let Some(format) = format_of_drm(drm) {
-        let mut words = Words::of(alloc, "DRM's ");
+        let mut words = TextBuilder::of(alloc, "DRM's ");
         words.put(drm).put(" is ").put(format).put(" here");
         return words;
     }
     if PixelFormat::from_name(drm).is_some() {
-        let mut words = Words::of(alloc, "it is written ");
+        let mut words = TextBuilder::of(alloc, "it is written ");
         words.put(drm);
         return words;
     }
@@ -182,11 +187,11 @@ fn hint_of_format(alloc: Global, name: &str, known: &[&str]) -> Words {
 }
 
 /// The same of a name that nobody else is known to have.
-fn hint_of_known(alloc: Global, name: &str, known: &[&str]) -> Words {
+fn hint_of_known(alloc: Global, name: &str, known: &[&str]) -> TextBuilder {
     if is_one_of(name, LEFT_OUT) {
-        return Words::of(alloc, "Fuchsia has it, this profile doesn't");
+        return TextBuilder::of(alloc, "Fuchsia has it, this profile doesn't");
     }
-    let mut words = Words::new(alloc);
+    let mut words = TextBuilder::new(alloc);
     match nearest(alloc, name, known) {
         Ok(Some(near)) => {
             words.put("did you mean ").put(near).put("?");
@@ -198,8 +203,8 @@ fn hint_of_known(alloc: Global, name: &str, known: &[&str]) -> Words {
 }
 
 /// Names after a text, the last with a word before it.
-pub(crate) fn listed(alloc: Global, text: &str, names: &[&str], word: &str) -> Words {
-    let mut words = Words::of(alloc, text);
+pub(crate) fn listed(alloc: Global, text: &str, names: &[&str], word: &str) -> TextBuilder {
+    let mut words = TextBuilder::of(alloc, text);
     put_joined(&mut words, names, word);
     words
 }

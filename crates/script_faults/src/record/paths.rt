@@ -1,7 +1,7 @@
 //! Paths to values in a script or a record.
 
 use explanation_text::wording::put_visible;
-use explanation_text::{Step, Words};
+use explanation_text::{Step, TextBuilder};
 use std::alloc::{AllocError, Global};
 
 /// How many characters of a key are shown.
@@ -41,7 +41,7 @@ pub(crate) fn extended<'a>(
 }
 
 /// Puts a path after a text: `calls[4].constraints.usage[0]`.
-pub(crate) fn put_path(text: &mut Words, path: &[Step<'_>]) {
+pub(crate) fn put_path(text: &mut TextBuilder, path: &[Step<'_>]) {
     for (k, step) in path.iter().enumerate() {
         match *step {
             Step::Key(key) => put_key(text, if 0 < k { "." } else { "" }, key),
@@ -53,7 +53,7 @@ pub(crate) fn put_path(text: &mut Words, path: &[Step<'_>]) {
 }
 
 /// Puts a path with further steps after a text.
-pub(crate) fn put_longer<'a>(text: &mut Words, path: &[Step<'a>], steps: &[Step<'a>]) {
+pub(crate) fn put_longer<'a>(text: &mut TextBuilder, path: &[Step<'a>], steps: &[Step<'a>]) {
     match joined(text.alloc(), path, steps) {
         Ok(longer) => put_path(text, &longer),
         Err(AllocError) => text.refuse(),
@@ -61,7 +61,7 @@ pub(crate) fn put_longer<'a>(text: &mut Words, path: &[Step<'a>], steps: &[Step<
 }
 
 /// Puts a key after a text and a mark, the front of it where it is long.
-fn put_key(text: &mut Words, mark: &str, key: &str) {
+fn put_key(text: &mut TextBuilder, mark: &str, key: &str) {
     let front = match key.char_indices().nth(MOST) {
         Some((end, _)) => key.get(..end).unwrap_or(key),
         None => key,

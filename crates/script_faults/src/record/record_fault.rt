@@ -9,7 +9,7 @@ use crate::record::names::{hint_of_name, listed};
 use crate::record::paths::{Path, joined, with};
 use crate::record::record_place::place_of;
 use crate::record::unknown::{first_unknown, key_of};
-use explanation_text::{Gathered, Items, Step, Words, nearest};
+use explanation_text::{Items, ListBuilder, Step, TextBuilder, nearest};
 use record_reading::{
     Code, ENTRY_FIELDS, Fault, FaultPlace, HEAP_FIELDS, HEAP_NAME_FIELDS, MEMORY_FIELDS,
     PAIR_FIELDS, PLATFORM_FIELDS,
@@ -33,7 +33,7 @@ struct Faulty<'a, 'b> {
 }
 
 /// Tells the first fault of the record at a path.
-pub fn tell_record_fault<'a>(
+pub fn add_record_fault<'a>(
     items: &mut Items,
     depth: usize,
     document: &Document<'a>,
@@ -53,8 +53,8 @@ pub fn tell_record_fault<'a>(
         is_platform,
     };
     match document.at(&path) {
-        Some(value) => tell_value(items, faulty, value)?,
-        None => tell_missing(items, faulty),
+        Some(value) => add_value(items, faulty, value)?,
+        None => add_missing(items, faulty),
     }
     Ok(())
 }
@@ -72,26 +72,26 @@ fn path_of<'a>(
 }
 
 /// Tells what is wrong with a value that is there.
-fn tell_value<'a>(
+fn add_value<'a>(
     items: &mut Items,
     faulty: Faulty<'a, '_>,
     value: &'a Value,
 ) -> Result<(), AllocError> {
     let is_size = kind_at(faulty.fault.at.name()) == Kind::Sides;
     match faulty.fault.code {
-        Code::UnknownField => tell_object(items, faulty, value)?,
-        Code::WrongKind if is_size && value.is_object() => tell_object(items, faulty, value)?,
-        Code::UnknownName => tell_name(items, faulty, value),
-        Code::WrongKind => tell_kind(items, faulty, value)?,
-        Code::BadMultiple => tell_multiple(items, faulty, value)?,
-        _ => tell_list(items, faulty, value)?,
+        Code::UnknownField => add_object(items, faulty, value)?,
+        Code::WrongKind if is_size && value.is_object() => add_object(items, faulty, value)?,
+        Code::UnknownName => add_name(items, faulty, value),
+        Code::WrongKind => add_kind(items, faulty, value)?,
+        Code::BadMultiple => add_multiple(items, faulty, value)?,
+        _ => add_list(items, faulty, value)?,
     }
     Ok(())
 }
 
 /// What is allowed at a field, after a word.
-fn help_allowed(alloc: Global, word: &str, at: FaultPlace, is_platform: bool) -> Words {
-    let mut words = Words::of(alloc, word);
+fn help_allowed(alloc: Global, word: &str, at: FaultPlace, is_platform: bool) -> TextBuilder {
+    let mut words = TextBuilder::of(alloc, word);
     words.put(": ");
     match at {
         FaultPlace::At(field) => put_allowed(&mut words, field, is_platform),
@@ -102,14 +102,14 @@ fn help_allowed(alloc: Global, word: &str, at: FaultPlace, is_platform: bool) ->
     words
 }
 
-fn missing_note(alloc: Global, name: &str) -> Words {
-    let mut words = Words::of(alloc, name);
+fn missing_note(alloc: Global, name: &str) -> TextBuilder {
+    let mut words = TextBuilder::of(alloc, name);
     words.put(" is missing");
     words
 }
 
 /// A field that isn't there: the object that lacks it is pointed at.
-fn tell_missing(items: &mut Items, faulty: Faulty<'_, '_>) {
+fn add_missing(items: &mut Items, faulty: Faulty<'_, '_>) {
     let at = faulty.fault.at;
     let last = faulty.path.len().saturating_sub(1);
     let object = faulty.path.get(..last).unwrap_or(&[]);
@@ -151,7 +151,7 @@ fn fields_at(at: FaultPlace, is_platform: bool) -> &'static [Field] {
 }
 
 /// An object with an unknown key, or a size that isn't one.
-fn tell_object<'a>(
+fn add_object<'a>(
     items: &mut Items,
     faulty: Faulty<'a, '_>,
     value: &'a Value,
@@ -159,12 +159,12 @@ fn tell_object<'a>(
     let alloc = items.alloc();
     let keys = keys_at(alloc, faulty.fault.at, faulty.path, faulty.is_platform)?;
     match first_unknown(alloc, faulty.document, faulty.path, &keys)? {
-        Some(unknown) => tell_key(items, faulty, &unknown, &keys),
-        None => tell_side(items, faulty, value),
+        Some(unknown) => add_key(items, faulty, &unknown, &keys),
+        None => add_side(items, faulty, value),
     }
 }
 
-fn tell_key(
+fn add_key(
     items: &mut Items,
     faulty: Faulty<'_, '_>,
     path: &[Step<'_>],
@@ -188,14 +188,14 @@ fn wrong_side(size: &Value, least: u64, most: u64) -> &'static str {
 }
 
 /// A width or a height that is missing or wrong.
-fn tell_side(items: &mut Items, faulty: Faulty<'_, '_>, value: &Value) -> Result<(), AllocError> {
+fn add_side(items: &mut Items, faulty: Faulty<'_, '_>, value: &Value) -> Result<(), AllocError> {
     let at = faulty.fault.at;
     let side = wrong_side(value, 0, 4294967295);
     match value.get(side) {
         Some(number) => {
             let path = with(items.alloc(), faulty.path, Step::Key(side))?;
             let help = help_allowed(items.alloc(), "allowed", at, faulty.is_platform);
-            tell_number(items, faulty, &path, number, (0, 4294967295), help)?;
+            add_number(items, faulty, &path, number, (0, 4294967295), help)?;
         }
         None => {
             let note = missing_note(items.alloc(), side);
@@ -214,13 +214,13 @@ fn tell_side(items: &mut Items, faulty: Faulty<'_, '_>, value: &Value) -> Result
 }
 
 /// A number at a path that isn't within its least and greatest value.
-fn tell_number(
+fn add_number(
     items: &mut Items,
     faulty: Faulty<'_, '_>,
     path: &[Step<'_>],
     number: &Value,
     bounds: (u64, u64),
-    help: Words,
+    help: TextBuilder,
 ) -> Result<(), AllocError> {
     let written = faulty.document.written(items.alloc(), path)?;
     let note = wrong_number(items.alloc(), number, written, bounds.0, bounds.1);
@@ -230,7 +230,7 @@ fn tell_number(
     Ok(())
 }
 
-fn tell_name(items: &mut Items, faulty: Faulty<'_, '_>, value: &Value) {
+fn add_name(items: &mut Items, faulty: Faulty<'_, '_>, value: &Value) {
     let name = value.as_str().unwrap_or("");
     let FaultPlace::At(field) = faulty.fault.at else {
         return;
@@ -246,7 +246,7 @@ fn tell_name(items: &mut Items, faulty: Faulty<'_, '_>, value: &Value) {
     )
 }
 
-fn tell_kind(items: &mut Items, faulty: Faulty<'_, '_>, value: &Value) -> Result<(), AllocError> {
+fn add_kind(items: &mut Items, faulty: Faulty<'_, '_>, value: &Value) -> Result<(), AllocError> {
     let at = faulty.fault.at;
     let is_item = matches!(faulty.path.last(), Some(Step::Item(_)));
     let written = faulty.document.written(items.alloc(), faulty.path)?;
@@ -264,27 +264,27 @@ fn tell_kind(items: &mut Items, faulty: Faulty<'_, '_>, value: &Value) -> Result
 }
 
 /// An alignment or a divisor out of its range.
-fn tell_multiple(
+fn add_multiple(
     items: &mut Items,
     faulty: Faulty<'_, '_>,
     value: &Value,
 ) -> Result<(), AllocError> {
-    let help = Words::of(
+    let help = TextBuilder::of(
         items.alloc(),
         "an alignment or divisor is from 1 to 65536; 1 asks for nothing",
     );
     if !value.is_object() {
-        return tell_number(items, faulty, faulty.path, value, (1, 65536), help);
+        return add_number(items, faulty, faulty.path, value, (1, 65536), help);
     }
     let side = wrong_side(value, 1, 65536);
     let path = with(items.alloc(), faulty.path, Step::Key(side))?;
     let number = value.get(side).unwrap_or(value);
-    tell_number(items, faulty, &path, number, (1, 65536), help)
+    add_number(items, faulty, &path, number, (1, 65536), help)
 }
 
 /// A list that is empty, too long or has an item twice, a value that is no object, or a tiled
 /// modifier that doesn't go with its format.
-fn tell_list(items: &mut Items, faulty: Faulty<'_, '_>, value: &Value) -> Result<(), AllocError> {
+fn add_list(items: &mut Items, faulty: Faulty<'_, '_>, value: &Value) -> Result<(), AllocError> {
     let is_empty = matches!(value.as_array(), Some(list) if list.is_empty());
     let helps = helps_of_list(items.alloc(), faulty, is_empty)?;
     let note = note_of_list(items.alloc(), faulty.fault.code, value, is_empty).done()?;
@@ -300,7 +300,7 @@ fn tell_list(items: &mut Items, faulty: Faulty<'_, '_>, value: &Value) -> Result
 }
 
 /// What is wrong with a list, with one of its items, or with what stands for an object.
-fn note_of_list(alloc: Global, code: Code, value: &Value, is_empty: bool) -> Words {
+fn note_of_list(alloc: Global, code: Code, value: &Value, is_empty: bool) -> TextBuilder {
     let note = match code {
         Code::NotAnObject => return wrong_kind(alloc, value, "an object is"),
         Code::TooMany => "the 65th",
@@ -309,7 +309,7 @@ fn note_of_list(alloc: Global, code: Code, value: &Value, is_empty: bool) -> Wor
         Code::BadUsage => "no other usage may stand beside \"none\"",
         _ => "given before",
     };
-    Words::of(alloc, note)
+    TextBuilder::of(alloc, note)
 }
 
 /// What helps there.
@@ -321,7 +321,7 @@ fn helps_of_list(
     let at = faulty.fault.at;
     let help = match faulty.fault.code {
         Code::NotAnObject => return Ok(Vec::new(alloc)),
-        Code::TooMany => Words::of(alloc, "allowed: at most 64"),
+        Code::TooMany => TextBuilder::of(alloc, "allowed: at most 64"),
         Code::TiledMisfit => tiled_formats(alloc)?,
         Code::BadUsage => help_allowed(alloc, "allowed", FaultPlace::At(Field::Usage), false),
         _ if is_empty => help_allowed(alloc, "needed", at, faulty.is_platform),
@@ -332,7 +332,7 @@ fn helps_of_list(
 }
 
 /// The formats that go with tiles, in words.
-fn tiled_formats(alloc: Global) -> Result<Words, AllocError> {
+fn tiled_formats(alloc: Global) -> Result<TextBuilder, AllocError> {
     let mut names = Vec::new(alloc);
     for format in &PixelFormat::ALL {
         if format.pixel_bytes() == 4 {
@@ -348,12 +348,12 @@ fn first_like(
     faulty: Faulty<'_, '_>,
     code: Code,
 ) -> Result<Vec<String>, AllocError> {
-    let mut helps = Gathered::new(alloc);
+    let mut helps = ListBuilder::new(alloc);
     if let Some(first) = first_words(alloc, faulty, code)? {
         helps.add(first);
     }
     if code == Code::RepeatedPair {
-        helps.add_words(Words::of(alloc, "an absent modifier is LINEAR"));
+        helps.add_words(TextBuilder::of(alloc, "an absent modifier is LINEAR"));
     }
     helps.done()
 }
@@ -364,7 +364,7 @@ fn first_words(
     faulty: Faulty<'_, '_>,
     code: Code,
 ) -> Result<Option<String>, AllocError> {
-    let mut words = Words::of(alloc, "first at ");
+    let mut words = TextBuilder::of(alloc, "first at ");
     let is_found = put_first_like(&mut words, faulty.document.value, faulty.path, code);
     let first = words.done()?;
     Ok(if is_found { Some(first) } else { None })
@@ -376,10 +376,10 @@ fn help_of_key(
     key: &str,
     keys: &[&'static str],
     is_platform: bool,
-) -> Result<Option<Words>, AllocError> {
+) -> Result<Option<TextBuilder>, AllocError> {
     match owner_of(key, keys) {
         Some(owner) if !is_platform => {
-            let mut words = Words::of(alloc, key);
+            let mut words = TextBuilder::of(alloc, key);
             words.put(" belongs in ").put(owner);
             Ok(Some(words))
         }
@@ -391,14 +391,14 @@ fn help_of_key(
     }
 }
 
-fn did_you_mean(alloc: Global, near: &str) -> Words {
-    let mut words = Words::of(alloc, "did you mean ");
+fn did_you_mean(alloc: Global, near: &str) -> TextBuilder {
+    let mut words = TextBuilder::of(alloc, "did you mean ");
     words.put(near).put("?");
     words
 }
 
 /// The keys that an object can have, where they are few.
-fn keys_here(alloc: Global, keys: &[&str]) -> Option<Words> {
+fn keys_here(alloc: Global, keys: &[&str]) -> Option<TextBuilder> {
     if keys.len() > 5 {
         return None;
     }
@@ -430,7 +430,7 @@ fn help_elsewhere(
     alloc: Global,
     key: &str,
     keys: &[&'static str],
-) -> Result<Option<Words>, AllocError> {
+) -> Result<Option<TextBuilder>, AllocError> {
     if let Some((near, name)) = near_elsewhere(alloc, key, keys)? {
         let mut words = did_you_mean(alloc, near);
         words.put(" It belongs in ").put(name);

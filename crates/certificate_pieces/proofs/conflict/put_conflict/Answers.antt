@@ -1,7 +1,7 @@
 use Rattle.std.proofs.Common.{codes, refl, ap, sym, ◌∙◌}
 use Rattle.serde_json.specs.Written.{compact_text}
 use Rattle.certificate_text.specs.Told.{conflict_data}
-use Rattle.certificate_text.proofs.LineText.{count_plain}
+use Rattle.certificate_text.proofs.CallerLemmas.{count_plain}
 use Rattle.certificate_pieces.proofs.Spelled.{offers_told, places_told}
 use Rattle.certificate_pieces.proofs.ToldLemmas.{told_as, told_then}
 use Rattle.certificate_pieces.proofs.conflict.put_conflict.Goals as goal

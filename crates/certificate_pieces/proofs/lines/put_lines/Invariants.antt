@@ -1,5 +1,5 @@
--- What was told, with the lines that are left, is the whole list. If a text is kept, it is that of the line before.
-use Rattle.std.proofs.Common.{◌≡◌, ◌++◌, ◌≤◌, List, ℕ, suc, true, drop, map, nat_lt, slice_get, Some}
+-- What was told, with the lines that are left, is the whole list. If a text is there, it is that of the next line.
+use Rattle.std.proofs.Common.{◌≡◌, ◌++◌, ◌≤◌, List, ℕ, true, drop, map, nat_lt, slice_get, Some}
 use Rattle.serde_json.specs.View.{items_of}
 use Rattle.serde_json.specs.Written.{compact_text, items_text}
 use Rattle.verdict_claims.specs.Line.{LineFacts}
@@ -11,7 +11,7 @@ use Rattle.certificate_pieces.proofs.lines.put_lines.Given as goal
 abbrev pub invariant-loop-index : goal.invariant-loop-index
 invariant-loop-index g l = record {
   next : l.next ≤ l.index;
-  last : (k : ℕ) (line : LineFacts) → l.index ≡ suc k → slice_get l.lines k ≡ Some line → l.is_kept ≡ true → kept_text l.kept line ≡ compact_text (line_data line);
+  there : (line : LineFacts) → slice_get l.lines l.index ≡ Some line → l.is_there ≡ true → kept_text l.kept line ≡ compact_text (line_data line);
   told : List ℕ;
   has : Tells (g.P.Sink.contents l.fn.sink) (g.P.Sink.failures l.fn.sink) l.fn.out (g.P.Sink.contents l.sink) (g.P.Sink.failures l.sink) l.out told;
   whole : told ++ items_text (nat_lt 0 l.index) (items_of (map line_data (drop l.index l.lines))) ≡ compact_text (lines_data l.lines);

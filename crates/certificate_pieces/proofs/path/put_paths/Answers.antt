@@ -1,4 +1,4 @@
-use Rattle.std.proofs.Common.{◌≡◌, ◌++◌, ◌∷◌}
+use Rattle.std.proofs.Common.{◌++◌}
 use Rattle.serde_json.specs.Written.{comma_if, compact_text}
 use Rattle.certificate_text.specs.Told.{path_data}
 use Rattle.certificate_pieces.proofs.Spelled.{one_path}

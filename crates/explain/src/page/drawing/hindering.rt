@@ -1,13 +1,13 @@
 //! Who is in the way of the domains that are empty.
 
-use explanation_text::Gathered;
+use explanation_text::ListBuilder;
 use negotiation_inputs::Platform;
 use script_story::{Domain, Story, asked_in};
 use settings_reasons::{failing, in_the_way};
 use std::alloc::{AllocError, Global};
 use sysmem_merge::Settings;
 use sysmem_tree::NodeKind;
-use value_sources::Asked;
+use value_sources::NamedParticipant;
 
 /// The numbers of those who are in the way of an empty domain; of one with groups, where each
 /// selection has others, of none.
@@ -16,15 +16,15 @@ pub(crate) fn in_the_way_of(
     platform: &Platform,
     story: &Story<'_>,
 ) -> Result<Vec<usize>, AllocError> {
-    let mut nodes = Gathered::new(alloc);
+    let mut nodes = ListBuilder::new(alloc);
     for (index, domain) in story.domains.iter().enumerate() {
         if domain.verdict() != "empty" || has_groups(story, index) {
             continue;
         }
-        let people = asked_in(alloc, story, index, false)?;
+        let participants = asked_in(alloc, story, index, false)?;
         match settings_above(story, domain) {
-            Some(settings) => add_misfits(&mut nodes, platform, &people, &settings)?,
-            None => add_unmet(&mut nodes, platform, &people)?,
+            Some(settings) => add_misfits(&mut nodes, platform, &participants, &settings)?,
+            None => add_unmet(&mut nodes, platform, &participants)?,
         }
     }
     nodes.done()
@@ -45,13 +45,13 @@ fn settings_above(story: &Story<'_>, domain: &Domain<'_>) -> Option<Settings> {
 }
 
 fn add_misfits(
-    nodes: &mut Gathered<usize>,
+    nodes: &mut ListBuilder<usize>,
     platform: &Platform,
-    people: &[Asked<'_>],
+    participants: &[NamedParticipant<'_>],
     settings: &Settings,
 ) -> Result<(), AllocError> {
     let alloc = nodes.alloc();
-    for one in people {
+    for one in participants {
         if !failing(alloc, platform, settings, one.asked)?.is_empty() {
             nodes.add(one.node);
         }
@@ -60,11 +60,11 @@ fn add_misfits(
 }
 
 fn add_unmet(
-    nodes: &mut Gathered<usize>,
+    nodes: &mut ListBuilder<usize>,
     platform: &Platform,
-    people: &[Asked<'_>],
+    participants: &[NamedParticipant<'_>],
 ) -> Result<(), AllocError> {
-    if let Some(some) = in_the_way(nodes.alloc(), platform, people)? {
+    if let Some(some) = in_the_way(nodes.alloc(), platform, participants)? {
         for one in &some {
             nodes.add(one.node);
         }

@@ -3,7 +3,7 @@
 
 use bitflags::Flags;
 use explanation_text::wording::{put_count, put_few};
-use explanation_text::{Standing, Words};
+use explanation_text::{Standing, TextBuilder};
 use negotiation_inputs::Constraints;
 use script_story::{Milestone, Story};
 use std::alloc::{AllocError, Global};
@@ -35,8 +35,8 @@ pub(crate) fn standing_of<'b>(
 }
 
 /// What a node is, and what its participant asks.
-pub(crate) fn state_of(alloc: Global, story: &Story<'_>, node: usize) -> Words {
-    let mut words = Words::new(alloc);
+pub(crate) fn state_of(alloc: Global, story: &Story<'_>, node: usize) -> TextBuilder {
+    let mut words = TextBuilder::new(alloc);
     match story.kind_before(node, usize::MAX) {
         NodeKind::Token => {
             words.put("token");
@@ -58,7 +58,7 @@ pub(crate) fn state_of(alloc: Global, story: &Story<'_>, node: usize) -> Words {
 }
 
 /// Puts by which call a node ended after a text.
-fn put_end(text: &mut Words, story: &Story<'_>, node: usize) {
+fn put_end(text: &mut TextBuilder, story: &Story<'_>, node: usize) {
     let Some(number) = story.milestone(node, Milestone::End) else {
         return;
     };
@@ -70,7 +70,7 @@ fn put_end(text: &mut Words, story: &Story<'_>, node: usize) {
 }
 
 /// Puts what the participant of a collection asks after a text.
-fn put_asked(text: &mut Words, story: &Story<'_>, node: usize) {
+fn put_asked(text: &mut TextBuilder, story: &Story<'_>, node: usize) {
     text.put("collection");
     let Some(number) = story.milestone(node, Milestone::SetConstraints) else {
         text.put(", nothing set");
@@ -96,7 +96,7 @@ fn put_asked(text: &mut Words, story: &Story<'_>, node: usize) {
 }
 
 /// Puts how many buffers a participant holds after a text.
-fn put_counts(text: &mut Words, asked: &Constraints) {
+fn put_counts(text: &mut TextBuilder, asked: &Constraints) {
     let counts = asked.counts();
     let held = (counts.min_buffer_count_for_camping as usize).saturating_add(
         counts.min_buffer_count_for_dedicated_slack as usize,
@@ -109,14 +109,14 @@ fn put_counts(text: &mut Words, asked: &Constraints) {
 }
 
 /// Puts what a participant uses the buffers for after a text.
-fn put_usage(text: &mut Words, usage: Usage) {
+fn put_usage(text: &mut TextBuilder, usage: Usage) {
     for (name, _) in usage.iter_names() {
         text.put(" ").put(name);
     }
 }
 
 /// Puts which formats a participant takes after a text.
-fn put_formats(text: &mut Words, entries: &[Entry]) {
+fn put_formats(text: &mut TextBuilder, entries: &[Entry]) {
     match formats_in(text.alloc(), entries) {
         Ok(names) if names.is_empty() => {}
         Ok(names) => {

@@ -1,9 +1,9 @@
 //! The calls by actor, and the decisions where they came.
 
 use crate::page::drawing::joints::add_joints;
-use explanation_text::{Drawing, Line, Standing, Words};
+use explanation_text::{Drawing, Line, Standing, TextBuilder};
 use negotiation_inputs::Platform;
-use script_story::{Domain, Made, Story};
+use script_story::{Domain, MadeCall, Story};
 use std::alloc::{AllocError, Global};
 
 /// What a page shows of a story, but for what proves its decisions.
@@ -27,7 +27,7 @@ pub(crate) fn drawing_of<'b>(
 fn add_call<'b>(
     alloc: Global,
     drawing: &mut Drawing<'b>,
-    call: &Made<'b>,
+    call: &MadeCall<'b>,
     number: usize,
 ) -> Result<(), AllocError> {
     let actor = drawing.column(call.actor)?;
@@ -66,7 +66,7 @@ fn add_decisions(
 
 /// The report's line on a domain.
 fn line_of(alloc: Global, story: &Story<'_>, domain: &Domain<'_>) -> Result<Line, AllocError> {
-    let mut words = Words::of(alloc, "domain ");
+    let mut words = TextBuilder::of(alloc, "domain ");
     words.put(story.path(domain.root)).put(" ").put(domain.told);
     Ok(Line {
         number: None,
@@ -81,8 +81,8 @@ fn line_of(alloc: Global, story: &Story<'_>, domain: &Domain<'_>) -> Result<Line
 }
 
 /// A call in words, with its reply where that isn't `ok`.
-fn words_of(alloc: Global, call: &Made<'_>) -> Words {
-    let mut words = Words::of(alloc, call.name());
+fn words_of(alloc: Global, call: &MadeCall<'_>) -> TextBuilder {
+    let mut words = TextBuilder::of(alloc, call.name());
     words.put(" ").put(call.on);
     if let Some(made) = call.act.name_made() {
         words.put(" ").put(made);

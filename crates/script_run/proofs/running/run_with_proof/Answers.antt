@@ -9,20 +9,20 @@ pub returns-in_err-certified-clause-ran : goal.returns-in_err-certified-clause-r
 returns-in_err-certified-clause-ran g c =
     let failed = err_from_is_err_and c.from_residual-in_err-certified.result c.from_residual-in_err-certified.ensures.1 in
     refused GivesProvedReport _ _ _ certified_seen (CertifiesTo c.in_ok-bytes.bytes.items) _ c.in_err-certified.field-0.0 _ c.in_ok-bytes.bytes.items (λ found is. is) (cc (failed.1, failed.2))
-    c.in_ok-bytes.ensures.bytes c.in_err-certified.ensures
+    c.in_ok-bytes.ensures.bytes (rw c.deref.ensures.value at c.in_err-certified.ensures)
 
 pub returns-in_err-write_both-clause-ran : goal.returns-in_err-write_both-clause-ran
 returns-in_err-write_both-clause-ran g c =
     let failed = err_from_is_err_and c.from_residual-in_err-write_both.result c.from_residual-in_err-write_both.ensures.1 in
     let fronts = rw c.as_bytes.ensures.value at c.in_err-write_both.ensures.fronts in
-    both-part _ _ _ _ _ _ c.in_ok-bytes.bytes.items (certified_seen c.in_ok-certified.certified) c.in_ok-bytes.ensures.bytes c.in_ok-certified.ensures _ (cc (failed.1, failed.2)) fronts
+    both-part _ _ _ _ _ _ c.in_ok-bytes.bytes.items (certified_seen c.in_ok-certified.certified) c.in_ok-bytes.ensures.bytes (rw c.deref.ensures.value at c.in_ok-certified.ensures) _ (cc (failed.1, failed.2)) fronts
 
 pub returns-then-report-clause-ran : goal.returns-then-report-clause-ran
 returns-then-report-clause-ran g c =
     let written = rw c.as_bytes.ensures.value at c.in_ok-write_both.ensures.first in
-    both-starved _ _ _ _ _ _ c.in_ok-bytes.bytes.items (certified_seen c.in_ok-certified.certified) c.in_ok-bytes.ensures.bytes c.in_ok-certified.ensures c.if-report.true written c.in_ok-write_both.ensures.then
+    both-starved _ _ _ _ _ _ c.in_ok-bytes.bytes.items (certified_seen c.in_ok-certified.certified) c.in_ok-bytes.ensures.bytes (rw c.deref.ensures.value at c.in_ok-certified.ensures) c.if-report.true written c.in_ok-write_both.ensures.then
 
 pub returns-clause-ran : goal.returns-clause-ran
 returns-clause-ran g c =
     let written = rw c.as_bytes.ensures.value at c.in_ok-write_both.ensures.first in
-    both-done _ _ _ _ _ _ c.in_ok-bytes.bytes.items (certified_seen c.in_ok-certified.certified) c.in_ok-bytes.ensures.bytes c.in_ok-certified.ensures c.if-report.false written c.in_ok-write_both.ensures.then
+    both-done _ _ _ _ _ _ c.in_ok-bytes.bytes.items (certified_seen c.in_ok-certified.certified) c.in_ok-bytes.ensures.bytes (rw c.deref.ensures.value at c.in_ok-certified.ensures) c.if-report.false written c.in_ok-write_both.ensures.then

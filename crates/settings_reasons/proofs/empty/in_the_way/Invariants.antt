@@ -3,4 +3,4 @@ use Rattle.settings_reasons.specs.True.{AreInTheWay}
 use Rattle.settings_reasons.proofs.empty.in_the_way.Given as goal
 
 abbrev pub invariant-loop-one : goal.invariant-loop-one
-invariant-loop-one l = AreInTheWay l.platform l.people l.kept.items
+invariant-loop-one l = AreInTheWay l.platform l.participants l.kept.items

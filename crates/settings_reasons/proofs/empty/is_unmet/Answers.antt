@@ -10,12 +10,12 @@ use Rattle.settings_reasons.proofs.empty.is_unmet.Goals as goal
 pub loop-one-preserved : goal.loop-one-preserved
 loop-one-preserved c = record {
   stands = subst (StandsFor c.add.new.self c.args.platform.now)
-      (all_more c.args.people.now c.loop-one.one-index c.one-item.result c.loop-one-test.true c.one-item.is)
+      (all_more c.args.participants.now c.loop-one.one-index c.one-item.result c.loop-one-test.true c.one-item.is)
       (c.in_ok-add.ensures.ok c.args.platform.now _ c.loop-one.invariant.stands);
   few = omega (arith, c.add.ensures.grows, c.loop-one.invariant.few);
 }
 
 pub returns : goal.returns
-returns c = λ is. err_means c.best_settings.result (IsUnmet false c.args.platform.now (all_asked c.args.people.now)) c.is_err.result c.is_err.ensures.value
-    (c.best_settings.ensures.none c.args.platform.now _ (subst (λ people. StandsFor c.loop-one.asked c.args.platform.now (all_asked people))
-    (take_all c.loop-one.one-index c.args.people.now (omega (arith, c.loop-one-test.false))) c.loop-one.invariant.stands)) is
+returns c = λ is. err_means c.best_settings.result (IsUnmet false c.args.platform.now (all_asked c.args.participants.now)) c.is_err.result c.is_err.ensures.value
+    (c.best_settings.ensures.none c.args.platform.now _ (subst (λ participants. StandsFor c.loop-one.asked c.args.platform.now (all_asked participants))
+    (take_all c.loop-one.one-index c.args.participants.now (omega (arith, c.loop-one-test.false))) c.loop-one.invariant.stands)) is

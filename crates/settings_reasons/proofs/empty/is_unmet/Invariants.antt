@@ -6,6 +6,6 @@ use Rattle.settings_reasons.proofs.empty.is_unmet.Given as goal
 
 abbrev pub invariant-loop-one : goal.invariant-loop-one
 invariant-loop-one l = record {
-  stands : StandsFor l.asked l.platform (all_asked (take l.one-index l.people));
+  stands : StandsFor l.asked l.platform (all_asked (take l.one-index l.participants));
   few : l.asked.added ≤ l.one-index;
 }

@@ -6,4 +6,4 @@ use Rattle.value_sources.specs.Sources.{all_asked}
 use Rattle.settings_reasons.proofs.offering.read_of.Given as goal
 
 abbrev pub invariant-loop-one : goal.invariant-loop-one
-invariant-loop-one l = IsOfferRead l.offer (offer_demands (all_asked (take l.one-index l.people))) l.read
+invariant-loop-one l = IsOfferRead l.offer (offer_demands (all_asked (take l.one-index l.participants))) l.read

@@ -9,11 +9,11 @@ use Rattle.settings_reasons.proofs.placing.has_no_place.Goals as goal
 
 pub loop-one-preserved : goal.loop-one-preserved
 loop-one-preserved c = subst (AreDomainsLeft c.add.new.self c.heaps-heaps.result.now)
-    (demands_more c.args.people.now c.loop-one.one-index c.one-item.result c.memory.result.now c.usage.result c.loop-one-test.true c.one-item.is c.memory.ensures.memory c.usage.ensures.usage)
+    (demands_more c.args.participants.now c.loop-one.one-index c.one-item.result c.memory.result.now c.usage.result c.loop-one-test.true c.one-item.is c.memory.ensures.memory c.usage.ensures.usage)
     (c.add.ensures _ c.loop-one.invariant)
 
 pub returns : goal.returns
-returns c = λ is. subst (λ heaps. HasNoPlace heaps (place_demands (all_asked c.args.people.now))) c.heaps-heaps.ensures.heaps
-    (none_means c.first_place.result (HasNoPlace c.heaps-heaps.result.now (place_demands (all_asked c.args.people.now))) c.is_none.result c.is_none.ensures
-    (c.first_place.ensures.none _ (subst (λ people. AreDomainsLeft c.loop-one.bounds c.heaps-heaps.result.now (place_demands (all_asked people)))
-    (take_all c.loop-one.one-index c.args.people.now (omega (arith, c.loop-one-test.false))) c.loop-one.invariant)) is)
+returns c = λ is. subst (λ heaps. HasNoPlace heaps (place_demands (all_asked c.args.participants.now))) c.heaps-heaps.ensures.heaps
+    (none_means c.first_place.result (HasNoPlace c.heaps-heaps.result.now (place_demands (all_asked c.args.participants.now))) c.is_none.result c.is_none.ensures
+    (c.first_place.ensures.none _ (subst (λ participants. AreDomainsLeft c.loop-one.bounds c.heaps-heaps.result.now (place_demands (all_asked participants)))
+    (take_all c.loop-one.one-index c.args.participants.now (omega (arith, c.loop-one-test.false))) c.loop-one.invariant)) is)

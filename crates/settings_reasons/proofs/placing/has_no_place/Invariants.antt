@@ -6,4 +6,4 @@ use Rattle.value_sources.specs.Sources.{all_asked}
 use Rattle.settings_reasons.proofs.placing.has_no_place.Given as goal
 
 abbrev pub invariant-loop-one : goal.invariant-loop-one
-invariant-loop-one l = AreDomainsLeft l.bounds l.heaps (place_demands (all_asked (take l.one-index l.people)))
+invariant-loop-one l = AreDomainsLeft l.bounds l.heaps (place_demands (all_asked (take l.one-index l.participants)))

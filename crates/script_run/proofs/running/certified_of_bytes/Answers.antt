@@ -6,7 +6,7 @@ use Rattle.script_replay.specs.Outcome.{report_seen}
 use Rattle.script_run.proofs.CallerLemmas.{runs-so}
 use Rattle.script_run.proofs.OneCertified.{certificate_said}
 use Rattle.script_run.proofs.Spelling.{fault-so}
-use Rattle.script_run.proofs.running.certified_report.Goals as goal
+use Rattle.script_run.proofs.running.certified_of_bytes.Goals as goal
 
 pub report_on-requires : goal.report_on-requires
 report_on-requires c = λ platform. (c.in-Ok.ensures, All-nil IsProved)
@@ -17,5 +17,5 @@ returns-in-Err c = fault-so _ _ c.in-Err.fault c.in-Err.ensures
 pub returns : goal.returns
 returns c =
     let pieces = c.report_on.new.decider.pieces in
-    runs-so (λ platform cs. (pieces ≡ texts_of platform cs) × AreProved cs) (IsCertifiedBy (pieces_text c.finish.result)) c.args.bytes.items
+    runs-so (λ platform cs. (pieces ≡ texts_of platform cs) × AreProved cs) (IsCertifiedBy (pieces_text c.finish.result)) c.args.bytes.now
     (Ok (report_seen c.in-Ok-report_on.report)) (λ platform cs held. record { text = ap pieces_text (c.finish.ensures ∙ held.0) ∙ certificate_said platform cs; proved = held.1 }) c.in-Ok-report_on.ensures

@@ -1,14 +1,14 @@
 //! Participants with what they ask, and lists of them in words.
 
 use explanation_text::wording::{MOST_NAMES, put_few};
-use explanation_text::{Gathered, Name, Words};
+use explanation_text::{ListBuilder, Name, TextBuilder};
 use negotiation_inputs::Constraints;
 use serde_json::Value;
 use std::alloc::AllocError;
 
 /// A participant that has constraints.
 #[derive(Clone, Copy)]
-pub struct Asked<'a> {
+pub struct NamedParticipant<'a> {
     /// Its number among all.
     pub node: usize,
     pub name: &'a str,
@@ -17,7 +17,7 @@ pub struct Asked<'a> {
     pub stated: Option<&'a Value>,
 }
 
-impl<'a> Asked<'a> {
+impl<'a> NamedParticipant<'a> {
     /// Its name, as that of its node.
     pub fn called(&self) -> Name<'a> {
         Name {
@@ -29,16 +29,21 @@ impl<'a> Asked<'a> {
 
 /// Puts the names of participants with a word after a text: `camera takes`,
 /// `camera and encoder take`.
-pub fn put_has(text: &mut Words, people: &[Asked<'_>], one: &str, many: &str) {
-    put_people(text, people);
-    let word = if people.len() == 1 { one } else { many };
+pub fn put_has(
+    text: &mut TextBuilder,
+    participants: &[NamedParticipant<'_>],
+    one: &str,
+    many: &str,
+) {
+    put_participants(text, participants);
+    let word = if participants.len() == 1 { one } else { many };
     text.put(" ").put(word);
 }
 
 /// Puts the names of participants after a text.
-pub fn put_people(text: &mut Words, people: &[Asked<'_>]) {
-    let mut names: Gathered<Name<'_>> = Gathered::new(text.alloc());
-    for one in people {
+pub fn put_participants(text: &mut TextBuilder, participants: &[NamedParticipant<'_>]) {
+    let mut names: ListBuilder<Name<'_>> = ListBuilder::new(text.alloc());
+    for one in participants {
         names.add(one.called());
     }
     match names.done() {

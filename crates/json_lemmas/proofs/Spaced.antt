@@ -1,9 +1,9 @@
 -- Tokens that were printed with gaps, and a newline behind them, are read as those tokens.
-use Rattle.std.proofs.Common.{◌≡◌, ℕ, Bool, true, false, cond, ◌&&◌, List, [], ◌∷◌, ◌++◌, map, fold, refl, sym, ap, ap₂, ◌∙◌, append_assoc, append-nil, inl, inr}
+use Rattle.std.proofs.Common.{◌≡◌, ℕ, Bool, true, false, cond, ◌&&◌, List, [], ◌∷◌, ◌++◌, map, fold, refl, sym, ap, ap₂, ◌∙◌, subst, append_assoc, append-nil, inl, inr}
 use Rattle.json.specs.Token.{Token, begin_object, end_object, begin_array, end_array, key, string, number, boolean, null, bad}
 use Rattle.json.specs.Word.{ends_word, word}
 use Rattle.json.specs.Lex.{Lexeme, token, comma, colon, string_token, lex, between, fresh, punctuate, tokens}
-use Rattle.json.specs.Print.{escape, quoted, token_text, begins, ends, separator, print_from, IsPrintable, ArePrintable}
+use Rattle.json.specs.Print.{escape, quoted, token_text, begins, ends, separator, print_from, print, IsPrintable, ArePrintable}
 use Rattle.json.specs.Spaced.{IsGap, AreGaps, print_spaced}
 use Rattle.json.proofs.Printed.Strings.{content-escape, lex-escape}
 use Rattle.json.proofs.Printed.Numbers.{lex-number, in_word-ended}
@@ -133,6 +133,17 @@ gaps_of_plain (t ∷ ts) = (tt, gaps_of_plain ts)
 pub gaps_of_both : (ps qs : List Piece) → AreGaps ps → AreGaps qs → AreGaps (ps ++ qs)
 gaps_of_both [] qs g h = h
 gaps_of_both (p ∷ ps) qs g h = (g.0, gaps_of_both ps qs g.1 h)
+
+pub spaced_plain : (later : Bool) (ts : List Token) → print_spaced later (plain ts) ≡ print_from later ts
+unfolding print_spaced print_from
+spaced_plain later [] = refl
+spaced_plain later (t ∷ ts) = ap (λ l. separator later t ++ (token_text t ++ l)) (spaced_plain (ends t) ts)
+
+-- they are read as those tokens, with a newline behind them too
+pub plain_line : (ts : List Token) → ArePrintable ts → tokens (print ts ++ 10 ∷ []) ≡ ts
+plain_line ts h =
+    ap (λ s. tokens (s ++ 10 ∷ [])) (sym (spaced_plain false ts))
+    ∙ tokens_line (plain ts) (gaps_of_plain ts) (subst ArePrintable (sym (tokens_in_plain ts)) h) ∙ tokens_in_plain ts
 
 -- whether tokens after others leave a value just ended
 abbrev pub ends_after : Bool → List Token → Bool
