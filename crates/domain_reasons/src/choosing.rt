@@ -18,7 +18,7 @@ pub(crate) fn tell_choice(
     platform: &Platform,
     story: &Story<'_>,
     index: usize,
-    domain: &Domain<'_>,
+    domain: &Domain,
 ) -> Result<(), AllocError> {
     tell_children(items, story, index)?;
     if let Some(host) = domain.host {

@@ -7,7 +7,7 @@ use crate::failing::{tell_failed, tell_none, tell_too_many};
 use explanation_text::wording::put_few;
 use explanation_text::{Gathered, Items, Kind, Text, Words};
 use negotiation_inputs::Platform;
-use script_story::{Domain, Milestone, Story, asked_in, put_domain};
+use script_story::{Became, Domain, Milestone, Story, asked_in, put_domain};
 use std::alloc::{AllocError, Global};
 use value_sources::Asked;
 
@@ -25,18 +25,18 @@ pub fn tell_domain(
         return Ok(());
     };
     put_title(items, story, domain);
-    match domain.verdict() {
-        "pending" => tell_pending(items, story, index, domain),
-        "failed" => {
+    match domain.became {
+        Became::Pending => tell_pending(items, story, index, domain),
+        Became::Failed => {
             tell_failed(items, story, domain);
             Ok(())
         }
-        "too_many" => {
+        Became::TooMany => {
             tell_too_many(items, story, index);
             Ok(())
         }
-        "chosen" => tell_chosen(items, platform, story, index, domain),
-        _ => {
+        Became::Chosen => tell_chosen(items, platform, story, index, domain),
+        Became::Empty | Became::NoMemory => {
             tell_who(items, story, index, false)?;
             tell_none(items, platform, story, index, domain)
         }
@@ -48,20 +48,20 @@ fn tell_chosen(
     platform: &Platform,
     story: &Story<'_>,
     index: usize,
-    domain: &Domain<'_>,
+    domain: &Domain,
 ) -> Result<(), AllocError> {
     tell_who(items, story, index, true)?;
-    let line = Words::of(items.alloc(), domain.told);
+    let line = Words::of(items.alloc(), &domain.told);
     items.push(Kind::Decision, 1, "told", line);
     tell_choice(items, platform, story, index, domain)
 }
 
 /// The title of a domain's section:
 /// `domain / (root): chosen, after call 7 (set_constraints encoder)`.
-fn put_title(items: &mut Items, story: &Story<'_>, domain: &Domain<'_>) {
+fn put_title(items: &mut Items, story: &Story<'_>, domain: &Domain) {
     let mut words = Words::new(items.alloc());
     put_domain(&mut words, story, domain.root);
-    words.put(": ").put(domain.verdict());
+    words.put(": ").put(domain.became.word());
     if let Some(number) = domain.ended {
         put_ended(&mut words, story, number);
     }

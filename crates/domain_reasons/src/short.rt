@@ -5,7 +5,7 @@ use crate::domains::tell_domain;
 use crate::selecting::{Empty, tell_left_out};
 use explanation_text::{Items, Kind, Words};
 use negotiation_inputs::Platform;
-use script_story::{Story, refused_words};
+use script_story::{Became, Story, refused_words};
 use std::alloc::AllocError;
 
 /// How many lines are told of a domain.
@@ -60,7 +60,7 @@ fn tell_reasons<'a, 'b>(
     let Some(domain) = story.domains.get(index) else {
         return Ok(());
     };
-    if domain.verdict() != "chosen" {
+    if domain.became != Became::Chosen {
         return tell_domain(items, platform, story, index);
     }
     if domain.host.is_some() {

@@ -10,7 +10,7 @@ use other_outcomes::{
     tell_without,
 };
 use script_faults::Document;
-use script_story::{Scenario, Story, asked_in};
+use script_story::{Became, Scenario, Story, asked_in};
 use std::alloc::AllocError;
 
 /// Tells each domain, in the order of the report.
@@ -43,16 +43,16 @@ fn tell_help(
         return Ok(());
     };
     let path = story.path(domain.root);
-    match domain.verdict() {
-        "pending" => {
+    match domain.became {
+        Became::Pending => {
             tell_then(items, scenario, story, path)?;
             tell_without(items, scenario, story, index, path)
         }
-        "empty" => {
+        Became::Empty => {
             tell_ended_later(items, scenario, story, index, path)?;
             tell_edits(items, document, scenario, story, index)
         }
-        "chosen" => {
+        Became::Chosen => {
             tell_later_children(items, scenario, story, index, path)?;
             tell_later_pairs(items, scenario, story, index, path)
         }

@@ -17,7 +17,7 @@ use explanation_text::{
 use other_outcomes::tell_moved;
 use script_faults::{Document, Whole, tell_fault, tell_no_json};
 use script_reading::{ParseFault, Script, ScriptFault, parse_script, read_script};
-use script_story::{Effort, Scenario, Story, refused_calls, story_of, tell_refused};
+use script_story::{Became, Effort, Scenario, Story, refused_calls, story_of, tell_refused};
 use serde_json::Value;
 use std::alloc::{AllocError, Global};
 
@@ -337,7 +337,7 @@ fn tell_calls(
 
 fn outcome_of(story: &Story<'_>) -> Outcome {
     for domain in &story.domains {
-        if domain.verdict() != "chosen" {
+        if domain.became != Became::Chosen {
             return Outcome::Faulty;
         }
     }

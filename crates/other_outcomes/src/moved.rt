@@ -61,7 +61,7 @@ fn tell_replayed<'a>(
     moves: &[Move],
     value: &'a Value,
     calls: &[Call<'a>],
-    told: &'a Replayed,
+    told: &'a Replayed<'a>,
 ) -> Result<(), AllocError> {
     let then = story_of(items.alloc(), value, calls, told)?;
     tell_story(items, scenario, moves, &then)
