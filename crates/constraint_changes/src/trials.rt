@@ -1,9 +1,9 @@
 //! Other constraints of a script's participants, tried by a run of the changed script: which are
 //! worth a try, and what the report says then of a domain.
 
-mod bounding;
 mod changed_lines;
 mod drafting;
+mod editing;
 mod entries;
 mod group;
 mod need;
@@ -14,12 +14,13 @@ mod trying;
 mod unmet;
 mod worth;
 
-pub use drafting::{Change, asked_after};
+pub use drafting::asked_after;
+pub use editing::{EditedCall, edited_calls, is_edit};
 pub use entries::{EntryPlace, entries_behind, entry_place};
 pub use group::{Group, line_at};
 pub use parties::{Party, can_help, parties_of};
-pub use promising::{put_choice, put_line};
+pub use promising::{Promise, put_choice, put_line, put_promise};
 pub use restating::{Stated, restated};
 pub use trying::{Found, MOST_HALVINGS, Trial, chosen_with};
-pub use unmet::{Read, change_leaves_none, has_groups, leave_none, leaves_none, read_asked};
+pub use unmet::{Read, change_leaves_none, has_groups, leave_none, leaves_none};
 pub use worth::{are_sized, is_worth};

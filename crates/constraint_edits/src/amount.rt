@@ -1,6 +1,9 @@
 //! The value of a field of constraints, and values between two.
 
-use crate::edits::{Changed, Edit};
+ghost use Rattle.std.specs.Prelude.{◌≡◌, Some, IfOk, IfSome};
+
+use crate::change::Change;
+use crate::edits::{Changed, Edit, Rewritten};
 use crate::objects::{ENTRIES, MEMORY, entries_of, exact_value, values_in, with};
 use explanation_text::{Gathered, Words};
 use serde_json::Value;
@@ -173,7 +176,10 @@ pub(crate) fn with_amount(
     edit: Edit,
     stated: Amount,
     amount: Amount,
-) -> Result<Changed, AllocError> {
+) -> Result<Changed, AllocError>
+    ensures { IfOk result (λ made. made.change
+        ≡ record { edit = edit; amount = Some amount; start = 0; end = 0 }) }
+{
     let left_out = edit.left_out();
     let name = left_out.map_or("", Field::name);
     let changed = match edit {
@@ -194,10 +200,11 @@ pub(crate) fn with_amount(
         _ => words.put_number(stated),
     };
     words.put(" becomes ").put_number(amount);
-    Ok(Changed {
+    let made = Rewritten {
         value: changed,
         words: words.into_text()?,
-    })
+    };
+    Ok(made.by(Change::plain(edit, Some(amount))))
 }
 
 /// The constraints with another value of the field that a change would leave out; `None` where it
@@ -207,7 +214,10 @@ pub fn edited_to(
     value: &Value,
     edit: Edit,
     amount: Amount,
-) -> Result<Option<Changed>, AllocError> {
+) -> Result<Option<Changed>, AllocError>
+    ensures { IfOk result (λ made. IfSome made (λ changed. changed.change
+        ≡ record { edit = edit; amount = Some amount; start = 0; end = 0 })) }
+{
     match amount_in(value, edit) {
         Some(stated) => Ok(Some(with_amount(alloc, value, edit, stated, amount)?)),
         None => Ok(None),

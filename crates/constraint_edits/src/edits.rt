@@ -1,8 +1,10 @@
 //! Constraints with one field changed.
 
-ghost use Rattle.std.specs.Prelude.{◌≡◌, IfOk};
+ghost use Rattle.std.specs.Prelude.{◌≡◌, IfOk, IfSome};
 
+use crate::change::Change;
 use crate::exchanging::{exchanged, exchanges};
+use crate::locating::change_of;
 use crate::objects::{ENTRIES, MEMORY, entries_of, have, lacking, values_in, with, words_without};
 use crate::permitting::{meaning, means, permits_more, permitting};
 use crate::taking::{lacks_colour, putting_first, taking_colour, taking_pair};
@@ -117,33 +119,25 @@ pub fn edits_on(
     Ok(edits)
 }
 
-/// Constraints after a change, with what is changed in words.
-pub struct Changed {
-    pub value: Value,
-    pub words: Text,
+/// A record of constraints after an edit, with what is changed in words.
+pub(crate) struct Rewritten {
+    pub(crate) value: Value,
+    pub(crate) words: Text,
 }
 
-impl Drop for Changed {
+impl Drop for Rewritten {
     fn drop(self) {
-        let Changed { value: _, words: _ } = self;
+        let Rewritten { value: _, words: _ } = self;
     }
 }
 
-impl Changed {
-    /// The constraints alone.
-    pub fn into_value(self) -> Value
-        ensures { result ≡ self.value }
-    {
-        let Changed { value, words: _ } = self;
-        value
-    }
-
+impl Rewritten {
     /// The constraints, and what is changed.
-    pub fn into_parts(self) -> (Value, Text)
+    pub(crate) fn into_parts(self) -> (Value, Text)
         ensures value { result.0 ≡ self.value }
         ensures words { result.1 ≡ self.words }
     {
-        let Changed { value, words } = self;
+        let Rewritten { value, words } = self;
         (value, words)
     }
 
@@ -152,22 +146,94 @@ impl Changed {
         self,
         alloc: Global,
         constraints: &Value,
-    ) -> Result<Changed, AllocError>
+    ) -> Result<Rewritten, AllocError>
         ensures { IfOk result (λ made. made.words ≡ self.words) }
     {
         let (memory, words) = self.into_parts();
         let value = with(alloc, Some(constraints), MEMORY, memory)?;
-        Ok(Changed { value, words })
+        Ok(Rewritten { value, words })
+    }
+
+    /// The same, of this change.
+    pub(crate) fn by(self, change: Change) -> Changed
+        ensures change { result.change ≡ change }
+        ensures value { result.value ≡ self.value }
+        ensures words { result.words ≡ self.words }
+    {
+        let (value, words) = self.into_parts();
+        Changed {
+            change,
+            value,
+            words,
+        }
     }
 }
 
-/// The constraints with a change, on a platform with these heaps; `None` where they are so already.
+/// A change, the record of the constraints after it, and what is changed in words.
+pub struct Changed {
+    pub change: Change,
+    pub value: Value,
+    pub words: Text,
+}
+
+impl Drop for Changed {
+    fn drop(self) {
+        let Changed {
+            change: _,
+            value: _,
+            words: _,
+        } = self;
+    }
+}
+
+impl Changed {
+    /// The constraints alone.
+    pub fn into_value(self) -> Value
+        ensures { result ≡ self.value }
+    {
+        let Changed {
+            change: _,
+            value,
+            words: _,
+        } = self;
+        value
+    }
+
+    /// The constraints, and what is changed.
+    pub fn into_parts(self) -> (Value, Text)
+        ensures value { result.0 ≡ self.value }
+        ensures words { result.1 ≡ self.words }
+    {
+        let Changed {
+            change: _,
+            value,
+            words,
+        } = self;
+        (value, words)
+    }
+}
+
+/// The constraints with an edit, on a platform with these heaps; `None` where they are so already.
 pub fn edited(
     alloc: Global,
     value: &Value,
     edit: Edit,
     heaps: &[HeapInfo],
-) -> Result<Option<Changed>, AllocError> {
+) -> Result<Option<Changed>, AllocError>
+    ensures { IfOk result (λ made. IfSome made (λ changed. changed.change.edit ≡ edit)) }
+{
+    match record_after(alloc, value, edit, heaps)? {
+        Some(made) => Ok(Some(made.by(change_of(alloc, value, edit, heaps)?))),
+        None => Ok(None),
+    }
+}
+
+fn record_after(
+    alloc: Global,
+    value: &Value,
+    edit: Edit,
+    heaps: &[HeapInfo],
+) -> Result<Option<Rewritten>, AllocError> {
     match edit {
         Edit::MeansHeap(index) => meaning(alloc, value, heaps, index),
         Edit::Exchanges(least, most) => exchanged(alloc, value, least, most),
@@ -215,7 +281,7 @@ fn is_unsupported(value: &Value, field: Field) -> bool {
     }
 }
 
-fn supporting(alloc: Global, value: &Value, field: Field) -> Result<Option<Changed>, AllocError> {
+fn supporting(alloc: Global, value: &Value, field: Field) -> Result<Option<Rewritten>, AllocError> {
     let key = field.name();
     let was = match memory_of(value, key) {
         Some(Value::Bool(true)) => return Ok(None),
@@ -226,7 +292,7 @@ fn supporting(alloc: Global, value: &Value, field: Field) -> Result<Option<Chang
     let object = with(alloc, value.get(MEMORY), key, Value::Bool(true))?;
     let mut words = Words::new(alloc);
     words.field(field).put(" ").put(was).put(" becomes true");
-    Ok(Some(Changed {
+    Ok(Some(Rewritten {
         value: with(alloc, Some(value), MEMORY, object)?,
         words: words.into_text()?,
     }))
@@ -237,12 +303,12 @@ fn memory_of<'a>(value: &'a Value, key: &str) -> Option<&'a Value> {
     value.get(MEMORY)?.get(key)
 }
 
-fn without(alloc: Global, value: &Value, field: Field) -> Result<Option<Changed>, AllocError> {
+fn without(alloc: Global, value: &Value, field: Field) -> Result<Option<Rewritten>, AllocError> {
     let key = field.name();
     let Some(member) = value.get(key) else {
         return Ok(None);
     };
-    Ok(Some(Changed {
+    Ok(Some(Rewritten {
         value: lacking(alloc, value, key)?,
         words: words_without(alloc, field, member).into_text()?,
     }))
@@ -252,7 +318,7 @@ fn without_memory(
     alloc: Global,
     value: &Value,
     field: Field,
-) -> Result<Option<Changed>, AllocError> {
+) -> Result<Option<Rewritten>, AllocError> {
     let Some(memory) = value.get(MEMORY) else {
         return Ok(None);
     };
@@ -266,7 +332,7 @@ fn without_bound(
     alloc: Global,
     value: &Value,
     field: Field,
-) -> Result<Option<Changed>, AllocError> {
+) -> Result<Option<Rewritten>, AllocError> {
     let key = field.name();
     if !have(value, key) {
         return Ok(None);
@@ -287,11 +353,11 @@ pub(crate) fn with_entries(
     value: &Value,
     entries: Vec<Value>,
     words: Text,
-) -> Result<Option<Changed>, AllocError> {
+) -> Result<Option<Rewritten>, AllocError> {
     if words.is_empty() {
         return Ok(None);
     }
-    Ok(Some(Changed {
+    Ok(Some(Rewritten {
         value: with(alloc, Some(value), ENTRIES, Value::Array(entries))?,
         words,
     }))

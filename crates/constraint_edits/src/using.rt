@@ -1,6 +1,6 @@
 //! Constraints of one whose buffers no CPU uses, or who asks for more of them.
 
-use crate::edits::Changed;
+use crate::edits::Rewritten;
 use crate::objects::{exact_value, text_value, with};
 use explanation_text::Words;
 use serde_json::Value;
@@ -11,7 +11,7 @@ const USAGE: &str = "usage";
 
 /// The constraints without the use by a CPU; `None` where there is none. Nothing else used is the
 /// usage `none`.
-pub(crate) fn without_cpu(alloc: Global, value: &Value) -> Result<Option<Changed>, AllocError> {
+pub(crate) fn without_cpu(alloc: Global, value: &Value) -> Result<Option<Rewritten>, AllocError> {
     let Some(usages) = value.get(USAGE).and_then(Value::as_array) else {
         return Ok(None);
     };
@@ -30,7 +30,7 @@ pub(crate) fn without_cpu(alloc: Global, value: &Value) -> Result<Option<Changed
     } else {
         "usage without cpu"
     };
-    Ok(Some(Changed {
+    Ok(Some(Rewritten {
         value: with(alloc, Some(value), USAGE, Value::Array(others))?,
         words: Words::of(alloc, words).into_text()?,
     }))
@@ -72,7 +72,7 @@ pub(crate) fn asking_for(
     alloc: Global,
     value: &Value,
     count: u32,
-) -> Result<Option<Changed>, AllocError> {
+) -> Result<Option<Rewritten>, AllocError> {
     if asks_for(value, count) {
         return Ok(None);
     }
@@ -84,7 +84,7 @@ pub(crate) fn asking_for(
         None => words.put(" (absent)"),
     };
     words.put(" becomes ").put_number(count);
-    Ok(Some(Changed {
+    Ok(Some(Rewritten {
         value: with(alloc, Some(value), name, exact_value(u64::from(count)))?,
         words: words.into_text()?,
     }))
