@@ -1,6 +1,7 @@
 //! What was chosen in a domain, and what decided it.
 
 use crate::passed_over::tell_passed_over;
+use crate::room::tell_left;
 use crate::selecting::{Empty, tell_left_out};
 use explanation_text::wording::put_few;
 use explanation_text::{Gathered, Items, Text, Words};
@@ -23,7 +24,7 @@ pub(crate) fn tell_choice(
     tell_children(items, story, index)?;
     if let Some(host) = domain.host {
         tell_from(items, story, host);
-        return Ok(());
+        return tell_left(items, story, index);
     }
     let selections = Empty {
         platform,

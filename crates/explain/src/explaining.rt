@@ -5,7 +5,7 @@ ghost use Rattle.std.specs.String.{string_bytes};
 ghost use Rattle.explain.specs.Lines.{IsToldBy, item_texts};
 ghost use Rattle.explain.specs.Wanted.{AreThere};
 
-use crate::corrected::{meant_in, tell_corrected};
+use crate::corrected::{meant_in, tell_corrected, tell_moved};
 use crate::domains::tell_domains;
 use crate::json::{Played, Scene, objects_of};
 use crate::lines::with_lines;
@@ -14,7 +14,6 @@ use domain_reasons::answer_of;
 use explanation_text::{
     Item, Items, Kind, Span, Words, column_of, line_of, repeated_keys, text_of,
 };
-use other_outcomes::tell_moved;
 use script_faults::{Document, Whole, tell_fault, tell_no_json};
 use script_reading::{ParseFault, Script, ScriptFault, parse_script, read_script};
 use script_story::{Effort, Scenario, Story, refused_calls, story_of, tell_refused};
@@ -215,7 +214,7 @@ fn fault_items(
     let told = told.into_list()?;
     let meant = meant_in(alloc, document, &told)?;
     let mut items = with_repeats(alloc, document, told)?;
-    tell_corrected(&mut items, document, &meant)?;
+    tell_corrected(&mut items, document, &meant, None)?;
     Ok(items)
 }
 
@@ -299,8 +298,8 @@ fn tell_story(
 ) -> Result<(), AllocError> {
     items.push(Kind::Answer, 0, "", answer_of(items.alloc(), story));
     tell_repeats(items, document)?;
-    tell_calls(items, document, story)?;
-    tell_moved(items, scenario, document.value, story)?;
+    tell_calls(items, document, story, scenario.effort)?;
+    tell_moved(items, document, scenario, story)?;
     tell_domains(items, document, scenario, story)?;
     tell_untold(items, scenario.effort);
     Ok(())
@@ -324,6 +323,7 @@ fn tell_calls(
     items: &mut Items,
     document: &Document<'_>,
     story: &Story<'_>,
+    effort: &Effort,
 ) -> Result<(), AllocError> {
     let mut refused = Items::new(items.alloc());
     tell_refused(&mut refused, document, story)?;
@@ -332,7 +332,7 @@ fn tell_calls(
     for item in refused {
         items.add(item);
     }
-    tell_corrected(items, document, &meant)
+    tell_corrected(items, document, &meant, Some(effort))
 }
 
 fn outcome_of(story: &Story<'_>) -> Outcome {

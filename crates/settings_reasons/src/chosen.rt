@@ -4,7 +4,7 @@ use crate::listed::listed_before;
 use crate::offer_words::{least_side, offer_name};
 use crate::offering::{are_refused, offers_of};
 use crate::placing::{place_name, places_of};
-use crate::refusing::{place_rows, tell_offers};
+use crate::refusing::{place_rows, tell_no_image, tell_offers};
 use crate::rows::tell_rows;
 use explanation_text::{Items, Words};
 use negotiation_inputs::Platform;
@@ -142,8 +142,25 @@ fn tell_offer(
     items.say(1, "image", name);
     let offers = offers_of(alloc, platform)?;
     let earlier = before(&offers, &settings.offer);
-    tell_offers(items, platform, people, earlier, "not ", "offers before it")?;
+    let images = tell_image(items, people, earlier)?;
+    tell_offers(items, platform, people, images, "not ", "offers before it")?;
     tell_listed(items, platform, people, settings)
+}
+
+/// Tells why there has to be an image, if these offers were refused of which the first is none; says
+/// which of them are images.
+fn tell_image<'b>(
+    items: &mut Items,
+    people: &[Asked<'_>],
+    refused: &'b [Offer],
+) -> Result<&'b [Offer], AllocError> {
+    match refused.split_first() {
+        Some((none, images)) if *none == Offer::NoImage => {
+            tell_no_image(items, people)?;
+            Ok(images)
+        }
+        _ => Ok(refused),
+    }
 }
 
 /// Tells who refuses each pair that participants list before the chosen one, where all its offers
@@ -173,7 +190,7 @@ fn tell_pair(
 ) -> Result<(), AllocError> {
     let offers = offers_with(items.alloc(), platform, pair)?;
     if are_refused(&offers, people, true) {
-        return tell_offers(items, platform, people, &offers, "nor ", "offers after it");
+        return tell_offers(items, platform, people, &offers, "not ", "offers after it");
     }
     Ok(())
 }

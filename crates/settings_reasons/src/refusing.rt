@@ -116,6 +116,18 @@ pub(crate) fn tell_offers(
     Ok(())
 }
 
+/// Tells why there has to be an image: who refuses to have none.
+pub(crate) fn tell_no_image(items: &mut Items, people: &[Asked<'_>]) -> Result<(), AllocError> {
+    let alloc = items.alloc();
+    let refused = refused_by(alloc, &Offer::NoImage, people, true, false)?;
+    let mut words = Words::of(alloc, "there has to be an image");
+    for reason in &refused.texts {
+        words.put(": ").put_text(reason);
+    }
+    items.say(2, "", words);
+    Ok(())
+}
+
 /// An offer that is refused, and why.
 #[derive(Drop)]
 struct Refused {

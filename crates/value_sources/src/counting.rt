@@ -73,8 +73,8 @@ fn greatest<'a>(people: &[Asked<'a>], part: CountPart) -> Option<(Asked<'a>, u32
     Some((*one, most))
 }
 
-/// What participants hold together.
-fn held(people: &[Asked<'_>]) -> u64 {
+/// How many buffers participants hold together, with the greatest shared slack.
+pub fn held(people: &[Asked<'_>]) -> u64 {
     let shared = match greatest(people, CountPart::Shared) {
         Some((_, value)) => u64::from(value),
         None => 0,
@@ -82,6 +82,16 @@ fn held(people: &[Asked<'_>]) -> u64 {
     total(people, CountPart::Camping)
         .saturating_add(total(people, CountPart::Dedicated))
         .saturating_add(shared)
+}
+
+/// Who holds them, as a sum of named parts.
+pub fn why_held(alloc: Global, people: &[Asked<'_>]) -> Words {
+    let mut words = Words::new(alloc);
+    if held(people) == 0 {
+        words.put("nobody asks to hold one");
+    }
+    put_held(&mut words, people);
+    words
 }
 
 /// Puts what participants hold together after a text, as a sum of named parts.
@@ -148,8 +158,9 @@ fn put_sum(text: &mut Words, mark: &str, parts: &[Text], word: &str) {
     text.put(" (").put(word).put(")");
 }
 
-/// The least count that the participants need.
-fn needed(people: &[Asked<'_>]) -> u64 {
+/// The least count that the participants need: what they hold, and no fewer than any of them asks
+/// for.
+pub fn needed(people: &[Asked<'_>]) -> u64 {
     let least = match greatest(people, CountPart::Minimum) {
         Some((_, value)) => u64::from(value),
         None => 0,

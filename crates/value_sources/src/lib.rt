@@ -16,6 +16,6 @@ mod sizes;
 mod wishes;
 
 pub use asked::{Asked, put_has, put_people};
-pub use counting::{MOST_COUNTED, count_text, is_count_line, why_needed};
+pub use counting::{MOST_COUNTED, count_text, held, is_count_line, needed, why_held, why_needed};
 pub use sizes::{Derived, format_words};
 pub use wishes::{Side, Wish, Wishes};
