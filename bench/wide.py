@@ -1,5 +1,5 @@
 """Scripts that cost most: on the widest platform, of 64 heaps, 23 pairs and 8 colour spaces, participants who take each pair, and groups whose every
-selection fails. `scripts` gives each by its name."""
+selection fails. `scripts` gives each by its name; `refused_texts` gives texts that are refused, up to the longest that is read."""
 import json
 import os
 import sys
@@ -16,6 +16,7 @@ ENTRY_PAIRS = PAIRS + LEFT_OPEN
 # Two whose least common multiple is the most that two so small numbers can have.
 FIBONACCI = 28657, 46368
 MOST, MOST_PIXELS = 2**32 - 1, 2**64 - 1
+LONGEST = 4 * 2**20
 # Pairs of a camera, an encoder and a display, and what they ask of each.
 USUAL = [(("NV12", "LINEAR"), 16), (("R8G8B8A8", "LINEAR"), 4), (("B8G8R8A8", "INTEL_I915_X_TILED"), 4), (("P010", "LINEAR"), 4)]
 
@@ -168,6 +169,32 @@ def scripts():
     yield "late_colours", late(1, 400000)
     for kind in (0, 1, 2, 4):
         yield f"hostile_{kind}", hostile(kind)
+
+
+def repeated(part):
+    """A list of this JSON, as often as a text that is read has room for it."""
+    return "[" + ",".join([part] * ((LONGEST - 1) // (len(part) + 1))) + "]"
+
+
+def nested(levels, more):
+    """Objects within each other, each with so many more keys."""
+    inner = "0"
+    for _ in range(levels):
+        inner = "{" + "".join(f'"k{number}":0,' for number in range(more)) + f'"":{inner}' + "}"
+    return inner
+
+
+def refused_texts():
+    """Texts of scripts that are refused, or whose call is, by their names."""
+    heaps = [{"heap_type": "ram", "id": number} for number in range(100000)]
+    made = Script()
+    made.state("root", asks([], permitted_heaps=heaps))
+    yield "permitted_heaps_100000", json.dumps({"platform": PLATFORM, "calls": made.calls}, separators=(",", ":"))
+    # The first object has a key twice, so that keys are compared.
+    yield "keys_118x60", repeated(nested(118, 60)).replace("[{", '[{"k0":0,', 1)
+    yield "objects_of_one", repeated('{"":0}')
+    yield "objects_of_two", repeated('{"b":0,"a":1.0e1}')
+    yield "objects_100_deep", repeated(nested(100, 0))
 
 
 def write_scripts(folder):

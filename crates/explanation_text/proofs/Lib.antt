@@ -1,1 +1,2 @@
+mod Followed
 mod Spelling

@@ -8,6 +8,7 @@ mod machine;
 mod path;
 mod repeats;
 mod skipping;
+mod spelling;
 mod stopping;
 mod taken;
 

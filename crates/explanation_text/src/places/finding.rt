@@ -1,14 +1,13 @@
 //! Where the value at a path stands.
 
-ghost use Rattle.std.specs.Prelude.{◌≡◌, ◌≤◌, true, IfOk, IfSome};
-ghost use Rattle.serde_json.specs.Data.{depth};
-ghost use Rattle.serde_json.specs.Read.{max_depth};
+ghost use Rattle.std.specs.Prelude.{IfOk, IfSome};
 ghost use Rattle.serde_json.specs.View.{view};
-ghost use Rattle.explanation_text.specs.Places.{IsPlaceOf, IsSpelling};
+ghost use Rattle.explanation_text.specs.Places.{IsPlaceOf};
 
 use crate::places::keys::{Span, Step, is_spelled};
 use crate::places::path::value_at;
 use crate::places::skipping::{after_space, end_of_text, end_of_value};
+use crate::places::spelling::spells;
 use serde_json::Value;
 use std::alloc::{AllocError, Global};
 
@@ -153,28 +152,4 @@ pub fn key_span_of<'a>(
     path: &'a [Step<'a>],
 ) -> Result<Option<Span>, AllocError> {
     Ok(found_at(alloc, bytes, path)?.map(|found| found.key))
-}
-
-/// Whether the bytes are JSON of this value.
-fn spells(alloc: Global, bytes: &[u8], value: &Value) -> Result<bool, AllocError>
-    ensures { IfOk result (λ is. is ≡ true → IsSpelling bytes.now (view value.now)) }
-{
-    match Value::from_slice(alloc, bytes) {
-        Ok(read) => is_same(alloc, &read, value),
-        Err(error) => if error.is_memory() {
-            Err(AllocError)
-        } else {
-            Ok(false)
-        },
-    }
-}
-
-/// Whether two values are written the same.
-fn is_same(alloc: Global, a: &Value, b: &Value) -> Result<bool, AllocError>
-    ensures { IfOk result (λ is. is ≡ true → depth (view a.now) ≤ max_depth
-        → depth (view b.now) ≤ max_depth → view a.now ≡ view b.now) }
-{
-    let first = a.to_string(alloc)?;
-    let second = b.to_string(alloc)?;
-    Ok(first == second)
 }

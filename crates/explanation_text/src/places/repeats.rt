@@ -99,10 +99,15 @@ fn note_all(
     Ok(())
 }
 
-/// Forgets the keys of objects that are complete.
+/// Forgets the keys of objects that are complete: of the keys that are kept the last ones, since an
+/// object's keys stand after those of the objects around it.
 fn leave(machine: &Machine, keys: &mut Vec<Key>) {
     let depth = machine.open().len();
-    keys.retain(|key| key.depth <= depth);
+    let kept = match keys.iter().rposition(|key| key.depth <= depth) {
+        Some(last) => last.saturating_add(1),
+        None => 0,
+    };
+    keys.truncate(kept);
 }
 
 /// Keeps the key that ended, or where it stood before.
@@ -119,9 +124,9 @@ fn note(
     let span = open.key;
     let text = span.within(bytes);
     let mut others = 0usize;
-    for key in keys.iter() {
+    for key in keys.iter().rev() {
         if key.depth != depth {
-            continue;
+            break;
         }
         if key.span.within(bytes) == text {
             repeats.push((key.span, span))?;
