@@ -168,8 +168,9 @@ fn offer_line(
     }
 }
 
-/// Puts the line for an offer behind the lines so far, of which the last is that of an earlier offer:
-/// it is put once more where it is the offer's own. False where the participants share the offer.
+/// Puts the line for an offer behind the lines so far, of which the last is that of an earlier
+/// offer: it is put once more where it is the offer's own. False where the participants share the
+/// offer.
 fn push_offer(
     alloc: Global,
     tree: &Tree,

@@ -17,6 +17,7 @@ mod no;
 mod pair_lines;
 mod path_list;
 mod refutation;
+mod shared_path;
 mod verdict;
 
 pub use asked::{add_count, add_read};

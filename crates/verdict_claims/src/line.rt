@@ -134,7 +134,8 @@ impl Lines {
         Lines { lines, again }
     }
 
-    /// The same lines, without room that isn't used. `AllocError` where the smaller room is refused.
+    /// The same lines, without room that isn't used. `AllocError`
+    /// where the smaller room is refused.
     pub fn fitted(self) -> Result<Lines, AllocError>
         ensures { IfOk result (λ fitted. fitted ≡ self) }
     {
