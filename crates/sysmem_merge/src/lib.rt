@@ -25,6 +25,7 @@ mod pairs;
 mod reason;
 mod settings;
 mod share;
+mod sight;
 mod sound;
 mod sum;
 mod walk;
