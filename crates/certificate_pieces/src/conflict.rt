@@ -7,7 +7,7 @@ ghost use Rattle.certificate_text.specs.Told.{conflict_data, earlier_data, item_
 ghost use Rattle.json.specs.Print.{escape};
 ghost use Rattle.serde_json.specs.Written.{compact_text};
 
-use crate::kept::Kept;
+use crate::kept::LineCache;
 use crate::lines::put_lines;
 use crate::list::{Tell, put_list};
 use crate::path::{put_number, put_path, put_paths};
@@ -20,7 +20,7 @@ use verdict_claims::{Conflict, EarlierChoices, Item, Line, Refutation};
 impl Tell for EarlierChoices {
     ghost text = { λ earlier. compact_text (earlier_data earlier) };
 
-    fn tell<P: Sink>(&self, out: &mut Piece, sink: &mut P, kept: &mut Kept) {
+    fn tell<P: Sink>(&self, out: &mut Piece, sink: &mut P, kept: &mut LineCache) {
         put_list(out, sink, kept, self.refutations());
     }
 }
@@ -28,7 +28,7 @@ impl Tell for EarlierChoices {
 impl Tell for Refutation {
     ghost text = { λ items. compact_text (refutation_data items) };
 
-    fn tell<P: Sink>(&self, out: &mut Piece, sink: &mut P, kept: &mut Kept) {
+    fn tell<P: Sink>(&self, out: &mut Piece, sink: &mut P, kept: &mut LineCache) {
         put_list(out, sink, kept, self.items());
     }
 }
@@ -36,7 +36,7 @@ impl Tell for Refutation {
 impl Tell for Item {
     ghost text = { λ item. compact_text (item_data item) };
 
-    fn tell<P: Sink>(&self, out: &mut Piece, sink: &mut P, kept: &mut Kept) {
+    fn tell<P: Sink>(&self, out: &mut Piece, sink: &mut P, kept: &mut LineCache) {
         match self {
             Item::Split(children) => put_split(out, sink, *children),
             Item::Leaf(conflict) => put_conflict(out, sink, kept, conflict),
@@ -55,7 +55,7 @@ fn put_split<P: Sink>(out: &mut Piece, sink: &mut P, children: u64)
     out.put_byte(sink, b'}');
 }
 
-fn put_conflict<P: Sink>(out: &mut Piece, sink: &mut P, kept: &mut Kept, conflict: &Conflict)
+fn put_conflict<P: Sink>(out: &mut Piece, sink: &mut P, kept: &mut LineCache, conflict: &Conflict)
     ensures { Tells (P.contents sink.old) (P.failures sink.old) out.old
         (P.contents sink.new) (P.failures sink.new) out.new
         (compact_text (conflict_data conflict.now)) }

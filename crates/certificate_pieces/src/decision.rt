@@ -8,7 +8,7 @@ ghost use Rattle.certificate_text.specs.Certificate.{certificate_text};
 ghost use Rattle.certificate_text.specs.Told.{decision_data};
 ghost use Rattle.serde_json.specs.Written.{compact_text};
 
-use crate::kept::Kept;
+use crate::kept::LineCache;
 use crate::list::Tell;
 use crate::piece::Piece;
 use crate::proof::put_proof;
@@ -32,7 +32,7 @@ pub(crate) struct Decision {
 impl Tell for Decision {
     ghost text = { decision_text };
 
-    fn tell<P: Sink>(&self, out: &mut Piece, sink: &mut P, kept: &mut Kept) {
+    fn tell<P: Sink>(&self, out: &mut Piece, sink: &mut P, kept: &mut LineCache) {
         out.put(sink, self.head.as_slice());
         if let Some(claim) = &self.claim {
             put_proof(out, sink, kept, &claim.proof);

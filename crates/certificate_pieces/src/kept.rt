@@ -12,15 +12,15 @@ use verdict_claims::Line;
 /// The text of the last line with few paths that comes again, and of the last with many: a line
 /// that names one participant stands between lines that name all.
 #[derive(Drop)]
-pub(crate) struct Kept {
+pub(crate) struct LineCache {
     few: KeptLine,
     many: KeptLine,
 }
 
-impl Kept {
+impl LineCache {
     /// Of no line. Room for the texts is taken, and no more later.
-    pub(crate) fn new(alloc: Global) -> Result<Kept, AllocError> {
-        Ok(Kept {
+    pub(crate) fn new(alloc: Global) -> Result<LineCache, AllocError> {
+        Ok(LineCache {
             few: KeptLine::new(alloc)?,
             many: KeptLine::new(alloc)?,
         })

@@ -7,7 +7,7 @@ ghost use Rattle.certificate_text.specs.Told.{line_data, lines_data};
 ghost use Rattle.serde_json.specs.Written.{compact_text};
 
 use crate::conflict::put_line;
-use crate::kept::Kept;
+use crate::kept::LineCache;
 use crate::path::put_comma;
 use crate::piece::Piece;
 use byte_transfer::Sink;
@@ -15,7 +15,7 @@ use verdict_claims::{Line, Lines};
 
 /// Tells a list of lines. Where a line is known to be the one before once more, nothing is
 /// compared.
-pub(crate) fn put_lines<P: Sink>(out: &mut Piece, sink: &mut P, kept: &mut Kept, lines: &Lines)
+pub(crate) fn put_lines<P: Sink>(out: &mut Piece, sink: &mut P, kept: &mut LineCache, lines: &Lines)
     ensures { Tells (P.contents sink.old) (P.failures sink.old) out.old
         (P.contents sink.new) (P.failures sink.new) out.new (compact_text (lines_data lines.now)) }
 {
@@ -48,7 +48,7 @@ fn is_next(again: &[u8], next: usize, index: usize) -> bool
 fn put_next<P: Sink>(
     out: &mut Piece,
     sink: &mut P,
-    kept: &mut Kept,
+    kept: &mut LineCache,
     line: &Line,
     is_there: bool,
     comes_again: bool,

@@ -4,7 +4,7 @@ ghost use Rattle.std.specs.Prelude.{List, map, ℕ};
 ghost use Rattle.certificate_pieces.specs.Telling.{Tells};
 ghost use Rattle.certificate_pieces.specs.Texts.{list_text};
 
-use crate::kept::Kept;
+use crate::kept::LineCache;
 use crate::path::put_comma;
 use crate::piece::Piece;
 use byte_transfer::Sink;
@@ -14,7 +14,7 @@ pub(crate) trait Tell: Sized + Drop {
     ghost text: { Self → List ℕ };
 
     /// Tells it behind what was told.
-    fn tell<P: Sink>(&self, out: &mut Piece, sink: &mut P, kept: &mut Kept)
+    fn tell<P: Sink>(&self, out: &mut Piece, sink: &mut P, kept: &mut LineCache)
         ensures { Tells (P.contents sink.old) (P.failures sink.old) out.old
             (P.contents sink.new) (P.failures sink.new) out.new (text self.now) };
 }
@@ -23,7 +23,7 @@ pub(crate) trait Tell: Sized + Drop {
 pub(crate) fn put_list<T: Tell, P: Sink>(
     out: &mut Piece,
     sink: &mut P,
-    kept: &mut Kept,
+    kept: &mut LineCache,
     parts: &[T],
 )
     ensures { Tells (P.contents sink.old) (P.failures sink.old) out.old

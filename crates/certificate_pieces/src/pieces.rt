@@ -9,7 +9,7 @@ ghost use Rattle.certificate_text.specs.Told.{decision_data};
 ghost use Rattle.serde_json.specs.Written.{compact_text};
 
 use crate::decision::{Decision, decision_of};
-use crate::kept::Kept;
+use crate::kept::LineCache;
 use crate::list::put_list;
 use crate::piece::Piece;
 use byte_transfer::{Sink, WriteFault};
@@ -26,7 +26,7 @@ pub struct CertificatePieces {
     alloc: Global,
     decisions: Vec<Decision>,
     out: Piece,
-    kept: Kept,
+    kept: LineCache,
 }
 
 impl Model for CertificatePieces {
@@ -47,7 +47,7 @@ impl CertificatePieces {
             alloc,
             decisions: Vec::new(alloc),
             out: Piece::new(alloc)?,
-            kept: Kept::new(alloc)?,
+            kept: LineCache::new(alloc)?,
         })
     }
 

@@ -3,7 +3,7 @@
 ghost use Rattle.certificate_pieces.specs.Telling.{Tells};
 ghost use Rattle.certificate_pieces.specs.Texts.{proof_text};
 
-use crate::kept::Kept;
+use crate::kept::LineCache;
 use crate::lines::put_lines;
 use crate::list::put_list;
 use crate::piece::Piece;
@@ -11,7 +11,7 @@ use byte_transfer::Sink;
 use verdict_claims::{Certificate, Proof};
 
 /// Tells the members of a decision that prove its verdict.
-pub(crate) fn put_proof<P: Sink>(out: &mut Piece, sink: &mut P, kept: &mut Kept, proof: &Proof)
+pub(crate) fn put_proof<P: Sink>(out: &mut Piece, sink: &mut P, kept: &mut LineCache, proof: &Proof)
     ensures { Tells (P.contents sink.old) (P.failures sink.old) out.old
         (P.contents sink.new) (P.failures sink.new) out.new (proof_text proof.now) }
 {
@@ -28,7 +28,7 @@ pub(crate) fn put_proof<P: Sink>(out: &mut Piece, sink: &mut P, kept: &mut Kept,
 fn put_certificate<P: Sink>(
     out: &mut Piece,
     sink: &mut P,
-    kept: &mut Kept,
+    kept: &mut LineCache,
     certificate: &Certificate,
 )
     ensures { Tells (P.contents sink.old) (P.failures sink.old) out.old

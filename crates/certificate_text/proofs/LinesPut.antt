@@ -8,7 +8,7 @@ use Rattle.serde_json.specs.Written.{comma_if, compact_text, items_text}
 use Rattle.verdict_claims.specs.Line.{IsAgain, LineFacts}
 use Rattle.certificate_text.specs.Out.{IsKept}
 use Rattle.certificate_text.specs.Told.{line_data}
-use Rattle.certificate_text.specs.declared.text.Told.{Told}
+use Rattle.certificate_text.specs.declared.text.WrittenLine.{WrittenLine}
 
 -- what is put with a line, and the lines behind it, is what was put and the lines from it on
 pub one_put : (old now new : List ℕ) (lines : List LineFacts) (at : ℕ) (line : LineFacts) → at < length lines → line ≡ get_or lines at line → now ≡ old ++ comma_if (nat_lt 0 at)
@@ -24,7 +24,7 @@ one_put old now new lines at line inside is comma text =
     ∙ sym (ap (λ ls. old ++ items_text (nat_lt 0 at) (items_of (map line_data ls))) left)
 
 -- the line before that is kept is this one, where this is that once more
-pub kept_again : (lines : List LineFacts) (again : List ℕ) (at : ℕ) (line : LineFacts) (few many : Option Told) → All (IsAgain lines) again → Contains again at → slice_get lines at ≡ Some line
+pub kept_again : (lines : List LineFacts) (again : List ℕ) (at : ℕ) (line : LineFacts) (few many : Option WrittenLine) → All (IsAgain lines) again → Contains again at → slice_get lines at ≡ Some line
     → ((k : ℕ) (l : LineFacts) → at ≡ suc k → slice_get lines k ≡ Some l → IsKept few many l) → IsKept few many line
 kept_again lines again at line few many all (k, below, is) here last =
     let known : IsAgain lines at = subst (IsAgain lines) is (all k at below) in
@@ -32,7 +32,7 @@ kept_again lines again at line few many all (k, below, is) here last =
     last known.before line known.next (known.first ∙ ap (λ l. Some l) same)
 
 -- the line that was put is the one before the next
-pub last_kept : (lines : List LineFacts) (at k : ℕ) (line l : LineFacts) (few many : Option Told) → IsKept few many line → slice_get lines at ≡ Some line → at + 1 ≡ suc k → slice_get lines k ≡ Some l
+pub last_kept : (lines : List LineFacts) (at k : ℕ) (line l : LineFacts) (few many : Option WrittenLine) → IsKept few many line → slice_get lines at ≡ Some line → at + 1 ≡ suc k → slice_get lines k ≡ Some l
     → IsKept few many l
 last_kept lines at k line l few many is here next there =
     let same : k ≡ at = omega (arith, next) in

@@ -9,7 +9,7 @@ use Rattle.verdict_claims.specs.Line.{LineFacts}
 use Rattle.verdict_claims.specs.PathList.{numbers_of}
 use Rattle.certificate_text.specs.Told.{line_data, paths_data}
 use Rattle.certificate_text.specs.declared.json_writer.Writer.TheInside.{Inside}
-use Rattle.certificate_text.specs.declared.text.Told.{Told}
+use Rattle.certificate_text.specs.declared.text.WrittenLine.{WrittenLine}
 
 -- the tokens are those that a reader finds in the whole text
 abbrev pub out_view : Inside → Written
@@ -30,11 +30,11 @@ pub record IsLineText (paths text : List ℕ) (line : LineFacts) : Type 0 where
   pub line_told : text ≡ compact_text (line_data line)
 
 -- what is kept of a line that was put: its text, and that of its paths
-abbrev pub IsTold : Told → Type 0
+abbrev pub IsTold : WrittenLine → Type 0
 IsTold told = IsLineText told.paths.items told.text.items told.line
 
 -- a line is the one that is kept of those with few paths, or of those with many
-pub record IsKept (few many : Option Told) (line : LineFacts) : Type 0 where
+pub record IsKept (few many : Option WrittenLine) (line : LineFacts) : Type 0 where
   pub of_few : nat_le (length (numbers_of line.nodes)) 4 ≡ true
       → IfSome few (λ told. told.line ≡ line)
   pub of_many : nat_le (length (numbers_of line.nodes)) 4 ≡ false

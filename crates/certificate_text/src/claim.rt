@@ -11,7 +11,7 @@ ghost use Rattle.certificate_text.specs.Told.{claim_data, decision_data, lines_d
 
 use crate::json_writer::Writer;
 use crate::member::put_text;
-use crate::part::{Part, Put, put_list_at};
+use crate::part::{CertificatePart, Put, put_list_at};
 use crate::path::put_path;
 use crate::reading::{expect_object, list_at, list_of, number_to, text_at};
 use crate::settings::{put_settings, settings_of};
@@ -31,7 +31,7 @@ impl Put for u8 {
     }
 }
 
-impl Part for u8 {
+impl CertificatePart for u8 {
     ghost said = { number_to 255 };
 
     fn read(_alloc: Global, value: &Value) -> Result<u8, Unread> {

@@ -8,7 +8,7 @@ ghost use Rattle.certificate_text.specs.Told.{earlier_data, refutation_data};
 
 use crate::json_writer::Writer;
 use crate::line::read_named;
-use crate::part::{Part, Put, put_list};
+use crate::part::{CertificatePart, Put, put_list};
 use crate::reading::{expect_object, has_key, list_at, list_of, number_at};
 use crate::unread::Unread;
 use serde_json::Value;
@@ -17,7 +17,7 @@ use sysmem_counts::Field;
 use sysmem_tree::Path;
 use verdict_claims::{Conflict, EarlierChoices, Item, Line, Lines, PathList, Refutation};
 
-impl Part for Item {
+impl CertificatePart for Item {
     ghost said = { item_said };
 
     fn read(alloc: Global, value: &Value) -> Result<Item, Unread> {
@@ -36,7 +36,7 @@ impl Put for Refutation {
     }
 }
 
-impl Part for Refutation {
+impl CertificatePart for Refutation {
     ghost said = { refutation_said };
 
     fn read(alloc: Global, value: &Value) -> Result<Refutation, Unread> {
@@ -52,7 +52,7 @@ impl Put for EarlierChoices {
     }
 }
 
-impl Part for EarlierChoices {
+impl CertificatePart for EarlierChoices {
     ghost said = { earlier_said };
 
     fn read(alloc: Global, value: &Value) -> Result<EarlierChoices, Unread> {

@@ -6,7 +6,7 @@ ghost use Rattle.certificate_text.specs.Reading.{named_at, SaysAs};
 ghost use Rattle.certificate_text.specs.Said.{line_said, named_said};
 ghost use Rattle.serde_json.specs.View.{view};
 
-use crate::part::Part;
+use crate::part::CertificatePart;
 use crate::path_list::paths_at;
 use crate::reading::{expect_object, text_at};
 use crate::unread::Unread;
@@ -15,7 +15,7 @@ use std::alloc::Global;
 use sysmem_counts::Field;
 use verdict_claims::{Line, PathList};
 
-impl Part for Line {
+impl CertificatePart for Line {
     ghost said = { line_said };
 
     fn read(alloc: Global, value: &Value) -> Result<Line, Unread> {

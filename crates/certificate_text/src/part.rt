@@ -22,7 +22,7 @@ pub(crate) trait Put: Sized + Drop {
 }
 
 /// A part of a certificate that is read from JSON data.
-pub(crate) trait Part: Sized + Drop {
+pub(crate) trait CertificatePart: Sized + Drop {
     ghost said: { Data → Option Self };
 
     /// Reads it from a value.

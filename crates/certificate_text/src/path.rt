@@ -11,13 +11,13 @@ ghost use Rattle.certificate_text.specs.Told.{path_data};
 ghost use Rattle.serde_json.specs.View.{view};
 
 use crate::json_writer::Writer;
-use crate::part::Part;
+use crate::part::CertificatePart;
 use crate::unread::Unread;
 use serde_json::Value;
 use std::alloc::{AllocError, Global};
 use sysmem_tree::Path;
 
-impl Part for Path {
+impl CertificatePart for Path {
     ghost said = { node_said };
 
     fn read(alloc: Global, value: &Value) -> Result<Path, Unread> {

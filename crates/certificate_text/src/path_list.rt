@@ -4,14 +4,14 @@ ghost use Rattle.certificate_text.specs.Reading.{at_key, each_said, list_said, S
 ghost use Rattle.certificate_text.specs.Said.{node_said};
 ghost use Rattle.serde_json.specs.View.{items_view, view};
 
-use crate::part::Part;
+use crate::part::CertificatePart;
 use crate::path::read_path;
 use crate::unread::Unread;
 use serde_json::Value;
 use std::alloc::Global;
 use verdict_claims::PathList;
 
-impl Part for PathList {
+impl CertificatePart for PathList {
     ghost said = { list_said node_said };
 
     fn read(alloc: Global, value: &Value) -> Result<PathList, Unread> {

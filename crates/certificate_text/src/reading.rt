@@ -5,7 +5,7 @@ ghost use Rattle.serde_json.specs.Find.{as_object, as_str, get};
 ghost use Rattle.serde_json.specs.View.{view, items_view};
 ghost use Rattle.certificate_text.specs.Reading.{at_key, each_said, list_said, members_len, number_to, is_object_of, SaysAs};
 
-use crate::part::Part;
+use crate::part::CertificatePart;
 use crate::unread::Unread;
 use serde_json::Value;
 use std::alloc::Global;
@@ -61,7 +61,7 @@ pub(crate) fn has_key(value: &Value, key: &str) -> bool
 }
 
 /// What each of the items says.
-fn each_of<T: Part>(alloc: Global, values: &[Value]) -> Result<Vec<T>, Unread>
+fn each_of<T: CertificatePart>(alloc: Global, values: &[Value]) -> Result<Vec<T>, Unread>
     ensures { SaysAs (λ parts. parts.items) result (each_said T.said (items_view values.now)) }
 {
     let mut parts = Vec::new(alloc);
@@ -73,7 +73,7 @@ fn each_of<T: Part>(alloc: Global, values: &[Value]) -> Result<Vec<T>, Unread>
 }
 
 /// What a list says, item by item.
-pub(crate) fn list_of<T: Part>(alloc: Global, value: &Value) -> Result<Vec<T>, Unread>
+pub(crate) fn list_of<T: CertificatePart>(alloc: Global, value: &Value) -> Result<Vec<T>, Unread>
     ensures { SaysAs (λ parts. parts.items) result (list_said T.said (view value.now)) }
 {
     match value.as_array() {
@@ -83,7 +83,11 @@ pub(crate) fn list_of<T: Part>(alloc: Global, value: &Value) -> Result<Vec<T>, U
 }
 
 /// What the list at a key says.
-pub(crate) fn list_at<T: Part>(alloc: Global, value: &Value, key: &str) -> Result<Vec<T>, Unread>
+pub(crate) fn list_at<T: CertificatePart>(
+    alloc: Global,
+    value: &Value,
+    key: &str,
+) -> Result<Vec<T>, Unread>
     ensures { SaysAs (λ parts. parts.items) result
         (at_key key.now (list_said T.said) (view value.now)) }
 {

@@ -112,15 +112,15 @@ fn push_lines(out: &mut Vec<u8>, kind: &str, lines: &Lines) -> Result<(), AllocE
 
 /// A line that was put, with its text and that of its paths.
 #[derive(Drop)]
-struct Told {
+struct WrittenLine {
     line: Line,
     paths: Vec<u8>,
     text: Vec<u8>,
 }
 
-impl Told {
+impl WrittenLine {
     /// Of this line.
-    fn of(alloc: Global, line: &Line) -> Result<Told, AllocError>
+    fn of(alloc: Global, line: &Line) -> Result<WrittenLine, AllocError>
         ensures told { IfOk result IsTold }
         ensures line { IfOk result (λ told. told.line ≡ line.now) }
     {
@@ -129,7 +129,7 @@ impl Told {
         let mut text = Vec::new(alloc);
         push_line(&mut text, line.field(), paths.as_slice())?;
         let line = line.again()?;
-        Ok(Told { line, paths, text })
+        Ok(WrittenLine { line, paths, text })
     }
 
     /// Becomes that of the next line. What both have in common stays.
@@ -176,8 +176,8 @@ pub(crate) fn push_line_items(out: &mut Vec<u8>, lines: &Lines) -> Result<(), Al
 /// from the last with many, and is then kept in its place.
 fn push_kept(
     out: &mut Vec<u8>,
-    few: &mut Option<Told>,
-    many: &mut Option<Told>,
+    few: &mut Option<WrittenLine>,
+    many: &mut Option<WrittenLine>,
     line: &Line,
     is_again: bool,
 ) -> Result<(), AllocError>
@@ -212,7 +212,7 @@ fn is_next(again: &[u8], next: usize, index: usize) -> bool
 /// then kept in its place; if it is that line once more, it takes over all.
 fn push_told(
     out: &mut Vec<u8>,
-    kept: &mut Option<Told>,
+    kept: &mut Option<WrittenLine>,
     line: &Line,
     is_again: bool,
 ) -> Result<(), AllocError>
@@ -229,7 +229,7 @@ fn push_told(
         }
         return out.extend_from_slice(told.text.as_slice());
     }
-    let told = Told::of(*out.allocator(), line)?;
+    let told = WrittenLine::of(*out.allocator(), line)?;
     out.extend_from_slice(told.text.as_slice())?;
     *kept = Some(told);
     Ok(())

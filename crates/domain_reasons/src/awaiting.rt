@@ -12,7 +12,7 @@ const MOST_ROWS: usize = 6;
 
 /// What a node that is awaited is, and what helps.
 #[derive(Drop)]
-struct Awaited {
+struct AwaitedNode {
     node: usize,
     what: Text,
     help: Text,
@@ -34,7 +34,11 @@ pub(crate) fn add_pending(
 }
 
 /// Whom the domain of an index waits for.
-fn all_awaited(alloc: Global, story: &Story<'_>, index: usize) -> Result<Vec<Awaited>, AllocError> {
+fn all_awaited(
+    alloc: Global,
+    story: &Story<'_>,
+    index: usize,
+) -> Result<Vec<AwaitedNode>, AllocError> {
     let mut awaited = ListBuilder::new(alloc);
     for node in &story.awaited(alloc, index, usize::MAX)? {
         awaited.add(awaited_of(alloc, story, *node)?);
@@ -92,7 +96,7 @@ fn is_one_refused(story: &Story<'_>, nodes: &[usize]) -> bool {
 }
 
 /// Tells who is awaited, those for whom the same helps together.
-fn add_awaited(items: &mut Items, story: &Story<'_>, awaited: &[Awaited]) {
+fn add_awaited(items: &mut Items, story: &Story<'_>, awaited: &[AwaitedNode]) {
     for (k, first) in awaited.iter().enumerate() {
         if !helps_before(awaited, k, &first.help) {
             add_those(items, story, awaited, &first.help);
@@ -101,7 +105,7 @@ fn add_awaited(items: &mut Items, story: &Story<'_>, awaited: &[Awaited]) {
 }
 
 /// Whether the same helps for one of the first so many.
-fn helps_before(awaited: &[Awaited], count: usize, help: &Text) -> bool {
+fn helps_before(awaited: &[AwaitedNode], count: usize, help: &Text) -> bool {
     for one in awaited.iter().take(count) {
         if one.help == *help {
             return true;
@@ -111,7 +115,7 @@ fn helps_before(awaited: &[Awaited], count: usize, help: &Text) -> bool {
 }
 
 /// Tells those who are awaited for whom this helps.
-fn add_those(items: &mut Items, story: &Story<'_>, awaited: &[Awaited], help: &Text) {
+fn add_those(items: &mut Items, story: &Story<'_>, awaited: &[AwaitedNode], help: &Text) {
     let mut seen = 0usize;
     for one in awaited {
         if one.help != *help {
@@ -130,7 +134,7 @@ fn add_those(items: &mut Items, story: &Story<'_>, awaited: &[Awaited], help: &T
     }
 }
 
-fn add_one(items: &mut Items, story: &Story<'_>, one: &Awaited) {
+fn add_one(items: &mut Items, story: &Story<'_>, one: &AwaitedNode) {
     let mut words = TextBuilder::of_name(items.alloc(), story.called(one.node));
     words.put(" ").put(story.path(one.node));
     words
@@ -160,12 +164,12 @@ fn is_helpful(act: &Act<'_>) -> bool {
 }
 
 /// What an awaited node is, and what helps.
-fn awaited_of(alloc: Global, story: &Story<'_>, node: usize) -> Result<Awaited, AllocError> {
+fn awaited_of(alloc: Global, story: &Story<'_>, node: usize) -> Result<AwaitedNode, AllocError> {
     let kind = story.kind_before(node, usize::MAX);
     let tried = refused_on(story, node);
     let help = help_of(alloc, story, node, kind, tried)?;
     let what = what_of(alloc, story, node, kind, tried).into_text()?;
-    Ok(Awaited { node, what, help })
+    Ok(AwaitedNode { node, what, help })
 }
 
 /// What an awaited node is, and which call on it was refused.

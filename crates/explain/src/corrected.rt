@@ -12,7 +12,7 @@ use sysmem_formats::{Modifier, PixelFormat};
 
 /// A text of the script, by the bytes between its quotes, and the one that it may mean.
 #[derive(Drop)]
-pub(crate) struct Meant {
+pub(crate) struct MeantText {
     start: usize,
     end: usize,
     is: String,
@@ -26,7 +26,7 @@ pub(crate) fn meant_in(
     alloc: Global,
     document: &Document<'_>,
     shown: &[Item],
-) -> Result<Vec<Meant>, AllocError> {
+) -> Result<Vec<MeantText>, AllocError> {
     let mut words = TextBuilder::new(alloc);
     put_visible(&mut words, document.file);
     let file = words.done()?;
@@ -49,7 +49,7 @@ fn meant_by(
     bytes: &[u8],
     file: &str,
     shown: &str,
-) -> Result<Option<Meant>, AllocError> {
+) -> Result<Option<MeantText>, AllocError> {
     let Some(is) = known_of(shown) else {
         return Ok(None);
     };
@@ -62,7 +62,7 @@ fn meant_by(
     if bytes.get(at).copied() != Some(b'"') || bytes.get(end).copied() != Some(b'"') {
         return Ok(None);
     }
-    Ok(Some(Meant {
+    Ok(Some(MeantText {
         start,
         end,
         is: String::from_str(alloc, is)?,
@@ -153,7 +153,7 @@ fn byte_at(bytes: &[u8], line: usize, column: usize) -> Option<usize> {
 pub(crate) fn add_corrected(
     items: &mut Items,
     document: &Document<'_>,
-    meant: &[Meant],
+    meant: &[MeantText],
 ) -> Result<(), AllocError> {
     if meant.is_empty() {
         return Ok(());
@@ -168,7 +168,7 @@ pub(crate) fn add_corrected(
 fn add_bytes(
     items: &mut Items,
     document: &Document<'_>,
-    meant: &[Meant],
+    meant: &[MeantText],
     bytes: &[u8],
 ) -> Result<(), AllocError> {
     match parse_script(items.alloc(), bytes) {
@@ -188,7 +188,7 @@ fn add_bytes(
 }
 
 /// Tells which texts are corrected.
-fn add_meant(items: &mut Items, bytes: &[u8], meant: &[Meant]) {
+fn add_meant(items: &mut Items, bytes: &[u8], meant: &[MeantText]) {
     let mut words = TextBuilder::of(items.alloc(), "with ");
     put_meant(&mut words, bytes, meant);
     words.put(" the script has:");
@@ -196,7 +196,11 @@ fn add_meant(items: &mut Items, bytes: &[u8], meant: &[Meant]) {
 }
 
 /// The script with what is meant; `None` where that doesn't stand in the order of the text.
-fn corrected(alloc: Global, bytes: &[u8], meant: &[Meant]) -> Result<Option<Vec<u8>>, AllocError> {
+fn corrected(
+    alloc: Global,
+    bytes: &[u8],
+    meant: &[MeantText],
+) -> Result<Option<Vec<u8>>, AllocError> {
     let mut made = Vec::new(alloc);
     let mut from = 0usize;
     for one in meant {
@@ -212,7 +216,7 @@ fn corrected(alloc: Global, bytes: &[u8], meant: &[Meant]) -> Result<Option<Vec<
 }
 
 /// Puts what stands in the place of what after a text: `vulkan in the place of gpu (line 13)`.
-fn put_meant(text: &mut TextBuilder, bytes: &[u8], meant: &[Meant]) {
+fn put_meant(text: &mut TextBuilder, bytes: &[u8], meant: &[MeantText]) {
     for (k, one) in meant.iter().enumerate() {
         put_one(text, bytes, one);
         text.put(mark_after(k, meant.len()));
@@ -232,7 +236,7 @@ fn put_known(text: &mut TextBuilder, word: &str) {
     }
 }
 
-fn put_one(text: &mut TextBuilder, bytes: &[u8], one: &Meant) {
+fn put_one(text: &mut TextBuilder, bytes: &[u8], one: &MeantText) {
     let line = line_of(bytes, one.start.min(bytes.len()));
     if one.is_name {
         text.put(&one.is);

@@ -7,7 +7,7 @@ ghost use Rattle.explain.specs.Wanted.{AreThere};
 
 use crate::corrected::{add_corrected, meant_in};
 use crate::domains::add_domains;
-use crate::json::{Played, Scene, objects_of};
+use crate::json::{PlayedScript, Scene, objects_of};
 use crate::lines::with_lines;
 use crate::page::page_of_scene;
 use domain_reasons::answer_of;
@@ -46,7 +46,7 @@ pub struct Outputs {
 
 /// What a script means, as it is wanted.
 #[derive(Drop)]
-pub struct Explained {
+pub struct Explanation {
     pub outcome: Outcome,
     /// What is told, in order.
     pub items: Vec<Item>,
@@ -64,7 +64,7 @@ pub fn explain(
     file: &str,
     bytes: &[u8],
     wanted: Outputs,
-) -> Result<Explained, AllocError>
+) -> Result<Explanation, AllocError>
     ensures objects { IfOk result (λ told. IfSome told.objects
         (λ text. IsToldBy (item_texts told.items.items) (string_bytes text))) }
     ensures wanted { IfOk result (AreThere wanted) }
@@ -96,7 +96,7 @@ fn refusal(
     document: Document<'_>,
     items: Items,
     wanted: Outputs,
-) -> Result<Explained, AllocError>
+) -> Result<Explanation, AllocError>
     ensures objects { IfOk result (λ told. IfSome told.objects
         (λ text. IsToldBy (item_texts told.items.items) (string_bytes text))) }
     ensures wanted { IfOk result (AreThere wanted) }
@@ -116,7 +116,7 @@ fn printed(
     outcome: Outcome,
     items: Vec<Item>,
     wanted: Outputs,
-) -> Result<Explained, AllocError>
+) -> Result<Explanation, AllocError>
     ensures objects { IfOk result (λ told. IfSome told.objects
         (λ text. IsToldBy (item_texts told.items.items) (string_bytes text))) }
     ensures wanted { IfOk result (AreThere wanted) }
@@ -124,7 +124,7 @@ fn printed(
     let text = text_if(alloc, &items, wanted.text)?;
     let page = page_if(alloc, scene, &items, wanted.page)?;
     let objects = objects_if(alloc, scene, outcome, &items, wanted.objects)?;
-    Ok(Explained {
+    Ok(Explanation {
         outcome,
         items,
         text,
@@ -183,7 +183,7 @@ fn explain_value(
     bytes: &[u8],
     value: &Value,
     wanted: Outputs,
-) -> Result<Explained, AllocError>
+) -> Result<Explanation, AllocError>
     ensures objects { IfOk result (λ told. IfSome told.objects
         (λ text. IsToldBy (item_texts told.items.items) (string_bytes text))) }
     ensures wanted { IfOk result (AreThere wanted) }
@@ -252,7 +252,7 @@ fn explain_script<'a>(
     document: Document<'a>,
     script: &Script<'a>,
     wanted: Outputs,
-) -> Result<Explained, AllocError>
+) -> Result<Explanation, AllocError>
     ensures objects { IfOk result (λ told. IfSome told.objects
         (λ text. IsToldBy (item_texts told.items.items) (string_bytes text))) }
     ensures wanted { IfOk result (AreThere wanted) }
@@ -269,7 +269,7 @@ fn explain_script<'a>(
     }
     let story = story_of(alloc, document.value, &script.calls, &told)?;
     let items = story_items(alloc, &document, &scenario, &story)?;
-    let played = Some(Played {
+    let played = Some(PlayedScript {
         story: &story,
         platform: &script.platform,
         calls: &script.calls,

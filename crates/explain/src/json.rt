@@ -12,5 +12,5 @@ mod values;
 mod written;
 
 pub(crate) use objects::objects_of;
-pub(crate) use scene::{Played, Scene};
+pub(crate) use scene::{PlayedScript, Scene};
 pub use written::{explain_as_json, explain_as_json_to_page};

@@ -19,7 +19,7 @@ mod lines;
 mod page;
 mod written;
 
-pub use explaining::{Explained, Outcome, Outputs, explain};
+pub use explaining::{Explanation, Outcome, Outputs, explain};
 pub use explanation_text::{Item, Kind, text_of};
 pub use json::{explain_as_json, explain_as_json_to_page};
 pub use page::{explain_to_page, explained_ending};

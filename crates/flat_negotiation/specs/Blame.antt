@@ -20,7 +20,7 @@ use Rattle.negotiation_inputs.specs.Platform.{PlatformFacts}
 use Rattle.flat_negotiation.specs.Own.{IsOwnOffer, or_else}
 use Rattle.flat_negotiation.specs.Takes.{take_format, told_line}
 use Rattle.flat_negotiation.specs.declared.unsettled.Refusal.{Refusal}
-use Rattle.flat_negotiation.specs.declared.unsettled.Stop.{Stop}
+use Rattle.flat_negotiation.specs.declared.unsettled.ListStop.{ListStop}
 
 -- those up to the participant, where it is one of the list
 abbrev pub up_to : ℕ → List Participant → List Participant
@@ -37,7 +37,7 @@ IsWho false many who = who < many
 
 -- the participants before, if there are any, can share settings, for the first reason not with this
 -- one too
-pub record IsStop (platform : PlatformFacts) (ps : List Participant) (stop : Stop) : Type 0 where
+pub record IsStop (platform : PlatformFacts) (ps : List Participant) (stop : ListStop) : Type 0 where
   pub who : IsWho stop.whole (length ps) stop.who
   pub shared : IfSome stop.shared (IsBest false platform (take stop.who ps))
   pub before : (stop.who ≡ 0) ⊎ IsSome stop.shared
@@ -52,14 +52,14 @@ pub record IsUnmetFor (platform : PlatformFacts) (ps : List Participant)
 
 -- why the participant can't be met even by itself; none where it can, or where nobody is in the way
 -- alone
-abbrev pub IsLone : PlatformFacts → List Participant → Stop → Option Reason → Type 0
+abbrev pub IsLone : PlatformFacts → List Participant → ListStop → Option Reason → Type 0
 IsLone platform ps stop None =
     (stop.whole ≡ true) ⊎ ((s : Settings) × IsBest false platform (alone stop.who ps) s)
 IsLone platform ps stop (Some reason) =
     (stop.whole ≡ false) × IsUnmetFor platform (alone stop.who ps) reason
 
 -- those of whom is told: the participant by itself, where it can't be met so, and else all up to it
-abbrev pub told_of : Stop → Option Reason → List Participant → List Participant
+abbrev pub told_of : ListStop → Option Reason → List Participant → List Participant
 told_of stop None ps = up_to stop.who ps
 told_of stop (Some reason) ps = alone stop.who ps
 
@@ -78,12 +78,12 @@ pub record IsOfferField (whole : Bool) (ps : List Participant) (o : Offer)
   pub told : field ≡ told_line (take_format o ps) line
 
 -- the offer that those before share
-abbrev pub shared_offer : Stop → Option Offer
+abbrev pub shared_offer : ListStop → Option Offer
 shared_offer stop = option_map (λ s. s.offer) stop.shared
 
 -- the offer of which is told: the image that the participant comes nearest to, where it gets none
 -- even by itself; else, and where there is no such image, that which those before share
-abbrev pub IsToldOffer : PlatformFacts → List Participant → Stop → Option Reason → Option Offer
+abbrev pub IsToldOffer : PlatformFacts → List Participant → ListStop → Option Reason → Option Offer
     → Type 0
 IsToldOffer platform ps stop (Some NoOffer) offer = (own : Option Offer)
     × IsOwnOffer platform (alone stop.who ps) own

@@ -7,7 +7,7 @@ ghost use Rattle.flat_negotiation.specs.Takes.{take_format, told_line};
 ghost use Rattle.flat_negotiation.specs.Blame.{IsFieldOf, IsOfferField, IsPlaceField, IsToldOffer, alone, shared_offer, told_of, told_reason, up_to};
 
 use crate::taking::{or_else, own_offer, take_format};
-use crate::unsettled::{Refusal, Stop};
+use crate::unsettled::{ListStop, Refusal};
 use negotiation_inputs::{Constraints, Platform};
 use sysmem_counts::Field;
 use sysmem_formats::Offer;
@@ -48,7 +48,7 @@ pub(crate) fn alone(asked: &[Constraints], who: usize) -> &[Constraints]
 }
 
 /// Those of whom is told.
-fn told_of<'a>(asked: &'a [Constraints], stop: &Stop, lone: Option<Reason>) -> &'a [Constraints]
+fn told_of<'a>(asked: &'a [Constraints], stop: &ListStop, lone: Option<Reason>) -> &'a [Constraints]
     ensures { result.now ≡ told_of stop.now lone asked.now }
 {
     match lone {
@@ -88,7 +88,7 @@ fn offer_field(offer: &Offer, asked: &[Constraints], whole: bool) -> Option<Fiel
     Some(line_told(line, take_format(offer, asked)))
 }
 
-fn shared_offer(stop: &Stop) -> Option<Offer>
+fn shared_offer(stop: &ListStop) -> Option<Offer>
     ensures { result ≡ shared_offer stop.now }
 {
     match stop.shared {
@@ -101,7 +101,7 @@ fn shared_offer(stop: &Stop) -> Option<Offer>
 fn told_offer(
     platform: &Platform,
     asked: &[Constraints],
-    stop: &Stop,
+    stop: &ListStop,
     lone: Option<Reason>,
 ) -> Option<Offer>
     ensures { IsToldOffer platform.now asked.now stop.now lone result }
@@ -121,7 +121,7 @@ fn told_offer(
 pub(crate) fn blamed(
     platform: &Platform,
     asked: &[Constraints],
-    stop: Stop,
+    stop: ListStop,
     lone: Option<Reason>,
 ) -> Option<Refusal>
     ensures stop { IfSome result (λ r. (r.stop ≡ stop) × (r.lone ≡ lone)) }

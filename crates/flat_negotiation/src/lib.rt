@@ -22,5 +22,5 @@ pub use parts::{
 pub use refusal::refusal_of;
 pub use said::{participant_of, platform_of};
 pub use settling::settled;
-pub use unsettled::{Refusal, Stop, Unsettled};
+pub use unsettled::{ListStop, Refusal, Unsettled};
 pub use written::{domain_code, no_image, settings_of};

@@ -9,7 +9,7 @@ ghost use Rattle.flat_negotiation.specs.Blame.{IsBlamed, IsLone, IsStop};
 ghost use Rattle.flat_negotiation.specs.Unsettled.{AreUnmet};
 
 use crate::blaming::{alone, blamed};
-use crate::unsettled::{Refusal, Stop, Unsettled};
+use crate::unsettled::{ListStop, Refusal, Unsettled};
 use negotiation_inputs::{Constraints, Platform};
 use std::alloc::{AllocError, Global};
 use sysmem_merge::{Aggregate, Reason, Settings};
@@ -36,7 +36,7 @@ fn stop_of(
     platform: &Platform,
     asked: &[Constraints],
     reason: Reason,
-) -> Result<Stop, AllocError>
+) -> Result<ListStop, AllocError>
     requires few { length asked.now ≤ MOST_PARTICIPANTS }
     requires unmet { IsUnmet true platform.now asked.now }
     requires reason { IsFirstReason true platform.now asked.now reason }
@@ -49,7 +49,7 @@ fn stop_of(
         match aggregate.best_settings(false) {
             Ok(settings) => shared = Some(settings),
             Err(reason) => {
-                return Ok(Stop {
+                return Ok(ListStop {
                     who,
                     whole: false,
                     reason,
@@ -58,7 +58,7 @@ fn stop_of(
             }
         }
     }
-    Ok(Stop {
+    Ok(ListStop {
         who: asked.len(),
         whole: true,
         reason,
@@ -121,7 +121,7 @@ fn lone_reason(
     alloc: Global,
     platform: &Platform,
     asked: &[Constraints],
-    stop: &Stop,
+    stop: &ListStop,
 ) -> Result<Option<Reason>, AllocError>
     ensures { IfOk result (IsLone platform.now asked.now stop.now) }
 {

@@ -10,7 +10,7 @@ use sysmem_merge::{Reason, Settings};
 
 /// Where a list has no settings any more.
 #[derive(Clone, Copy, Debug)]
-pub struct Stop {
+pub struct ListStop {
     /// The first participant with whom there are none, as an index; where nobody is in the way
     /// alone, how many there are.
     pub who: usize,
@@ -25,7 +25,7 @@ pub struct Stop {
 /// Why a list has no settings: where it stops, and the field of that participant.
 #[derive(Clone, Copy, Debug)]
 pub struct Refusal {
-    pub stop: Stop,
+    pub stop: ListStop,
     /// Why that participant can't be met even by itself, if it can't.
     pub lone: Option<Reason>,
     /// The offer of which the field is told, or, of another reason, which those before could share.

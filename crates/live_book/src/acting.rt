@@ -22,7 +22,7 @@ use sysmem_tree::{Action, Event, NodeId, Refusal};
 /// An accepted call: the number of the node that was made, or else of the node acted on, and
 /// whether a domain waits for a decision now.
 #[derive(Clone, Copy, Debug)]
-pub struct Accepted {
+pub struct AcceptedCall {
     pub node: u32,
     pub is_ready: bool,
 }
@@ -61,7 +61,7 @@ fn act_at(
     quota: &mut Option<Quota>,
     node: NodeId,
     action: Action,
-) -> Result<Accepted, Refusal>
+) -> Result<AcceptedCall, Refusal>
     requires there { HasNode book.old.state.tree.nodes node }
     requires quota { IfSome quota.old (IsQuotaOf book.old.state.tree.nodes) }
     requires within { applied_within (limits_of quota.old) book.old.state.tree node (deed_of action)
@@ -88,7 +88,7 @@ fn act_at(
     tree.recall_sound();
     let made = tree.number_of(done.node);
     note(quota, kind, number, child, made);
-    Ok(Accepted {
+    Ok(AcceptedCall {
         node: made,
         is_ready: done.ready,
     })
@@ -101,7 +101,7 @@ fn act_within(
     quota: &mut Option<Quota>,
     number: u32,
     action: Action,
-) -> Result<Accepted, Refusal>
+) -> Result<AcceptedCall, Refusal>
     requires { IfSome quota.old (IsQuotaOf book.old.state.tree.nodes) }
     ensures accepted { IfOk result (λ accepted.
         applied_within (limits_of quota.old) book.old.state.tree number (deed_of action)
@@ -134,7 +134,7 @@ pub(crate) fn is_waited_for(book: &Book) -> bool
 
 /// Makes an action on the node of a number within the collection's limits, as one step of it; or
 /// denies it, and then nothing has changed. It takes no memory.
-pub fn act(collection: &mut Collection, number: u32, action: Action) -> Result<Accepted, Denial>
+pub fn act(collection: &mut Collection, number: u32, action: Action) -> Result<AcceptedCall, Denial>
     ensures accepted { IfOk result (λ accepted.
         applied_within collection.old.limits collection.old.book.state.tree number (deed_of action)
         ≡ Ok (record { tree = collection.new.book.state.tree; node = accepted.node })) }

@@ -12,7 +12,7 @@ mod object;
 mod quota;
 mod snapshot;
 
-pub use acting::{Accepted, Denial, act};
+pub use acting::{AcceptedCall, Denial, act};
 pub use checking::{check, selection};
 pub use collection::Collection;
 pub use deciding::{decide, enter, freeze, give_up};

@@ -14,7 +14,7 @@ use std::alloc::{AllocError, Global};
 /// An explanation's text, and whether it tells of a call that was refused or of a domain that isn't
 /// chosen.
 #[derive(Drop)]
-struct Explained {
+struct ExplanationText {
     is_faulty: bool,
     text: Vec<u8>,
 }
@@ -64,7 +64,7 @@ fn explained_of(
     script: &[u8],
     file: &[u8],
     is_json: bool,
-) -> Result<Explained, AllocError> {
+) -> Result<ExplanationText, AllocError> {
     let file = String::from_utf8_lossy(alloc, file)?;
     let wanted = Outputs {
         text: !is_json,
@@ -74,7 +74,7 @@ fn explained_of(
     let answer = explain(alloc, file.as_str(), script, wanted)?;
     let is_faulty = answer.outcome == Outcome::Faulty;
     match answer.objects.or(answer.text) {
-        Some(text) => Ok(Explained {
+        Some(text) => Ok(ExplanationText {
             is_faulty,
             text: text.into_bytes(),
         }),
@@ -86,13 +86,13 @@ fn explained_of(
 #[tactic(auto, using(crate::proofs::Explanations::says_fault, crate::proofs::Explanations::says_no, crate::proofs::Explanations::says_done))]
 fn answer_of_explanation(
     fault: Option<ScriptFault>,
-    explained: Explained,
+    explained: ExplanationText,
     is_strict: bool,
 ) -> Answer
     ensures { (script : List ℕ) → HasFault script fault
         → ExplanationSays script is_strict result.status result.text.items }
 {
-    let Explained { is_faulty, text } = explained;
+    let ExplanationText { is_faulty, text } = explained;
     match fault {
         Some(_) => Answer {
             status: REFUSED,

@@ -8,7 +8,7 @@ ghost use Rattle.other_outcomes.specs.Moved.{IsMoved, IsPromisedMoved, moving};
 use domain_reasons::add_in_short;
 use explanation_text::{Items, ListBuilder, TextBuilder};
 use script_reading::{Call, ParseFault, read_script};
-use script_replay::Replayed;
+use script_replay::ReplayedCalls;
 use script_story::{Move, Scenario, Story, moves_in, story_of};
 use serde_json::Value;
 use std::alloc::{AllocError, Global};
@@ -61,7 +61,7 @@ fn add_replayed<'a>(
     moves: &[Move],
     value: &'a Value,
     calls: &[Call<'a>],
-    told: &'a Replayed,
+    told: &'a ReplayedCalls,
 ) -> Result<(), AllocError> {
     let then = story_of(items.alloc(), value, calls, told)?;
     add_story(items, scenario, moves, &then)

@@ -6,7 +6,7 @@ use std::fmt::Write;
 /// What the line of a call says: its number, what it does, on which name, the name that it makes,
 /// and the reply.
 #[derive(Clone, Copy)]
-pub(crate) struct Called<'a> {
+pub(crate) struct CallLine<'a> {
     pub number: usize,
     pub act: &'a str,
     pub on: &'a str,
@@ -15,7 +15,7 @@ pub(crate) struct Called<'a> {
 }
 
 /// Puts the object of a call: `{"as":"camera","call":1,"does":"duplicate","ok":true,"on":"root"}`.
-pub(crate) fn put_call(out: &mut String, called: &Called<'_>) -> Result<(), AllocError> {
+pub(crate) fn put_call(out: &mut String, called: &CallLine<'_>) -> Result<(), AllocError> {
     out.push_str("{")?;
     put_made(out, called.made)?;
     let number = called.number;

@@ -8,14 +8,14 @@ ghost use Rattle.script_run.specs.Run.{IsCausedBy, RanWithProof, both_counts};
 use crate::telling::objects_of;
 use byte_transfer::{Counted, Sink, Source, read_up_to_limit, write_fully};
 use script_reading::{LONGEST, parse_script, read_script};
-use script_run::{Ended, RunFault, run_with_proof};
+use script_run::{RunFault, RunOutcome, run_with_proof};
 use serde_json::Value;
 use std::alloc::{AllocError, Global};
 
 /// The objects of a report, the certificate of its decisions, and how the run ended that gave both.
 #[derive(Drop)]
 struct RunObjects {
-    ended: Ended,
+    ended: RunOutcome,
     objects: String,
     certificate: Vec<u8>,
 }
@@ -23,7 +23,7 @@ struct RunObjects {
 /// How a run ended, and what it wrote.
 #[derive(Drop)]
 struct TextRun {
-    ended: Result<Ended, RunFault>,
+    ended: Result<RunOutcome, RunFault>,
     report: Vec<u8>,
     certificate: Vec<u8>,
 }
@@ -39,7 +39,7 @@ pub fn run_as_json<R: Source, W: Sink>(
     alloc: Global,
     reader: &mut R,
     writer: &mut W,
-) -> Result<Ended, RunFault>
+) -> Result<RunOutcome, RunFault>
     ensures refused { (fault : FaultOfScript) → result ≡ Err (RunFault.Script fault)
         → IfSome (R.remaining reader.old) (λ input. RunsTo input (Err fault)) }
     ensures read_fault { IsCausedBy (result ≡ Err RunFault.Read)
@@ -60,7 +60,7 @@ pub fn run_as_json_with_proof<R: Source, W: Sink, P: Sink>(
     reader: &mut R,
     writer: &mut W,
     proof: &mut P,
-) -> Result<Ended, RunFault>
+) -> Result<RunOutcome, RunFault>
     ensures refused { (fault : FaultOfScript) → result ≡ Err (RunFault.Script fault)
         → IfSome (R.remaining reader.old) (λ input. RunsTo input (Err fault)) }
     ensures read_fault { IsCausedBy (result ≡ Err RunFault.Read)
@@ -110,7 +110,7 @@ fn made_of(alloc: Global, bytes: &[u8]) -> TextRun
 fn told_made(
     alloc: Global,
     bytes: &[u8],
-    ended: Ended,
+    ended: RunOutcome,
     report: Vec<u8>,
     certificate: Vec<u8>,
 ) -> Result<RunObjects, RunFault>

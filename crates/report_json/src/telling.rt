@@ -1,6 +1,6 @@
 //! The objects of a report, line by line.
 
-use crate::call_object::{Called, put_call, reply_in};
+use crate::call_object::{CallLine, put_call, reply_in};
 use crate::domain_object::put_told;
 use crate::names::Names;
 use crate::put::{word_at, words_of};
@@ -61,7 +61,7 @@ impl Telling<'_, '_> {
         self.calls = self.calls.saturating_add(1);
         let words = words_of(*self.out.allocator(), line)?;
         let made = call.act.name_made();
-        let called = Called {
+        let called = CallLine {
             number: self.calls,
             act: word_at(&words, 1),
             on: call.on,

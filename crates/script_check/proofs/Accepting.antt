@@ -23,8 +23,8 @@ use Rattle.script_replay.specs.Report.{Certified, IsReported}
 use Rattle.script_check.specs.declared.checked_file.CheckAnswer.TheVariants as answers
 use Rattle.script_run.specs.declared.fault.RunFault.{RunFault}
 use Rattle.script_run.specs.declared.fault.RunFault.TheVariants as faults
-use Rattle.script_run.specs.declared.running.Ended.{Ended}
-use Rattle.script_run.specs.declared.running.Ended.TheVariants as ended
+use Rattle.script_run.specs.declared.running.RunOutcome.{RunOutcome}
+use Rattle.script_run.specs.declared.running.RunOutcome.TheVariants as ended
 use Rattle.script_check.proofs.Reported.{each_claimed, input_reports}
 
 -- ---- the objects of a certificate make the claims of its decisions
@@ -70,7 +70,7 @@ list_of platform certificate cs is short back = record {
 module _ (one : OneCheck) (alone : FaultIsAlone) (input certificate : List ℕ) (many : ℕ) (checks : ChecksTo input certificate answers.Yes (answer_text answers.Yes many))
     (report : ReportFacts) (runs : RunsTo input (Ok report)) where
   -- no check ends but in yes
-  ends_in_yes : (result : Result Ended RunFault) (before after : Option (List ℕ)) → HasChecked result (Some input) (Some certificate) before after → EndsInYes many before after result
+  ends_in_yes : (result : Result RunOutcome RunFault) (before after : Option (List ℕ)) → HasChecked result (Some input) (Some certificate) before after → EndsInYes many before after result
   ends_in_yes (Ok ended.Done) before after h =
       let w = h.yes refl in
       subst (λ text. Appends before after text) (one input certificate answers.Yes answers.Yes w.text (answer_text answers.Yes many) w.report checks).1 w.written

@@ -24,8 +24,8 @@ use Rattle.script_run.specs.declared.fault.Disagreement.{Disagreement}
 use Rattle.script_run.specs.declared.fault.RunFault.{RunFault}
 use Rattle.script_run.specs.declared.fault.RunFault.TheVariants.{Audit, NoMemory, Proof, Script, Write}
 use Rattle.script_run.specs.declared.fault.RunFault.TheVariants as faults
-use Rattle.script_run.specs.declared.running.Ended.{Ended}
-use Rattle.script_run.specs.declared.running.Ended.TheVariants.{CheckedNo, Done}
+use Rattle.script_run.specs.declared.running.RunOutcome.{RunOutcome}
+use Rattle.script_run.specs.declared.running.RunOutcome.TheVariants.{CheckedNo, Done}
 use Rattle.script_check.specs.CheckedFile.{AnswersIn, ChecksTo, HasChecked, IfBoth, IsListOf, IsNoList, IsRefusal, IsUnchecked, ProofIsRefused, IsScriptOf, IsValueOf}
 use Rattle.script_run.specs.Faults.{fault_of_parse}
 use Rattle.script_replay.specs.Outcome.{RunsTo, anyhow, refused}
@@ -160,19 +160,19 @@ check-early fault had proof hold other another audited of = record {
   unwritten = λ found is not. Appends-nothing hold;
 }
 
-script-refused : (result : Result Ended RunFault) (fault : ScriptFault) (had left proof hold : Option (List ℕ)) (bytes : List ℕ) → result ≡ Err (Script fault) → ReadsToLimit longest had left bytes
+script-refused : (result : Result RunOutcome RunFault) (fault : ScriptFault) (had left proof hold : Option (List ℕ)) (bytes : List ℕ) → result ≡ Err (Script fault) → ReadsToLimit longest had left bytes
     → RunsTo bytes (Err fault) → HasChecked result had proof hold hold
 script-refused result fault had left proof hold bytes e read runs = rw e (check-early (Script fault) had proof hold (λ is. absurd (cc)) (λ is. absurd (cc)) (λ found is. absurd (cc))
     (λ found is. let same : fault ≡ found = cc in runs-input anyhow had left bytes (Err found) read (subst (λ f. RunsTo bytes (Err f)) same runs)))
 
 -- one whose script is no JSON, or whose memory ended
-pub check-unspelled : (result : Result Ended RunFault) (fault : ParseFault) (had left proof hold : Option (List ℕ)) (bytes : List ℕ) → result ≡ Err (fault_of_parse fault) → ReadsToLimit longest had left bytes
+pub check-unspelled : (result : Result RunOutcome RunFault) (fault : ParseFault) (had left proof hold : Option (List ℕ)) (bytes : List ℕ) → result ≡ Err (fault_of_parse fault) → ReadsToLimit longest had left bytes
     → GivesOneOf {X = Value} {A = Data} view (Err fault) (Outcome IsValue bytes) → HasChecked result had proof hold hold
 check-unspelled result parsing.NoMemory had left proof hold bytes e read said = rw e (check-early NoMemory had proof hold (λ is. absurd (cc)) (λ is. absurd (cc)) (λ found is. absurd (cc)) (λ found is. absurd (cc)))
 check-unspelled result (parsing.Refused fault) had left proof hold bytes e read said = script-refused result fault had left proof hold bytes e read (fault_of bytes (Err fault) fault refl said)
 
 -- one whose script has a fault, or whose memory ended
-pub check-no-script : (result : Result Ended RunFault) (fault : ParseFault) (had left proof hold : Option (List ℕ)) (bytes : List ℕ) (d : Data) → result ≡ Err (fault_of_parse fault)
+pub check-no-script : (result : Result RunOutcome RunFault) (fault : ParseFault) (had left proof hold : Option (List ℕ)) (bytes : List ℕ) (d : Data) → result ≡ Err (fault_of_parse fault)
     → ReadsToLimit longest had left bytes → Outcome IsValue bytes (Ok d) → Gives {X = Read} {A = ScriptFacts} script_seen (Err fault) (script_of d) → HasChecked result had proof hold hold
 check-no-script result parsing.NoMemory had left proof hold bytes d e read spells said = rw e (check-early NoMemory had proof hold (λ is. absurd (cc)) (λ is. absurd (cc)) (λ found is. absurd (cc)) (λ found is. absurd (cc)))
 check-no-script result (parsing.Refused fault) had left proof hold bytes d e read spells said =
@@ -184,7 +184,7 @@ module _ (had left proof proof_left : Option (List ℕ)) (bytes certificate : Li
   reads = of_script had left bytes read script (record { value = d; spells = spells_value bytes d spells; says = says })
 
   -- one whose certificate is refused, or whose memory ended
-  pub check-refused : (result : Result Ended RunFault) (fault : RunFault) (hold : Option (List ℕ)) → result ≡ Err fault → IsRefusal certificate fault → HasChecked result had proof hold hold
+  pub check-refused : (result : Result RunOutcome RunFault) (fault : RunFault) (hold : Option (List ℕ)) → result ≡ Err fault → IsRefusal certificate fault → HasChecked result had proof hold hold
   check-refused result NoMemory hold e why = rw e (check-early NoMemory had proof hold (λ is. absurd (cc)) (λ is. absurd (cc)) (λ found is. absurd (cc)) (λ found is. absurd (cc)))
   check-refused result Proof hold e why = rw e (record {
     yes = λ is. absurd (cc);
@@ -207,7 +207,7 @@ module _ (had left proof proof_left : Option (List ℕ)) (bytes certificate : Li
     answered = of_answer proof proof_left certificate proof_read script answer text holds
 
     -- one whose writer failed
-    pub check-part : (result : Result Ended RunFault) → result ≡ Err Write → WritesFront before after text → HasChecked result had proof before after
+    pub check-part : (result : Result RunOutcome RunFault) → result ≡ Err Write → WritesFront before after text → HasChecked result had proof before after
     check-part result e front = rw e (record {
       yes = λ is. absurd (cc);
       no = λ is. absurd (cc);

@@ -23,8 +23,8 @@ use Rattle.script_run.specs.declared.fault.Disagreement.{Disagreement}
 use Rattle.script_run.specs.declared.fault.RunFault.{RunFault}
 use Rattle.script_run.specs.declared.fault.RunFault.TheVariants.{NoMemory, Read, Write}
 use Rattle.script_run.specs.declared.fault.RunFault.TheVariants.{Script, Proof, Audit}
-use Rattle.script_run.specs.declared.running.Ended.{Ended}
-use Rattle.script_run.specs.declared.running.Ended.TheVariants.{Done, MemoryRefused, CheckedNo}
+use Rattle.script_run.specs.declared.running.RunOutcome.{RunOutcome}
+use Rattle.script_run.specs.declared.running.RunOutcome.TheVariants.{Done, MemoryRefused, CheckedNo}
 
 -- the name of a test that fails
 abbrev pub no_text : No → List ℕ
@@ -104,7 +104,7 @@ IfBoth had proof P = IfSome had (λ input. IfSome proof (λ certificate. P input
 
 -- what the readers of the script and of the certificate had, where they tell it, and what the
 -- writer held before and after, where it tells that
-pub record HasChecked (result : Result Ended RunFault)
+pub record HasChecked (result : Result RunOutcome RunFault)
     (had proof before after : Option (List ℕ)) : Type 0 where
   pub yes : result ≡ Ok Done → IfBoth had proof (λ input certificate.
       WritesText (ChecksTo input certificate answers.Yes) before after)
@@ -121,7 +121,7 @@ pub record HasChecked (result : Result Ended RunFault)
   pub unwritten : (fault : RunFault) → result ≡ Err fault → fault ≢ Write → Appends before after []
 
 -- a fault of a script
-abbrev pub IsScriptFault : Result Ended RunFault → Type 0
+abbrev pub IsScriptFault : Result RunOutcome RunFault → Type 0
 IsScriptFault (Err (Script fault)) = ⊤
 IsScriptFault _ = ⊥
 
@@ -134,7 +134,7 @@ IsOutside fault = ⊥
 
 -- how a check ends of bytes whose answer is yes, of so many objects: that was written, or a
 -- reader, the writer or memory failed
-abbrev pub EndsInYes : ℕ → Option (List ℕ) → Option (List ℕ) → Result Ended RunFault → Type 0
+abbrev pub EndsInYes : ℕ → Option (List ℕ) → Option (List ℕ) → Result RunOutcome RunFault → Type 0
 EndsInYes many before after (Ok Done) = Appends before after (answer_text answers.Yes many)
 EndsInYes many before after (Ok ended) = ⊥
 EndsInYes many before after (Err fault) = IsOutside fault

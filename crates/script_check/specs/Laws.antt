@@ -17,7 +17,7 @@ use Rattle.script_run.specs.Certificate.{IsCertifiedBy, certificate_of, data_of}
 use Rattle.script_check.specs.declared.checked_file.CheckAnswer.{CheckAnswer}
 use Rattle.script_check.specs.declared.checked_file.CheckAnswer.TheVariants as answers
 use Rattle.script_run.specs.declared.fault.RunFault.{RunFault}
-use Rattle.script_run.specs.declared.running.Ended.{Ended}
+use Rattle.script_run.specs.declared.running.RunOutcome.{RunOutcome}
 use Rattle.script_check.specs.CheckedFile.{ChecksTo, EndsInYes, HasChecked, IsScriptOf, answer_text}
 use Rattle.script_replay.specs.Outcome.{ReportFacts, RunsTo}
 use Rattle.script_replay.specs.Report.{Certified, IsReport, IsReported}
@@ -93,7 +93,7 @@ pub record IsAccepted (input : List ℕ) (c : CertifiedFacts) : Type 0 where
       c.text false
   pub checks : ChecksTo input c.certificate answers.Yes
       (answer_text answers.Yes (length report.decisions))
-  pub ends : (result : Result Ended RunFault) (before after : Option (List ℕ))
+  pub ends : (result : Result RunOutcome RunFault) (before after : Option (List ℕ))
       → HasChecked result (Some input) (Some c.certificate) before after
       → EndsInYes (length report.decisions) before after result
 

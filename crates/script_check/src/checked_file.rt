@@ -14,7 +14,7 @@ use crate::checking::Checking;
 use byte_transfer::{Sink, Source, read_up_to_limit, write_fully};
 use script_reading::{LONGEST, ParseFault, Script, parse_script, read_script};
 use script_replay::{Objection, Stop, put_path, report_of};
-use script_run::{Ended, RunFault};
+use script_run::{RunFault, RunOutcome};
 use serde_json::Value;
 use std::alloc::{AllocError, Global};
 use std::fmt::Write;
@@ -50,7 +50,7 @@ pub fn check_file<R: Source, Q: Source, W: Sink>(
     reader: &mut R,
     proof: &mut Q,
     writer: &mut W,
-) -> Result<Ended, RunFault>
+) -> Result<RunOutcome, RunFault>
     ensures checked { HasChecked result (R.remaining reader.old) (Q.remaining proof.old)
         (W.contents writer.old) (W.contents writer.new) }
     ensures read_fault { IsCausedBy (result ≡ Err RunFault.Read)
@@ -68,8 +68,8 @@ pub fn check_file<R: Source, Q: Source, W: Sink>(
     let answered = answer_to(alloc, &script, &certificate)?;
     write_fully(writer, answered.text.as_bytes())?;
     match answered.answer {
-        CheckAnswer::Yes => Ok(Ended::Done),
-        CheckAnswer::No(_) => Ok(Ended::CheckedNo),
+        CheckAnswer::Yes => Ok(RunOutcome::Done),
+        CheckAnswer::No(_) => Ok(RunOutcome::CheckedNo),
     }
 }
 

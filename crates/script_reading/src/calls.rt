@@ -8,7 +8,7 @@ ghost use Rattle.script_reading.specs.Seen.{call_seen};
 
 use crate::call::Call;
 use crate::fault::ParseFault;
-use crate::known::Known;
+use crate::known::KnownNames;
 use serde_json::Value;
 use std::alloc::Global;
 
@@ -17,14 +17,14 @@ use std::alloc::Global;
 pub fn read_calls<'a>(alloc: Global, values: &'a [Value]) -> Result<Vec<Call<'a>>, ParseFault>
     ensures { Gives (λ calls. map call_seen calls.items) result (calls_of (items_view values.now)) }
 {
-    let mut known = Known::new(alloc)?;
+    let mut known = KnownNames::new(alloc)?;
     read_with(alloc, &mut known, values)
 }
 
 /// The same, where this is known before the first call.
 fn read_with<'a>(
     alloc: Global,
-    known: &mut Known<'a>,
+    known: &mut KnownNames<'a>,
     values: &'a [Value],
 ) -> Result<Vec<Call<'a>>, ParseFault>
     ensures { Gives (λ calls. map call_seen calls.items) result

@@ -18,7 +18,7 @@ const MOST_ACTORS: usize = 16;
 
 /// The names that the calls so far made, in order, and the actors that made the calls.
 #[derive(Drop)]
-pub(crate) struct Known<'a> {
+pub(crate) struct KnownNames<'a> {
     names: IndexSet<&'a str>,
     actors: IndexSet<&'a str>,
 }
@@ -89,16 +89,16 @@ fn join<'a>(actors: &mut IndexSet<&'a str>, actor: &'a str) -> Result<bool, Allo
     Ok(actors.len() <= MOST_ACTORS)
 }
 
-impl<'a> Known<'a> {
+impl<'a> KnownNames<'a> {
     /// The root's name, and no actor.
-    pub(crate) fn new(alloc: Global) -> Result<Known<'a>, ParseFault>
+    pub(crate) fn new(alloc: Global) -> Result<KnownNames<'a>, ParseFault>
         ensures known { IfOk result (λ known. known_seen known ≡ nothing_known) }
         ensures memory { IfErr result (λ fault. fault ≡ ParseFault.NoMemory) }
     {
         let mut names = IndexSet::new(alloc);
         names.insert(ROOT)?;
         let actors = IndexSet::new(alloc);
-        Ok(Known { names, actors })
+        Ok(KnownNames { names, actors })
     }
 
     /// Reads the call of this number, from 1. After a fault nothing is known any more.

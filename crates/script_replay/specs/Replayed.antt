@@ -2,13 +2,13 @@
 use Rattle.std.specs.Prelude.{◌≡◌, ℕ, List}
 use Rattle.negotiation_inputs.specs.Platform.{PlatformFacts}
 use Rattle.script_reading.specs.Script.{CallFacts}
-use Rattle.script_replay.specs.declared.replayed.Replayed.{Replayed}
+use Rattle.script_replay.specs.declared.replayed.ReplayedCalls.{ReplayedCalls}
 use Rattle.script_replay.specs.Report.{Certified, IsReport}
 use Rattle.script_replay.specs.Runner.{state_of}
 use Rattle.script_replay.specs.State.{RunState}
 
 -- how the last call and the decisions after it left the collection
-abbrev pub end_of : Replayed → RunState
+abbrev pub end_of : ReplayedCalls → RunState
 end_of replayed = state_of replayed.runner
 
 -- a text is the report of calls on a new collection, which they and

@@ -23,7 +23,7 @@ mod telling;
 pub use decider::{Decider, Objection, Stop};
 pub use deciding::{claim_for, proved_claim_for};
 pub use domain_line::{put_chosen, put_path, put_word};
-pub use replayed::{Replayed, replay};
+pub use replayed::{ReplayedCalls, replay};
 pub use replaying::replies_of;
 pub use reply::Reply;
 pub use report::{Report, report_of};

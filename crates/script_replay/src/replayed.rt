@@ -19,16 +19,16 @@ use sysmem_alloc::Book;
 
 /// A collection on which calls were made, and their report.
 #[derive(Debug)]
-pub struct Replayed {
+pub struct ReplayedCalls {
     pub report: Report,
     /// How many prefixes its searches visited, at most `u64::MAX`.
     pub visits: u64,
     runner: Runner,
 }
 
-impl Drop for Replayed {
+impl Drop for ReplayedCalls {
     fn drop(self) {
-        let Replayed {
+        let ReplayedCalls {
             report: _,
             visits: _,
             runner: _,
@@ -36,7 +36,7 @@ impl Drop for Replayed {
     }
 }
 
-impl Replayed {
+impl ReplayedCalls {
     /// The book of the collection, as the last call left it.
     pub fn book(&self) -> &Book
         ensures platform { result.now.platform ≡ (end_of self.now).platform }
@@ -58,7 +58,7 @@ impl Replayed {
     pub(crate) fn into_report(self) -> Report
         ensures { result ≡ self.report }
     {
-        let Replayed {
+        let ReplayedCalls {
             report,
             visits: _visits,
             runner: _runner,
@@ -69,7 +69,11 @@ impl Replayed {
 
 /// Makes the calls on a platform, as `run` does, and keeps the collection beside their report.
 /// `AllocError` where memory is refused outside of a reply or a decision.
-pub fn replay(alloc: Global, platform: Platform, calls: &[Call<'_>]) -> Result<Replayed, AllocError>
+pub fn replay(
+    alloc: Global,
+    platform: Platform,
+    calls: &[Call<'_>],
+) -> Result<ReplayedCalls, AllocError>
     ensures report { IfOk result (λ replayed. IsReported platform (map call_seen calls.now)
         (anyhow platform) (string_bytes replayed.report.text) replayed.report.starved) }
     ensures leaves { IfOk result (λ replayed. LeavesIn platform (map call_seen calls.now)
@@ -93,7 +97,7 @@ pub(crate) fn replayed_of<D: Decider>(
     platform: Platform,
     calls: &[Call<'_>],
     decider: &mut D,
-) -> Result<Replayed, Stop>
+) -> Result<ReplayedCalls, Stop>
     requires { D.gave decider.old platform [] }
     ensures report { IfOk result (λ replayed. IsReported platform (map call_seen calls.now)
         (D.gave decider.new platform) (string_bytes replayed.report.text) replayed.report.starved) }
@@ -116,7 +120,7 @@ pub(crate) fn replayed_of<D: Decider>(
         text,
         starved: runner.is_starved(),
     };
-    Ok(Replayed {
+    Ok(ReplayedCalls {
         report,
         visits: 0,
         runner,

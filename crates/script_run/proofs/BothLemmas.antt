@@ -6,8 +6,8 @@ use Rattle.byte_transfer.specs.Transfer.{ReadsToLimit}
 use Rattle.script_reading.specs.Text.{longest}
 use Rattle.script_run.specs.declared.fault.RunFault.{RunFault}
 use Rattle.script_run.specs.declared.fault.RunFault.TheVariants.{Write}
-use Rattle.script_run.specs.declared.running.Ended.{Ended}
-use Rattle.script_run.specs.declared.running.Ended.TheVariants.{Done, MemoryRefused}
+use Rattle.script_run.specs.declared.running.RunOutcome.{RunOutcome}
+use Rattle.script_run.specs.declared.running.RunOutcome.TheVariants.{Done, MemoryRefused}
 use Rattle.script_run.specs.Certificate.{CertifiedFacts, CertifiesTo, IsCertifiedBy}
 use Rattle.script_run.specs.Run.{GivesProvedReport, RanWithProof, WritesFronts}
 use Rattle.script_run.proofs.CallerLemmas.{runs-input}
@@ -22,7 +22,7 @@ module _ (old new before after proof_before proof_after : Option (List ℕ)) (by
   given_as starved e = rw (← e) certified
 
   -- a writer failed
-  pub both-part : (result : Result Ended RunFault) → result ≡ Err Write → WritesFronts before after proof_before proof_after c.text c.certificate
+  pub both-part : (result : Result RunOutcome RunFault) → result ≡ Err Write → WritesFronts before after proof_before proof_after c.text c.certificate
       → RanWithProof result old before after proof_before proof_after
   both-part result e fronts = in-part GivesProvedReport old before after proof_before proof_after c.text c.certificate c.starved result (given_as c.starved refl) e fronts
 

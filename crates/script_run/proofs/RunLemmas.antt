@@ -14,8 +14,8 @@ use Rattle.script_run.proofs.CallerLemmas.{Appends-nothing, runs-input}
 use Rattle.script_run.specs.declared.fault.Disagreement.{Disagreement}
 use Rattle.script_run.specs.declared.fault.RunFault.{RunFault}
 use Rattle.script_run.specs.declared.fault.RunFault.TheVariants.{Read, Write, NoMemory, Script, Proof, Audit}
-use Rattle.script_run.specs.declared.running.Ended.{Ended}
-use Rattle.script_run.specs.declared.running.Ended.TheVariants.{Done, MemoryRefused}
+use Rattle.script_run.specs.declared.running.RunOutcome.{RunOutcome}
+use Rattle.script_run.specs.declared.running.RunOutcome.TheVariants.{Done, MemoryRefused}
 use Rattle.script_run.specs.Faults.{fault_of_parse, fault_of_read}
 use Rattle.script_replay.specs.Outcome.{ReportFacts, RunsTo, anyhow}
 use Rattle.script_run.specs.Run.{GivesReport, GivesTexts, Ran, RanFor, Writes, WritesFronts, WritesPart, in_first}
@@ -39,13 +39,13 @@ module _ (gives : GivesTexts) (had hold proof_hold : Option (List ℕ)) where
   }
 
   -- one whose reader failed, or whose memory ended as it read
-  pub unread : (result : Result Ended RunFault) (fault : ReadFault) → result ≡ Err (fault_of_read fault)
+  pub unread : (result : Result RunOutcome RunFault) (fault : ReadFault) → result ≡ Err (fault_of_read fault)
       → RanFor gives result had hold hold proof_hold proof_hold
   unread result reading.Failed e = rw e (early Read (λ is. absurd (cc)) (λ is. absurd (cc)) (λ found is. absurd (cc)) (λ found is. absurd (cc)))
   unread result reading.NoMemory e = rw e (early NoMemory (λ is. absurd (cc)) (λ is. absurd (cc)) (λ found is. absurd (cc)) (λ found is. absurd (cc)))
 
   -- one whose script was refused, or whose memory ended
-  pub refused : {X A : Type 0} (seen : X → A) (P : Result A ScriptFault → Type 0) (result : Result Ended RunFault) (fault : ParseFault) (new : Option (List ℕ)) (bytes : List ℕ)
+  pub refused : {X A : Type 0} (seen : X → A) (P : Result A ScriptFault → Type 0) (result : Result RunOutcome RunFault) (fault : ParseFault) (new : Option (List ℕ)) (bytes : List ℕ)
       → ((found : ScriptFault) → P (Err found) → RunsTo bytes (Err found)) → result ≡ Err (fault_of_parse fault) → ReadsToLimit longest had new bytes
       → GivesOneOf {X = X} {A = A} seen (Err fault) P → RanFor gives result had hold hold proof_hold proof_hold
   refused seen P result parsing.NoMemory new bytes of e read said = rw e (early NoMemory (λ is. absurd (cc)) (λ is. absurd (cc)) (λ found is. absurd (cc)) (λ found is. absurd (cc)))
@@ -66,7 +66,7 @@ module _ (gives : GivesTexts) (had before after proof_before proof_after : Optio
   front-of (Some input) starved fronts given = record { text = text; certificate = certificate; report = (starved, given); fronts = fronts }
 
   -- one of which a writer failed
-  pub in-part : (starved : Bool) (result : Result Ended RunFault) → IfSome had (λ input. gives input starved text certificate) → result ≡ Err Write
+  pub in-part : (starved : Bool) (result : Result RunOutcome RunFault) → IfSome had (λ input. gives input starved text certificate) → result ≡ Err Write
       → WritesFronts before after proof_before proof_after text certificate → RanFor gives result had before after proof_before proof_after
   in-part starved result given e fronts = rw e (record {
     done = λ is. absurd (cc);
@@ -118,7 +118,7 @@ module _ (old new before after : Option (List ℕ)) (bytes : List ℕ) (report :
   given_as starved e = rw (← e) reported
 
   -- its writer failed
-  pub ran-part : (result : Result Ended RunFault) → result ≡ Err Write → WritesFront before after report.text → Ran result old before after
+  pub ran-part : (result : Result RunOutcome RunFault) → result ≡ Err Write → WritesFront before after report.text → Ran result old before after
   ran-part result e front = in-part GivesReport old before after None None report.text [] report.starved result (given_as report.starved refl) e (in_first front tt)
 
   -- it wrote a report in which memory was refused

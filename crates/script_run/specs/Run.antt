@@ -7,8 +7,8 @@ use Rattle.script_reading.specs.declared.fault.ScriptFault.{ScriptFault}
 use Rattle.script_run.specs.declared.fault.RunFault.{RunFault}
 use Rattle.script_run.specs.declared.fault.Disagreement.{Disagreement}
 use Rattle.script_run.specs.declared.fault.RunFault.TheVariants.{Write, Script, Proof, Audit}
-use Rattle.script_run.specs.declared.running.Ended.{Ended}
-use Rattle.script_run.specs.declared.running.Ended.TheVariants.{Done, MemoryRefused, CheckedNo}
+use Rattle.script_run.specs.declared.running.RunOutcome.{RunOutcome}
+use Rattle.script_run.specs.declared.running.RunOutcome.TheVariants.{Done, MemoryRefused, CheckedNo}
 use Rattle.script_run.specs.Certificate.{CertifiesTo}
 use Rattle.script_replay.specs.Outcome.{RunsTo}
 
@@ -55,7 +55,7 @@ GivesTexts = List ℕ → Bool → List ℕ → List ℕ → Type 0
 
 -- a run that writes such texts: what the reader had, where it tells it, and what each writer held
 -- before and after, where it tells that
-pub record RanFor (gives : GivesTexts) (result : Result Ended RunFault)
+pub record RanFor (gives : GivesTexts) (result : Result RunOutcome RunFault)
     (had before after proof_before proof_after : Option (List ℕ)) : Type 0 where
   pub done : result ≡ Ok Done
       → IfSome had (λ input. Writes (gives input false) before after proof_before proof_after)
@@ -82,12 +82,12 @@ GivesProvedReport input starved text certificate =
     CertifiesTo input (Ok (record { text = text; certificate = certificate; starved = starved }))
 
 -- a run that writes its report
-abbrev pub Ran : Result Ended RunFault → Option (List ℕ) → Option (List ℕ) → Option (List ℕ)
+abbrev pub Ran : Result RunOutcome RunFault → Option (List ℕ) → Option (List ℕ) → Option (List ℕ)
     → Type 0
 Ran result had before after = RanFor GivesReport result had before after None None
 
 -- a run that writes its report, and then a certificate
-abbrev pub RanWithProof : Result Ended RunFault
+abbrev pub RanWithProof : Result RunOutcome RunFault
     → (had before after proof_before proof_after : Option (List ℕ)) → Type 0
 RanWithProof result had before after proof_before proof_after =
     RanFor GivesProvedReport result had before after proof_before proof_after

@@ -3,7 +3,7 @@ ghost use Rattle.std.specs.Prelude.{◌≡◌, Err, Some};
 ghost use Rattle.script_run.specs.Endings.{fault_said, run_code};
 
 use crate::fault::RunFault;
-use crate::running::Ended;
+use crate::running::RunOutcome;
 
 /// An exit status, and the fault whose text goes to standard error.
 #[derive(Clone, Copy, Debug, PartialEq, Eq)]
@@ -15,17 +15,17 @@ pub struct Ending {
 /// The ending of a run: 0 where it is done, 1 for a read or write fault, 3 for a script that is
 /// refused, or a certificate that can't be read, 4 for want of memory, 5 where an audit says no,
 /// and 6 for a certificate that is wrong.
-pub fn ending_of(outcome: Result<Ended, RunFault>) -> Ending
+pub fn ending_of(outcome: Result<RunOutcome, RunFault>) -> Ending
     ensures status { result.status ≡ run_code outcome }
     ensures fault { result.fault ≡ fault_said outcome }
 {
     match outcome {
-        Ok(Ended::Done) => Ending {
+        Ok(RunOutcome::Done) => Ending {
             status: 0,
             fault: None,
         },
-        Ok(Ended::MemoryRefused) => fault_ending(RunFault::NoMemory),
-        Ok(Ended::CheckedNo) => Ending {
+        Ok(RunOutcome::MemoryRefused) => fault_ending(RunFault::NoMemory),
+        Ok(RunOutcome::CheckedNo) => Ending {
             status: 6,
             fault: None,
         },

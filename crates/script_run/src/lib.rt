@@ -15,5 +15,6 @@ mod running;
 pub use ending::{Ending, ending_of};
 pub use fault::{Disagreement, RunFault};
 pub use running::{
-    CertifiedReport, Ended, certified_of_bytes, report_of_bytes, run, run_leaving, run_with_proof,
+    CertifiedReport, RunOutcome, certified_of_bytes, report_of_bytes, run, run_leaving,
+    run_with_proof,
 };

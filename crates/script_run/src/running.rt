@@ -25,7 +25,7 @@ use std::alloc::Global;
 
 /// How a run ends that wrote its whole report.
 #[derive(Clone, Copy, Debug, PartialEq, Eq)]
-pub enum Ended {
+pub enum RunOutcome {
     /// The report is written.
     Done,
     /// The report is written, and says that memory was refused.
@@ -43,7 +43,7 @@ pub fn run<R: Source, W: Sink>(
     alloc: Global,
     reader: &mut R,
     writer: &mut W,
-) -> Result<Ended, RunFault>
+) -> Result<RunOutcome, RunFault>
     ensures ran { Ran result
         (R.remaining reader.old) (W.contents writer.old) (W.contents writer.new) }
     ensures read_fault { IsCausedBy (result ≡ Err RunFault.Read)
@@ -62,7 +62,7 @@ pub fn run_leaving<R: Source, W: Sink>(
     reader: &mut R,
     writer: &mut W,
     left: &mut Option<Value>,
-) -> Result<Ended, RunFault>
+) -> Result<RunOutcome, RunFault>
     ensures ran { Ran result
         (R.remaining reader.old) (W.contents writer.old) (W.contents writer.new) }
     ensures read_fault { IsCausedBy (result ≡ Err RunFault.Read)
@@ -74,9 +74,9 @@ pub fn run_leaving<R: Source, W: Sink>(
     let report = report_leaving(alloc, bytes, &mut Searching::new(), left)?;
     write_fully(writer, report.text.as_bytes())?;
     if report.starved {
-        return Ok(Ended::MemoryRefused);
+        return Ok(RunOutcome::MemoryRefused);
     }
-    Ok(Ended::Done)
+    Ok(RunOutcome::Done)
 }
 
 /// Reads a script, makes its calls, and writes their report, and then the certificate of its
@@ -91,7 +91,7 @@ pub fn run_with_proof<R: Source, W: Sink, P: Sink>(
     reader: &mut R,
     writer: &mut W,
     proof: &mut P,
-) -> Result<Ended, RunFault>
+) -> Result<RunOutcome, RunFault>
     ensures ran { RanWithProof result (R.remaining reader.old)
         (W.contents writer.old) (W.contents writer.new)
         (P.contents proof.old) (P.contents proof.new) }
@@ -109,9 +109,9 @@ pub fn run_with_proof<R: Source, W: Sink, P: Sink>(
     } = certified;
     write_both(writer, report.text.as_bytes(), proof, certificate)?;
     if report.starved {
-        return Ok(Ended::MemoryRefused);
+        return Ok(RunOutcome::MemoryRefused);
     }
-    Ok(Ended::Done)
+    Ok(RunOutcome::Done)
 }
 
 /// A report, and the certificate of its decisions.

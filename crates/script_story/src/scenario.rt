@@ -13,7 +13,7 @@ use crate::effort::Effort;
 use crate::words::said_on;
 use negotiation_inputs::Platform;
 use script_reading::Call;
-use script_replay::{Replayed, replay};
+use script_replay::{ReplayedCalls, replay};
 use std::alloc::{AllocError, Global};
 
 /// A script's platform and its calls, with what its runs cost so far.
@@ -26,7 +26,7 @@ pub struct Scenario<'a> {
 
 impl<'a> Scenario<'a> {
     /// What these calls do on the platform: the report of a script with them, and its collection.
-    pub fn tell(&self, alloc: Global, calls: &[Call<'_>]) -> Result<Replayed, AllocError>
+    pub fn tell(&self, alloc: Global, calls: &[Call<'_>]) -> Result<ReplayedCalls, AllocError>
         ensures report { IfOk result (λ told. IsReported self.now.platform.now
             (map call_seen calls.now) (anyhow self.now.platform.now)
             (string_bytes told.report.text) told.report.starved) }

@@ -13,7 +13,7 @@ use certificate_text::push_path;
 use explanation_text::ListBuilder;
 use script_faults::actor_of;
 use script_reading::Call;
-use script_replay::Replayed;
+use script_replay::ReplayedCalls;
 use serde_json::Value;
 use std::alloc::{AllocError, Global};
 use sysmem_alloc::Book;
@@ -26,7 +26,7 @@ pub fn story_of<'a>(
     alloc: Global,
     value: &'a Value,
     calls: &[Call<'a>],
-    told: &'a Replayed,
+    told: &'a ReplayedCalls,
 ) -> Result<Story<'a>, AllocError>
     ensures { IfOk result (AreTold (lines (string_bytes told.now.report.text))) }
 {
@@ -49,7 +49,7 @@ fn calls_of<'a>(
     alloc: Global,
     value: &'a Value,
     calls: &[Call<'a>],
-    told: &'a Replayed,
+    told: &'a ReplayedCalls,
 ) -> Result<Vec<MadeCall<'a>>, AllocError> {
     let mut made = Vec::new(alloc);
     let values = match value.get("calls") {
@@ -125,7 +125,7 @@ fn index_of(tree: &Tree, domain: DomainId) -> usize {
 }
 
 /// Gives each node the name that the script has for it.
-fn name_nodes<'a>(nodes: &mut [Node<'a>], calls: &[Call<'a>], told: &Replayed) {
+fn name_nodes<'a>(nodes: &mut [Node<'a>], calls: &[Call<'a>], told: &ReplayedCalls) {
     if let Some(root) = nodes.first_mut() {
         root.name = "root";
     }

@@ -13,8 +13,8 @@ use Rattle.script_run.specs.declared.fault.Disagreement.TheVariants.{Handles, Ca
 use Rattle.script_run.specs.declared.fault.RunFault.{RunFault}
 use Rattle.script_run.specs.declared.fault.RunFault.TheVariants.{Read, Write, NoMemory, Script, Proof}
 use Rattle.script_run.specs.declared.fault.RunFault.TheVariants as faults
-use Rattle.script_run.specs.declared.running.Ended.{Ended}
-use Rattle.script_run.specs.declared.running.Ended.TheVariants.{Done, MemoryRefused, CheckedNo}
+use Rattle.script_run.specs.declared.running.RunOutcome.{RunOutcome}
+use Rattle.script_run.specs.declared.running.RunOutcome.TheVariants.{Done, MemoryRefused, CheckedNo}
 use Rattle.script_run.specs.Faults.{fault_of_read}
 use Rattle.script_run.proofs.CallerLemmas.{Appends-nothing}
 use Rattle.sysmem_participants.specs.declared.faults.AuditFault.TheVariants as audits
@@ -47,7 +47,7 @@ module _ (had hold : Option (List ℕ)) where
   outside fault other read refused audited = early fault other read (λ found is. absurd (refused found is)) (λ found is. absurd (audited found is))
 
   -- a run whose reader failed, or whose memory ended as it read
-  pub played-unread : (result : Result Ended RunFault) (fault : ReadFault) → result ≡ Err (fault_of_read fault) → Played result had hold hold
+  pub played-unread : (result : Result RunOutcome RunFault) (fault : ReadFault) → result ≡ Err (fault_of_read fault) → Played result had hold hold
   played-unread result reading.Failed e = rw e (outside Read (λ is. absurd (cc)) (λ is. absurd (cc)) (λ found is. absurd (cc)) (λ found is. absurd (cc)))
   played-unread result reading.NoMemory e = rw e (outside NoMemory (λ is. absurd (cc)) (λ is. absurd (cc)) (λ found is. absurd (cc)) (λ found is. absurd (cc)))
 
@@ -56,7 +56,7 @@ module _ (had hold : Option (List ℕ)) where
     disagrees found is = early (faults.Audit found) (λ is. absurd (cc)) (λ is. absurd (cc)) (λ other is. absurd (cc)) (λ other same. playable-input had left bytes read is)
 
     -- a run whose script wasn't played to its end
-    pub played-refused : (result : Result Ended RunFault) (fault : PlayFault) → result ≡ Err (fault_of_play fault) → TellsOf {X = PlayReport} bytes (Err fault) → Played result had hold hold
+    pub played-refused : (result : Result RunOutcome RunFault) (fault : PlayFault) → result ≡ Err (fault_of_play fault) → TellsOf {X = PlayReport} bytes (Err fault) → Played result had hold hold
     played-refused result (plays.Parse parsing.NoMemory) e said = rw e (outside NoMemory (λ is. absurd (cc)) (λ is. absurd (cc)) (λ found is. absurd (cc)) (λ found is. absurd (cc)))
     played-refused result (plays.Parse (parsing.Refused fault)) e said = rw e (early (Script fault) (λ is. absurd (cc)) (λ is. absurd (cc))
         (λ found is. let same : fault ≡ found = (cc) in spells-input had left bytes (Err found) read (rw (← same) said)) (λ found is. absurd (cc)))
@@ -73,7 +73,7 @@ unsaid true starved was none = let is = was refl in absurd (cc)
 module _ (had left : Option (List ℕ)) (before after : Option (List ℕ)) (bytes : List ℕ) (read : ReadsToLimit longest had left bytes) (is_script : IsPlayable bytes)
     (starved : Bool) (text : List ℕ) (told : IsTold starved text) where
   -- a run whose writer failed
-  pub played-part : (result : Result Ended RunFault) → result ≡ Err Write → WritesFront before after text → Played result had before after
+  pub played-part : (result : Result RunOutcome RunFault) → result ≡ Err Write → WritesFront before after text → Played result had before after
   played-part result e front = rw e (record {
     played = λ ended is. absurd (cc);
     written = λ ended is. absurd (cc);
@@ -88,7 +88,7 @@ module _ (had left : Option (List ℕ)) (before after : Option (List ℕ)) (byte
   })
 
   -- a run that wrote all
-  whole : (ended : Ended) → ended ≢ CheckedNo → (ended ≡ Done → Writes false before after) → Appends before after text → Played (Ok ended) had before after
+  whole : (ended : RunOutcome) → ended ≢ CheckedNo → (ended ≡ Done → Writes false before after) → Appends before after text → Played (Ok ended) had before after
   whole ended not_no done written = record {
     played = λ other is. playable-input had left bytes read is_script;
     written = λ other is. (told.says, record { text = text; is_text = told.is_text; written = written });

@@ -13,8 +13,8 @@ use Rattle.script_run.specs.declared.fault.Disagreement.{Disagreement}
 use Rattle.script_run.specs.declared.fault.Disagreement.TheVariants.{Handles, Calls, Verdicts}
 use Rattle.script_run.specs.declared.fault.RunFault.{RunFault}
 use Rattle.script_run.specs.declared.fault.RunFault.TheVariants.{Write, NoMemory, Script, Proof, Audit}
-use Rattle.script_run.specs.declared.running.Ended.{Ended}
-use Rattle.script_run.specs.declared.running.Ended.TheVariants.{Done, CheckedNo}
+use Rattle.script_run.specs.declared.running.RunOutcome.{RunOutcome}
+use Rattle.script_run.specs.declared.running.RunOutcome.TheVariants.{Done, CheckedNo}
 use Rattle.script_run.specs.Faults.{fault_of_parse}
 use Rattle.sysmem_participants.specs.declared.faults.AuditFault.{AuditFault}
 use Rattle.sysmem_participants.specs.declared.faults.AuditFault.TheVariants as audits
@@ -77,10 +77,10 @@ pub record WritesPart (before after : Option (List ℕ)) : Type 0 where
 
 -- what the reader had, where it tells it, and what the writer held before and after, where it
 -- tells that
-pub record Played (result : Result Ended RunFault)
+pub record Played (result : Result RunOutcome RunFault)
     (had before after : Option (List ℕ)) : Type 0 where
-  pub played : (ended : Ended) → result ≡ Ok ended → IfSome had IsPlayable
-  pub written : (ended : Ended) → result ≡ Ok ended → (starved : Bool) × Writes starved before after
+  pub played : (ended : RunOutcome) → result ≡ Ok ended → IfSome had IsPlayable
+  pub written : (ended : RunOutcome) → result ≡ Ok ended → (starved : Bool) × Writes starved before after
   pub done : result ≡ Ok Done → Writes false before after
   pub unchecked : result ≢ Ok CheckedNo
   pub no_proof : result ≢ Err Proof

@@ -16,7 +16,7 @@ pub(crate) enum Rest<L: Ledger> {
 }
 
 /// What becomes of a handle by a call.
-pub(crate) struct Called<L: Ledger> {
+pub(crate) struct CallEffect<L: Ledger> {
     pub(crate) rest: Rest<L>,
     /// The handle that the call makes.
     pub(crate) made: Option<Handle<L>>,
@@ -24,12 +24,12 @@ pub(crate) struct Called<L: Ledger> {
     pub(crate) is_starved: bool,
 }
 
-impl<L: Ledger> Called<L> {
+impl<L: Ledger> CallEffect<L> {
     /// The handle is as it is now, and no further one is made.
-    pub(crate) fn kept(handle: Handle<L>) -> Called<L>
+    pub(crate) fn kept(handle: Handle<L>) -> CallEffect<L>
         ensures { result.is_starved ≡ false }
     {
-        Called {
+        CallEffect {
             rest: Rest::Handle(handle),
             made: None,
             is_starved: false,
@@ -37,10 +37,10 @@ impl<L: Ledger> Called<L> {
     }
 
     /// A further handle is made.
-    pub(crate) fn made(handle: Handle<L>, made: Handle<L>) -> Called<L>
+    pub(crate) fn made(handle: Handle<L>, made: Handle<L>) -> CallEffect<L>
         ensures { result.is_starved ≡ false }
     {
-        Called {
+        CallEffect {
             rest: Rest::Handle(handle),
             made: Some(made),
             is_starved: false,
@@ -48,10 +48,10 @@ impl<L: Ledger> Called<L> {
     }
 
     /// The handle is spent.
-    pub(crate) fn spent(stub: Stub<L>) -> Called<L>
+    pub(crate) fn spent(stub: Stub<L>) -> CallEffect<L>
         ensures { result.is_starved ≡ false }
     {
-        Called {
+        CallEffect {
             rest: Rest::Stub(stub),
             made: None,
             is_starved: false,
@@ -59,10 +59,10 @@ impl<L: Ledger> Called<L> {
     }
 
     /// Memory was refused, and so the handle is closed: nobody waits for what it can't do any more.
-    pub(crate) fn starved<R: Threads + Wait + Sync>(rt: &R, handle: Handle<L>) -> Called<L>
+    pub(crate) fn starved<R: Threads + Wait + Sync>(rt: &R, handle: Handle<L>) -> CallEffect<L>
         ensures { result.is_starved ≡ true }
     {
-        Called {
+        CallEffect {
             rest: Rest::Stub(handle.close(rt)),
             made: None,
             is_starved: true,
@@ -74,12 +74,12 @@ impl<L: Ledger> Called<L> {
         rt: &R,
         handle: Handle<L>,
         refusal: Refusal,
-    ) -> Called<L>
+    ) -> CallEffect<L>
         ensures { IsTrue result.is_starved ↔ (refusal ≡ Refusal.NoMemory) }
     {
         match refusal {
-            Refusal::NoMemory => Called::starved(rt, handle),
-            _ => Called::kept(handle),
+            Refusal::NoMemory => CallEffect::starved(rt, handle),
+            _ => CallEffect::kept(handle),
         }
     }
 }

@@ -22,7 +22,7 @@ pub(crate) struct Lines {
 
 /// An attached domain, by its place in order of creation, and where its root is.
 #[derive(Drop)]
-struct Rooted {
+struct AttachedRoot {
     index: u32,
     path: Path,
 }
@@ -61,12 +61,12 @@ fn first_line(alloc: Global, book: &Book) -> Result<Lines, AllocError>
 }
 
 /// The attached domains in pre-order of their roots.
-fn attached_roots(alloc: Global, tree: &Tree) -> Result<Vec<Rooted>, AllocError> {
+fn attached_roots(alloc: Global, tree: &Tree) -> Result<Vec<AttachedRoot>, AllocError> {
     let mut roots = Vec::new(alloc);
     for index in 1..tree.domain_count() {
         if let Some(domain) = tree.domain_at(index) {
             let path = tree.path_of(tree.root_of(domain))?;
-            roots.push(Rooted { index, path })?;
+            roots.push(AttachedRoot { index, path })?;
         }
     }
     roots.sort_by(|one, other| one.path.ordinals().cmp(other.path.ordinals()))?;

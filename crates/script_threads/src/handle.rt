@@ -1,7 +1,7 @@
 //! The handles of a collection, and the calls of a script on them.
 
 use crate::activity::{Activity, Woken};
-use crate::called::Called;
+use crate::called::CallEffect;
 use negotiation_inputs::Constraints;
 use record_reading::Code;
 use script_reading::Act;
@@ -30,7 +30,7 @@ impl<L: Ledger> Handle<L> {
         alloc: Global,
         activity: &Activity,
         act: &Act<'_>,
-    ) -> Called<L> {
+    ) -> CallEffect<L> {
         match self {
             Handle::Token(token) => call_token(rt, token, act),
             Handle::Group(group) => call_group(rt, group, act),
@@ -55,27 +55,27 @@ fn call_token<L: Ledger, R: Threads + Wait + Sync>(
     rt: &R,
     token: Token<L, NoGate>,
     act: &Act<'_>,
-) -> Called<L> {
+) -> CallEffect<L> {
     let mut token = token;
     match act {
         Act::Duplicate(_) => match token.duplicate(rt) {
-            Ok(child) => Called::made(Handle::Token(token), Handle::Token(child)),
-            Err(refusal) => Called::refused(rt, Handle::Token(token), refusal),
+            Ok(child) => CallEffect::made(Handle::Token(token), Handle::Token(child)),
+            Err(refusal) => CallEffect::refused(rt, Handle::Token(token), refusal),
         },
         Act::CreateGroup(_) => match token.create_group(rt) {
-            Ok(group) => Called::made(Handle::Token(token), Handle::Group(group)),
-            Err(refusal) => Called::refused(rt, Handle::Token(token), refusal),
+            Ok(group) => CallEffect::made(Handle::Token(token), Handle::Group(group)),
+            Err(refusal) => CallEffect::refused(rt, Handle::Token(token), refusal),
         },
         Act::Bind => match token.bind(rt) {
-            Ok(collection) => Called::kept(Handle::Collection(collection)),
-            Err(refused) => Called::refused(rt, Handle::Token(refused.0), refused.1),
+            Ok(collection) => CallEffect::kept(Handle::Collection(collection)),
+            Err(refused) => CallEffect::refused(rt, Handle::Token(refused.0), refused.1),
         },
         Act::Release => match token.release(rt) {
-            Ok(stub) => Called::spent(stub),
-            Err(refused) => Called::refused(rt, Handle::Token(refused.0), refused.1),
+            Ok(stub) => CallEffect::spent(stub),
+            Err(refused) => CallEffect::refused(rt, Handle::Token(refused.0), refused.1),
         },
-        Act::Close => Called::spent(Handle::Token(token).close(rt)),
-        _ => Called::kept(Handle::Token(token)),
+        Act::Close => CallEffect::spent(Handle::Token(token).close(rt)),
+        _ => CallEffect::kept(Handle::Token(token)),
     }
 }
 
@@ -83,23 +83,23 @@ fn call_group<L: Ledger, R: Threads + Wait + Sync>(
     rt: &R,
     group: Group<L, NoGate>,
     act: &Act<'_>,
-) -> Called<L> {
+) -> CallEffect<L> {
     let mut group = group;
     match act {
         Act::CreateChild(_) => match group.create_child(rt) {
-            Ok(child) => Called::made(Handle::Group(group), Handle::Token(child)),
-            Err(refusal) => Called::refused(rt, Handle::Group(group), refusal),
+            Ok(child) => CallEffect::made(Handle::Group(group), Handle::Token(child)),
+            Err(refusal) => CallEffect::refused(rt, Handle::Group(group), refusal),
         },
         Act::AllChildrenPresent => match group.all_children_present(rt) {
-            Ok(()) => Called::kept(Handle::Group(group)),
-            Err(refusal) => Called::refused(rt, Handle::Group(group), refusal),
+            Ok(()) => CallEffect::kept(Handle::Group(group)),
+            Err(refusal) => CallEffect::refused(rt, Handle::Group(group), refusal),
         },
         Act::Release => match group.release(rt) {
-            Ok(stub) => Called::spent(stub),
-            Err(refused) => Called::refused(rt, Handle::Group(refused.0), refused.1),
+            Ok(stub) => CallEffect::spent(stub),
+            Err(refused) => CallEffect::refused(rt, Handle::Group(refused.0), refused.1),
         },
-        Act::Close => Called::spent(Handle::Group(group).close(rt)),
-        _ => Called::kept(Handle::Group(group)),
+        Act::Close => CallEffect::spent(Handle::Group(group).close(rt)),
+        _ => CallEffect::kept(Handle::Group(group)),
     }
 }
 
@@ -109,28 +109,28 @@ fn call_collection<L: Ledger, R: Threads + Wait + Sync>(
     activity: &Activity,
     collection: Collection<L, NoGate>,
     act: &Act<'_>,
-) -> Called<L> {
+) -> CallEffect<L> {
     let mut collection = collection;
     match act {
         Act::SetConstraints(stated) => set_constraints(rt, alloc, collection, *stated),
         Act::AttachToken(_) => match collection.attach_token(rt) {
-            Ok(token) => Called::made(Handle::Collection(collection), Handle::Token(token)),
-            Err(refusal) => Called::refused(rt, Handle::Collection(collection), refusal),
+            Ok(token) => CallEffect::made(Handle::Collection(collection), Handle::Token(token)),
+            Err(refusal) => CallEffect::refused(rt, Handle::Collection(collection), refusal),
         },
         Act::Check => {
             let _told = collection.check().err();
-            Called::kept(Handle::Collection(collection))
+            CallEffect::kept(Handle::Collection(collection))
         }
         Act::Wait => {
             wait_for_verdict(rt, activity, &mut collection);
-            Called::kept(Handle::Collection(collection))
+            CallEffect::kept(Handle::Collection(collection))
         }
         Act::Release => match collection.release(rt) {
-            Ok(stub) => Called::spent(stub),
-            Err(refused) => Called::refused(rt, Handle::Collection(refused.0), refused.1),
+            Ok(stub) => CallEffect::spent(stub),
+            Err(refused) => CallEffect::refused(rt, Handle::Collection(refused.0), refused.1),
         },
-        Act::Close => Called::spent(Handle::Collection(collection).close(rt)),
-        _ => Called::kept(Handle::Collection(collection)),
+        Act::Close => CallEffect::spent(Handle::Collection(collection).close(rt)),
+        _ => CallEffect::kept(Handle::Collection(collection)),
     }
 }
 
@@ -156,15 +156,15 @@ fn set_constraints<L: Ledger, R: Threads + Wait + Sync>(
     alloc: Global,
     collection: Collection<L, NoGate>,
     stated: Option<&Value>,
-) -> Called<L> {
+) -> CallEffect<L> {
     let mut collection = collection;
     match asked(alloc, stated) {
         Ok(asked) => match collection.set_constraints(rt, asked) {
-            Ok(()) => Called::kept(Handle::Collection(collection)),
-            Err(refusal) => Called::refused(rt, Handle::Collection(collection), refusal),
+            Ok(()) => CallEffect::kept(Handle::Collection(collection)),
+            Err(refusal) => CallEffect::refused(rt, Handle::Collection(collection), refusal),
         },
-        Err(Code::WantOfMemory) => Called::starved(rt, Handle::Collection(collection)),
-        Err(_) => Called::kept(Handle::Collection(collection)),
+        Err(Code::WantOfMemory) => CallEffect::starved(rt, Handle::Collection(collection)),
+        Err(_) => CallEffect::kept(Handle::Collection(collection)),
     }
 }
 

@@ -1,7 +1,7 @@
 //! What a name stands for, and who waits for it.
 
 use crate::activity::Activity;
-use crate::called::{Called, Rest};
+use crate::called::{CallEffect, Rest};
 use crate::handle::Handle;
 use script_reading::Act;
 use std::alloc::Global;
@@ -48,7 +48,7 @@ impl<L: Ledger> Slot<L> {
         act: &Act<'_>,
     ) -> Option<Handle<L>> {
         let handle = self.handle.take()?;
-        let Called {
+        let CallEffect {
             rest,
             made,
             is_starved,

@@ -14,7 +14,7 @@ use byte_transfer::{Sink, Source, read_up_to_limit, write_fully};
 use negotiation_inputs::Platform;
 use script_reading::{Call, LONGEST, Script, parse_script, read_script_apart};
 use script_replay::replies_of;
-use script_run::{Ended, RunFault};
+use script_run::{RunFault, RunOutcome};
 use serde_json::Value;
 use std::alloc::{AllocError, Global};
 use std::marker::Brand;
@@ -38,7 +38,7 @@ pub fn run_threads<T: Threads + Wait + Sync, R: Source, W: Sink>(
     alloc: Global,
     reader: &mut R,
     writer: &mut W,
-) -> Result<Ended, RunFault>
+) -> Result<RunOutcome, RunFault>
     ensures played { Played result
         (R.remaining reader.old) (W.contents writer.old) (W.contents writer.new) }
     ensures read_fault { IsCausedBy (result ≡ Err RunFault.Read)
@@ -50,9 +50,9 @@ pub fn run_threads<T: Threads + Wait + Sync, R: Source, W: Sink>(
     let told = play_bytes(rt, alloc, &bytes)?;
     write_fully(writer, told.text.as_bytes())?;
     if told.is_starved {
-        return Ok(Ended::MemoryRefused);
+        return Ok(RunOutcome::MemoryRefused);
     }
-    Ok(Ended::Done)
+    Ok(RunOutcome::Done)
 }
 
 /// Plays the script that bytes spell.

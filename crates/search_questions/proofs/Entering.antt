@@ -10,7 +10,7 @@ use Rattle.list_lemmas.proofs.CallerLemmas.{slice_get-set_same, slice_get-set_ot
 use Rattle.sysmem_merge.specs.Sum.{SumsInAnyOrder}
 use Rattle.verdict_claims.specs.Members.{participants}
 use Rattle.negotiation_inputs.specs.Participant.{Participant}
-use Rattle.search_questions.specs.declared.kept.Part.{Part}
+use Rattle.search_questions.specs.declared.kept.ChoiceShare.{ChoiceShare}
 use Rattle.search_questions.specs.declared.levels.Level.{Level}
 use Rattle.search_questions.specs.Kept.{IsKeptFor, IsPartFor, HaveRoom}
 use Rattle.verdict_claims.specs.Matter.{Matter, forest}
@@ -57,7 +57,7 @@ module _ (m : Matter) (layout : Layout) where
   level_here cs levels are = subst (λ xs. IsSomeAnd (slice_get levels (length cs)) (IsLevel m layout xs)) (take_all (length cs) cs (omega arith)) (are (length cs) (omega arith))
 
   -- what is read there is it
-  pub level_at : (parts : List (Option Part)) (levels : List Level) (items cs : List ℕ) (level : Level) → items ≡ cs → StandsAt m layout parts levels cs
+  pub level_at : (parts : List (Option ChoiceShare)) (levels : List Level) (items cs : List ℕ) (level : Level) → items ≡ cs → StandsAt m layout parts levels cs
       → level ≡ get_or levels (length items) level → IsLevel m layout cs level
   level_at parts levels items cs level same keeps is =
       let (l, here, h) = there (IsLevel m layout cs) (slice_get levels (length cs)) (level_here cs levels keeps.fronts) in
@@ -65,7 +65,7 @@ module _ (m : Matter) (layout : Layout) where
       subst (IsLevel m layout cs) (same_Some l level (sym here ∙ at)) h
 
   -- there is such a level
-  pub level_within : (parts : List (Option Part)) (levels : List Level) (items cs : List ℕ) → items ≡ cs → StandsAt m layout parts levels cs → length items < length levels
+  pub level_within : (parts : List (Option ChoiceShare)) (levels : List Level) (items cs : List ℕ) → items ≡ cs → StandsAt m layout parts levels cs → length items < length levels
   level_within parts levels items cs same keeps =
       let (l, here, h) = there (IsLevel m layout cs) (slice_get levels (length cs)) (level_here cs levels keeps.fronts) in
       subst (λ xs. length xs < length levels) (sym same) (slice_get_within levels (length cs) l here)
@@ -75,7 +75,7 @@ module _ (m : Matter) (layout : Layout) where
   kept_at cs level is d leads = subst (λ x. IsKeptFor m level.kept (participants (settled x))) (same_Some is.left d (sym is.leads ∙ leads)) is.kept
 
   -- with more parts, and with more levels
-  pub more_kept : (parts parts' : List (Option Part)) (levels levels' : List Level) (items cs : List ℕ) → items ≡ cs → StandsAt m layout parts levels cs
+  pub more_kept : (parts parts' : List (Option ChoiceShare)) (levels levels' : List Level) (items cs : List ℕ) → items ≡ cs → StandsAt m layout parts levels cs
       → AreParts m layout parts' → ((k : ℕ) → k ≤ length items → slice_get levels' k ≡ slice_get levels k) → AreMade m levels' → StandsAt m layout parts' levels' cs
   more_kept parts parts' levels levels' items cs at keeps are same made = record {
     given = keeps.given;
@@ -86,7 +86,7 @@ module _ (m : Matter) (layout : Layout) where
   }
 
   -- without the last choice
-  pub left_keeps : (parts : List (Option Part)) (levels : List Level) (longer cs : List ℕ) (c : ℕ) → longer ≡ cs ++ c ∷ [] → StandsAt m layout parts levels longer → StandsAt m layout parts levels cs
+  pub left_keeps : (parts : List (Option ChoiceShare)) (levels : List Level) (longer cs : List ℕ) (c : ℕ) → longer ≡ cs ++ c ∷ [] → StandsAt m layout parts levels longer → StandsAt m layout parts levels cs
   left_keeps parts levels longer cs c is keeps = record {
     given = keeps.given;
     laid = keeps.laid;
@@ -97,7 +97,7 @@ module _ (m : Matter) (layout : Layout) where
   }
 
   -- with one choice more, below whose level nothing changed
-  pub entered_keeps : (parts parts' : List (Option Part)) (levels between levels' : List Level) (cs longer : List ℕ) (c : ℕ) → longer ≡ cs ++ c ∷ [] → StandsAt m layout parts levels cs
+  pub entered_keeps : (parts parts' : List (Option ChoiceShare)) (levels between levels' : List Level) (cs longer : List ℕ) (c : ℕ) → longer ≡ cs ++ c ∷ [] → StandsAt m layout parts levels cs
       → AreParts m layout parts' → ((k : ℕ) → k ≤ length cs → slice_get between k ≡ slice_get levels k)
       → AreMade m between → ((k : ℕ) → k ≢ length cs + 1 → slice_get levels' k ≡ slice_get between k)
       → IsSomeAnd (slice_get levels' (length cs + 1)) (IsLevel m layout longer) → StandsAt m layout parts' levels' longer
@@ -159,7 +159,7 @@ module _ (m : Matter) (layout : Layout) where
         })
 
 -- a level of one choice more was joined, from that above it and from a part
-abbrev pub IsJoined : Matter → List Level → List Level → ℕ → Part → Option ℕ → Type 0
+abbrev pub IsJoined : Matter → List Level → List Level → ℕ → ChoiceShare → Option ℕ → Type 0
 IsJoined m between levels' depth part next = (ps qs : List Participant) (above old : Level)
     → slice_get between depth ≡ Some above → slice_get between (depth + 1) ≡ Some old → IsKeptFor m above.kept ps → IsPartFor m part qs
     → (others : List Participant) → IsKeptFor m old.kept others
@@ -174,7 +174,7 @@ some_weaker : {X : Type 0} (P Q : X → Type 0) (o : Option X) → ((x : X) → 
 some_weaker P Q None h p = absurd p
 some_weaker P Q (Some x) h p = h x p
 
-module _ (m : Matter) (layout : Layout) (parts parts' : List (Option Part)) (levels between levels' : List Level) (cs longer : List ℕ) (c at slot : ℕ) (part : Part) (next : Option ℕ) where
+module _ (m : Matter) (layout : Layout) (parts parts' : List (Option ChoiceShare)) (levels between levels' : List Level) (cs longer : List ℕ) (c at slot : ℕ) (part : ChoiceShare) (next : Option ℕ) where
   entered_at : longer ≡ cs ++ c ∷ [] → StandsAt m layout parts levels cs → AreParts m layout parts'
       → ((k : ℕ) → k ≤ length cs → slice_get between k ≡ slice_get levels k) → AreMade m between → length cs + 1 < length between
       → ((k : ℕ) → k ≢ length cs + 1 → slice_get levels' k ≡ slice_get between k) → IsJoined m between levels' (length cs) part next → IsSlot at slot
@@ -200,14 +200,14 @@ module _ (m : Matter) (layout : Layout) (parts parts' : List (Option Part)) (lev
       (subst (λ xs. (k : ℕ) → k ≢ length xs + 1 → slice_get levels' k ≡ slice_get between k) same others) (subst (λ xs. IsJoined m between levels' (length xs) part next) same joined)
 
 -- what is kept beside a slot for nothing more was kept before
-pub kept_before : (xs : List (Option Part)) (at : ℕ) (part : Part) → slice_get (xs ++ None ∷ []) at ≡ Some (Some part) → slice_get xs at ≡ Some (Some part)
+pub kept_before : (xs : List (Option ChoiceShare)) (at : ℕ) (part : ChoiceShare) → slice_get (xs ++ None ∷ []) at ≡ Some (Some part) → slice_get xs at ≡ Some (Some part)
 kept_before [] zero part is = absurd (cc)
 kept_before [] (suc at) part is = absurd (cc)
 kept_before (x ∷ xs) zero part is = is
 kept_before (x ∷ xs) (suc at) part is = kept_before xs at part is
 
 -- a child has one slot
-pub only_slot : (parts : List (Option Part)) (place slot own : ℕ) (kept : Option Part) → IsSlot place slot → IsSlot place own → slice_get parts own ≡ Some kept → slice_get parts slot ≡ Some kept
+pub only_slot : (parts : List (Option ChoiceShare)) (place slot own : ℕ) (kept : Option ChoiceShare) → IsSlot place slot → IsSlot place own → slice_get parts own ≡ Some kept → slice_get parts slot ≡ Some kept
 only_slot parts place slot own kept one two is =
     let same : own ≡ slot = omega (arith, one, two) in
     subst (λ k. slice_get parts k ≡ Some kept) same is
@@ -218,7 +218,7 @@ some_there None b is yes' = absurd (cc)
 some_there (Some x) b is yes' = (x, refl)
 
 -- a part that is kept now, beside those of before
-pub part_kept : (m : Matter) (layout : Layout) (parts : List (Option Part)) (place slot : ℕ) (part : Part) → IsSlot place slot → IsPartFor m part (asked_in m.nodes (share_of layout place))
+pub part_kept : (m : Matter) (layout : Layout) (parts : List (Option ChoiceShare)) (place slot : ℕ) (part : ChoiceShare) → IsSlot place slot → IsPartFor m part (asked_in m.nodes (share_of layout place))
     → AreParts m layout parts → AreParts m layout (slice_set parts slot (Some part))
 part_kept m layout parts place slot part own is are at s other here there' = elim (cases_eq s slot) [
   | inl equal ↦
@@ -228,12 +228,12 @@ part_kept m layout parts place slot part own is are at s other here there' = eli
       (subst (λ p. IsPartFor m p (asked_in m.nodes (share_of layout place))) (same_Some part other same) is)
   | inr elsewhere ↦ are at s other here (slice_get-set_other parts slot s (Some part) (Some other) elsewhere there')
 ] where
-  within : (parts : List (Option Part)) (slot s : ℕ) (other : Part) → s ≡ slot → slice_get (slice_set parts slot (Some part)) s ≡ Some (Some other) → slot < length parts
+  within : (parts : List (Option ChoiceShare)) (slot s : ℕ) (other : ChoiceShare) → s ≡ slot → slice_get (slice_set parts slot (Some part)) s ≡ Some (Some other) → slot < length parts
   within parts slot s other equal there' = by (slice_get_within (slice_set parts slot (Some part)) s (Some other) there') where
     by : s < length (slice_set parts slot (Some part)) → slot < length parts
     by less = omega (arith, equal, less, length-set parts slot (Some part))
 
-pub part_there : (parts : List (Option Part)) (place : ℕ) (part : Part) → place < length parts → slice_get (slice_set parts place (Some part)) place ≡ Some (Some part)
+pub part_there : (parts : List (Option ChoiceShare)) (place : ℕ) (part : ChoiceShare) → place < length parts → slice_get (slice_set parts place (Some part)) place ≡ Some (Some part)
 part_there [] place part less = absurd (omega (arith, less))
 part_there (x ∷ xs) zero part less = refl
 part_there (x ∷ xs) (suc k) part less = part_there xs k part (omega (arith, less))
@@ -264,7 +264,7 @@ share_few layout d cs c at law child here few =
     let f = few (cs ++ c ∷ []) s.left s.leads in omega (arith, long, length-append (settled e) (share_of layout at), f)
 
 -- where a search stands, a choice's participants fit beside those of before
-pub room_for : (m : Matter) (layout : Layout) (parts : List (Option Part)) (levels between : List Level) (items cs : List ℕ) (above : Level) (part : Part) (share : List ℕ) → items ≡ cs
+pub room_for : (m : Matter) (layout : Layout) (parts : List (Option ChoiceShare)) (levels between : List Level) (items cs : List ℕ) (above : Level) (part : ChoiceShare) (share : List ℕ) → items ≡ cs
     → StandsAt m layout parts levels cs → ((k : ℕ) → k ≤ length items → slice_get between k ≡ slice_get levels k) → slice_get between (length items) ≡ Some above
     → IsPartFor m part (asked_in m.nodes share) → length share ≤ 128 → HaveRoom above.kept part
 room_for m layout parts levels between items cs above part share same keeps kept is part_is few =

@@ -21,10 +21,10 @@ use Rattle.verdict_claims.specs.Members.{participants, members_at}
 use Rattle.verdict_claims.specs.Verdict.{MeetsFixed, MeetsFor, MeetsLooselyFor, IsBestFor}
 use Rattle.negotiation_inputs.specs.Participant.{Participant}
 use Rattle.negotiation_inputs.specs.Platform.{PlatformFacts}
-use Rattle.search_questions.specs.declared.kept.Kept.{Kept}
-use Rattle.search_questions.specs.declared.kept.Kept.TheVariants as kept_as
-use Rattle.search_questions.specs.declared.kept.Part.{Part}
-use Rattle.search_questions.specs.declared.kept.Part.TheVariants as part_as
+use Rattle.search_questions.specs.declared.kept.PrefixSum.{PrefixSum}
+use Rattle.search_questions.specs.declared.kept.PrefixSum.TheVariants as kept_as
+use Rattle.search_questions.specs.declared.kept.ChoiceShare.{ChoiceShare}
+use Rattle.search_questions.specs.declared.kept.ChoiceShare.TheVariants as part_as
 use Rattle.search_questions.specs.declared.on_base.OnBase.{OnBase}
 use Rattle.search_questions.specs.Kept.{TakesBase, IsKeptOf, IsPart, HasRoom, HaveRoom}
 use Rattle.verdict_claims.specs.Asked.{asked_in}
@@ -107,14 +107,14 @@ joined_base above more joined join platform nodes None ps qs keeps is = absurd k
 joined_base above more joined join platform nodes (Some b) ps qs keeps is = join platform b.settings (asked_in nodes b.accepted) ps qs keeps is
 
 -- a part of at most 128 participants takes one more
-pub has_room : (platform : PlatformFacts) (base : Option BaseFacts) (part : Part) (ps : List Participant) → IsPart platform base part ps → length ps ≤ 128 → HasRoom part
+pub has_room : (platform : PlatformFacts) (base : Option BaseFacts) (part : ChoiceShare) (ps : List Participant) → IsPart platform base part ps → length ps ≤ 128 → HasRoom part
 has_room platform None (part_as.Share share) ps is few = omega (arith, is.sums.many, few)
 has_room platform None (part_as.OnBase kept) ps is few = absurd is
 has_room platform (Some b) (part_as.Share share) ps is few = absurd is
 has_room platform (Some b) (part_as.OnBase kept) ps is few = omega (arith, is.small, few)
 
 -- a prefix and a choice of so few participants fit together
-pub have_room : (platform : PlatformFacts) (nodes : List NodeFacts) (base : Option BaseFacts) (kept : Kept) (part : Part) (ps qs : List Participant) → (IsKeptOf platform nodes base kept ps) → IsPart platform base part qs
+pub have_room : (platform : PlatformFacts) (nodes : List NodeFacts) (base : Option BaseFacts) (kept : PrefixSum) (part : ChoiceShare) (ps qs : List Participant) → (IsKeptOf platform nodes base kept ps) → IsPart platform base part qs
     → ((b : BaseFacts) → base ≡ Some b → length b.accepted ≤ 128) → length ps ≤ 128 → length qs ≤ 128 → HaveRoom kept part
 have_room platform nodes None (kept_as.Sum s) (part_as.Share share) ps qs keeps is few a b = omega (arith, keeps.many, is.sums.many, a, b)
 have_room platform nodes None (kept_as.Sum s) (part_as.OnBase kept) ps qs keeps is few a b = tt
@@ -127,7 +127,7 @@ have_room platform nodes (Some base) (kept_as.OnBase s) (part_as.OnBase kept) ps
     let accepted = few base refl in omega (arith, keeps.small, is.small, few_asked_of nodes base.accepted, accepted, a, b)
 
 -- what is kept of participants is kept of them in any order
-pub kept_in_order : SumsInAnyOrder → (platform : PlatformFacts) (nodes : List NodeFacts) (base : Option BaseFacts) (kept : Kept) (ps qs : List Participant) → IsPermutation ps qs
+pub kept_in_order : SumsInAnyOrder → (platform : PlatformFacts) (nodes : List NodeFacts) (base : Option BaseFacts) (kept : PrefixSum) (ps qs : List Participant) → IsPermutation ps qs
     → IsKeptOf platform nodes base kept ps → IsKeptOf platform nodes base kept qs
 kept_in_order law platform nodes None (kept_as.Sum s) ps qs order keeps = law s platform ps qs order keeps
 kept_in_order law platform nodes None (kept_as.OnBase s) ps qs order keeps = absurd keeps

@@ -13,10 +13,10 @@ use Rattle.verdict_claims.specs.Base.{BaseFacts}
 use Rattle.verdict_claims.specs.Matter.{Matter}
 use Rattle.negotiation_inputs.specs.Participant.{Participant}
 use Rattle.negotiation_inputs.specs.Platform.{PlatformFacts}
-use Rattle.search_questions.specs.declared.kept.Kept.{Kept}
-use Rattle.search_questions.specs.declared.kept.Kept.TheVariants as kept_as
-use Rattle.search_questions.specs.declared.kept.Part.{Part}
-use Rattle.search_questions.specs.declared.kept.Part.TheVariants as part_as
+use Rattle.search_questions.specs.declared.kept.PrefixSum.{PrefixSum}
+use Rattle.search_questions.specs.declared.kept.PrefixSum.TheVariants as kept_as
+use Rattle.search_questions.specs.declared.kept.ChoiceShare.{ChoiceShare}
+use Rattle.search_questions.specs.declared.kept.ChoiceShare.TheVariants as part_as
 use Rattle.search_questions.specs.declared.on_base.OnBase.{OnBase}
 use Rattle.verdict_claims.specs.Asked.{asked_in}
 use Rattle.sysmem_tree.specs.Node.{NodeFacts}
@@ -31,7 +31,7 @@ pub record TakesBase (platform : PlatformFacts) (settings : Settings) (earlier :
 
 -- what is kept of a prefix stands for these participants: without a base their sum, else how they
 -- take it behind those accepted before
-abbrev pub IsKeptOf : PlatformFacts → List NodeFacts → Option BaseFacts → Kept → List Participant
+abbrev pub IsKeptOf : PlatformFacts → List NodeFacts → Option BaseFacts → PrefixSum → List Participant
     → Type 0
 IsKeptOf platform nodes None (kept_as.Sum sum) ps = SumsUp sum platform ps
 IsKeptOf platform nodes (Some base) (kept_as.OnBase kept) ps =
@@ -39,26 +39,26 @@ IsKeptOf platform nodes (Some base) (kept_as.OnBase kept) ps =
 IsKeptOf platform nodes _ _ ps = ⊥
 
 -- of a matter
-abbrev pub IsKeptFor : Matter → Kept → List Participant → Type 0
+abbrev pub IsKeptFor : Matter → PrefixSum → List Participant → Type 0
 IsKeptFor m = IsKeptOf m.platform m.nodes m.base
 
 -- what is kept of one choice stands for these participants, whatever was accepted before
-abbrev pub IsPart : PlatformFacts → Option BaseFacts → Part → List Participant → Type 0
+abbrev pub IsPart : PlatformFacts → Option BaseFacts → ChoiceShare → List Participant → Type 0
 IsPart platform None (part_as.Share share) ps = IsShareOf share platform ps
 IsPart platform (Some base) (part_as.OnBase kept) ps = TakesBase platform base.settings [] kept ps
 IsPart platform _ _ ps = ⊥
 
 -- of a matter
-abbrev pub IsPartFor : Matter → Part → List Participant → Type 0
+abbrev pub IsPartFor : Matter → ChoiceShare → List Participant → Type 0
 IsPartFor m = IsPart m.platform m.base
 
 -- one participant more fits
-abbrev pub HasRoom : Part → Type 0
+abbrev pub HasRoom : ChoiceShare → Type 0
 HasRoom (part_as.Share share) = share.sum.added < MOST_ADDED
 HasRoom (part_as.OnBase kept) = sum_of kept.counts < 2 ^ 62
 
 -- the participants of both fit together
-abbrev pub HaveRoom : Kept → Part → Type 0
+abbrev pub HaveRoom : PrefixSum → ChoiceShare → Type 0
 HaveRoom (kept_as.Sum sum) (part_as.Share share) = sum.added + share.sum.added ≤ MOST_ADDED
 HaveRoom (kept_as.OnBase above) (part_as.OnBase kept) =
     sum_of above.counts + sum_of kept.counts < 2 ^ 62

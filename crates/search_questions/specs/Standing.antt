@@ -4,7 +4,7 @@ use Rattle.std.specs.Prelude.{length, slice_get, take}
 use Rattle.conflict_finding.specs.Subject.{IsSubject}
 use Rattle.verdict_claims.specs.Members.{participants}
 use Rattle.negotiation_inputs.specs.Participant.{Participant}
-use Rattle.search_questions.specs.declared.kept.Part.{Part}
+use Rattle.search_questions.specs.declared.kept.ChoiceShare.{ChoiceShare}
 use Rattle.search_questions.specs.declared.levels.Level.{Level}
 use Rattle.search_questions.specs.Kept.{IsKeptFor, IsPartFor}
 use Rattle.verdict_claims.specs.Matter.{Matter, forest}
@@ -54,13 +54,13 @@ IsSlot place slot = slot + place ≡ 127
 
 -- what is kept in a slot is of the child whose slot it is: of the participants that the choice of
 -- it settles
-abbrev pub AreParts : Matter → Layout → List (Option Part) → Type 0
-AreParts m layout parts = (place slot : ℕ) (part : Part) → IsSlot place slot
+abbrev pub AreParts : Matter → Layout → List (Option ChoiceShare) → Type 0
+AreParts m layout parts = (place slot : ℕ) (part : ChoiceShare) → IsSlot place slot
     → slice_get parts slot ≡ Some (Some part)
     → IsPartFor m part (asked_in m.nodes (share_of layout place))
 
 -- what a search keeps where it stands
-pub record StandsAt (m : Matter) (layout : Layout) (parts : List (Option Part))
+pub record StandsAt (m : Matter) (layout : Layout) (parts : List (Option ChoiceShare))
     (levels : List Level) (cs : List ℕ) : Type 0 where
   pub given : IsSubject m
   pub laid : LaysOut m layout

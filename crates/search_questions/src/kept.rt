@@ -8,7 +8,7 @@ ghost use Rattle.verdict_claims.specs.Members.{participants};
 ghost use Rattle.negotiation_inputs.specs.Participant.{Participant};
 ghost use Rattle.search_questions.specs.Kept.{IsKeptFor, IsPartFor, HasRoom, HaveRoom};
 ghost use Rattle.search_questions.specs.Question.{MeetsOf, MeetsSoFar, IsBestOf};
-ghost use Rattle.search_questions.specs.declared.kept.Kept.TheVariants as kept_as;
+ghost use Rattle.search_questions.specs.declared.kept.PrefixSum.TheVariants as kept_as;
 ghost use Rattle.sysmem_tree.specs.Shape.{Member};
 
 use crate::on_base::OnBase;
@@ -19,7 +19,7 @@ use sysmem_merge::{Settings, Share, Sum};
 
 /// What is kept of the participants that one choice settles, made once for a search.
 #[derive(Drop)]
-pub(crate) enum Part {
+pub(crate) enum ChoiceShare {
     /// Of an initial domain: what they ask for together.
     Share(Share),
     /// Of an attached domain: how they take its base.
@@ -28,21 +28,21 @@ pub(crate) enum Part {
 
 /// What is kept of the participants that a prefix settles.
 #[derive(Drop)]
-pub(crate) enum Kept {
+pub(crate) enum PrefixSum {
     /// Of an initial domain: what they ask for together.
     Sum(Sum),
     /// Of an attached domain: how they take its base.
     OnBase(OnBase),
 }
 
-impl Part {
+impl ChoiceShare {
     /// Of no participant at all.
-    pub(crate) fn new(subject: &Subject<'_>) -> Result<Part, AllocError>
+    pub(crate) fn new(subject: &Subject<'_>) -> Result<ChoiceShare, AllocError>
         ensures { IfOk result (λ made. IsPartFor subject.now made []) }
     {
         match subject.base() {
-            None => Ok(Part::Share(Share::new(subject.alloc(), subject.platform())?)),
-            Some(_) => Ok(Part::OnBase(OnBase::new())),
+            None => Ok(ChoiceShare::Share(Share::new(subject.alloc(), subject.platform())?)),
+            Some(_) => Ok(ChoiceShare::OnBase(OnBase::new())),
         }
     }
 
@@ -53,8 +53,8 @@ impl Part {
             → IsPartFor subject.now self.new (ps ++ asked.now ∷ []) }
     {
         match self {
-            Part::Share(share) => share.add(subject.platform(), asked),
-            Part::OnBase(part) => {
+            ChoiceShare::Share(share) => share.add(subject.platform(), asked),
+            ChoiceShare::OnBase(part) => {
                 if let Some(base) = subject.base() {
                     part.add(subject.platform(), &base.settings(), asked);
                 }
@@ -63,31 +63,31 @@ impl Part {
     }
 }
 
-impl Kept {
+impl PrefixSum {
     /// Of no participant at all, behind those that the base names as accepted.
     // In line, what is made isn't copied to its caller.
     #[inline]
-    pub(crate) fn new(subject: &Subject<'_>) -> Result<Kept, AllocError>
+    pub(crate) fn new(subject: &Subject<'_>) -> Result<PrefixSum, AllocError>
         ensures { IfOk result (λ made. IsKeptFor subject.now made []) }
     {
         subject.recall();
         match subject.base() {
-            None => Ok(Kept::Sum(Sum::new(subject.alloc(), subject.platform())?)),
-            Some(base) => Ok(Kept::OnBase(OnBase::behind(subject.tree(), base.accepted()))),
+            None => Ok(PrefixSum::Sum(Sum::new(subject.alloc(), subject.platform())?)),
+            Some(base) => Ok(PrefixSum::OnBase(OnBase::behind(subject.tree(), base.accepted()))),
         }
     }
 
     /// Becomes what is kept of the participants above, then those of a part, whatever it was. It
     /// takes no memory.
-    pub(crate) fn join_of(&mut self, subject: &Subject<'_>, above: &Kept, part: &Part)
+    pub(crate) fn join_of(&mut self, subject: &Subject<'_>, above: &PrefixSum, part: &ChoiceShare)
         requires { HaveRoom above.now part.now }
         ensures { (others ps qs : List Participant) → IsKeptFor subject.now self.old others
             → IsKeptFor subject.now above.now ps → IsPartFor subject.now part.now qs
             → IsKeptFor subject.now self.new (ps ++ qs) }
     {
         match self {
-            Kept::Sum(sum) => join_sum(sum, subject, above, part),
-            Kept::OnBase(kept) => join_on_base(kept, above, part),
+            PrefixSum::Sum(sum) => join_sum(sum, subject, above, part),
+            PrefixSum::OnBase(kept) => join_on_base(kept, above, part),
         }
     }
 
@@ -97,8 +97,8 @@ impl Kept {
             → IsTrue result ↔ ((t : Settled) × MeetsSoFar subject.now ms t) }
     {
         match self {
-            Kept::Sum(sum) => sum.ask(subject.platform(), false).is_ok(),
-            Kept::OnBase(kept) => {
+            PrefixSum::Sum(sum) => sum.ask(subject.platform(), false).is_ok(),
+            PrefixSum::OnBase(kept) => {
                 match subject.base() {
                     Some(base) => kept.suits(&base.settings()),
                     None => false,
@@ -117,8 +117,8 @@ impl Kept {
             (IsBestOf subject.now ms) }
     {
         match self {
-            Kept::Sum(sum) => sum.best_settings(subject.platform(), true).ok(),
-            Kept::OnBase(kept) => {
+            PrefixSum::Sum(sum) => sum.best_settings(subject.platform(), true).ok(),
+            PrefixSum::OnBase(kept) => {
                 let settings = subject.base()?.settings();
                 if kept.suits(&settings) {
                     Some(settings)
@@ -142,30 +142,30 @@ impl Kept {
 }
 
 /// Joins a sum of the participants above and a share.
-fn join_sum(sum: &mut Sum, subject: &Subject<'_>, above: &Kept, part: &Part)
+fn join_sum(sum: &mut Sum, subject: &Subject<'_>, above: &PrefixSum, part: &ChoiceShare)
     requires { HaveRoom above.now part.now }
     ensures { (others ps qs : List Participant)
         → IsKeptFor subject.now (kept_as.Sum sum.old) others
         → IsKeptFor subject.now above.now ps → IsPartFor subject.now part.now qs
         → IsKeptFor subject.now (kept_as.Sum sum.new) (ps ++ qs) }
 {
-    if let Kept::Sum(above) = above {
-        if let Part::Share(share) = part {
+    if let PrefixSum::Sum(above) = above {
+        if let ChoiceShare::Share(share) = part {
             sum.join_of(subject.platform(), above, share);
         }
     }
 }
 
 /// Joins how the participants above take a base, and those of a part.
-fn join_on_base(kept: &mut OnBase, above: &Kept, part: &Part)
+fn join_on_base(kept: &mut OnBase, above: &PrefixSum, part: &ChoiceShare)
     requires { HaveRoom above.now part.now }
     ensures { (m : Matter) (others ps qs : List Participant)
         → IsKeptFor m (kept_as.OnBase kept.old) others
         → IsKeptFor m above.now ps → IsPartFor m part.now qs
         → IsKeptFor m (kept_as.OnBase kept.new) (ps ++ qs) }
 {
-    if let Kept::OnBase(above) = above {
-        if let Part::OnBase(part) = part {
+    if let PrefixSum::OnBase(above) = above {
+        if let ChoiceShare::OnBase(part) = part {
             *kept = above.join(part);
         }
     }

@@ -4,11 +4,11 @@ ghost use Rattle.std.specs.Prelude.{◌≡◌, ◌≢◌, ◌<◌, ◌≤◌, �
 ghost use Rattle.negotiation_inputs.specs.Participant.{Participant};
 ghost use Rattle.search_questions.specs.Kept.{IsKeptFor, IsPartFor, HaveRoom};
 ghost use Rattle.search_questions.specs.Standing.{AreMade, AreParts, IsLevel, IsSlot, LaysOut};
-ghost use Rattle.search_questions.specs.declared.kept.Part.{Part as APart};
+ghost use Rattle.search_questions.specs.declared.kept.ChoiceShare.{ChoiceShare as AChoiceShare};
 ghost use Rattle.search_questions.specs.declared.levels.Level.{Level as ALevel};
 ghost use Rattle.sysmem_tree.specs.OpenGroups.{HasChild, HoldsNodes, share_of};
 
-use crate::kept::{Kept, Part};
+use crate::kept::{ChoiceShare, PrefixSum};
 use crate::settling::add_settled;
 use conflict_finding::Subject;
 use std::alloc::AllocError;
@@ -21,7 +21,7 @@ pub(crate) struct Level {
     /// The first group that is open after the choices.
     pub(crate) group: Option<GroupPlace>,
     /// What is kept of the participants that they settle.
-    pub(crate) kept: Kept,
+    pub(crate) kept: PrefixSum,
 }
 
 /// Makes the level below this depth that of one choice more, which settles a part and leaves this
@@ -30,7 +30,7 @@ pub(crate) fn join_level(
     levels: &mut Vec<Level>,
     subject: &Subject<'_>,
     depth: usize,
-    part: &Part,
+    part: &ChoiceShare,
     group: Option<GroupPlace>,
 )
     requires there { depth + 1 < length levels.old.items }
@@ -58,11 +58,11 @@ pub(crate) fn first_level(subject: &Subject<'_>, layout: &Layout) -> Result<Leve
     ensures { IfOk result (λ level. IsLevel subject.now layout.now [] level) }
 {
     subject.recall();
-    let none = Kept::new(subject)?;
-    let mut part = Part::new(subject)?;
+    let none = PrefixSum::new(subject)?;
+    let mut part = ChoiceShare::new(subject)?;
     let walk = layout.settled_first();
     add_settled(&mut part, subject, layout, walk);
-    let mut kept = Kept::new(subject)?;
+    let mut kept = PrefixSum::new(subject)?;
     kept.join_of(subject, &none, &part);
     let group = layout.first_open();
     Ok(Level { group, kept })
@@ -97,7 +97,7 @@ fn add_level(levels: &mut Vec<Level>, subject: &Subject<'_>) -> Result<(), Alloc
         → slice_get levels.new.items k ≡ slice_get levels.old.items k }
     ensures made { AreMade subject.now levels.old.items → AreMade subject.now levels.new.items }
 {
-    let kept = Kept::new(subject)?;
+    let kept = PrefixSum::new(subject)?;
     levels.push(Level { group: None, kept })?;
     Ok(())
 }
@@ -112,10 +112,10 @@ pub(crate) fn slot_of(child: ChildPlace) -> usize
 }
 
 /// Has this slot, whatever is kept there; in a new one nothing is.
-fn reserve_slot(parts: &mut Vec<Option<Part>>, slot: usize) -> Result<(), AllocError>
+fn reserve_slot(parts: &mut Vec<Option<ChoiceShare>>, slot: usize) -> Result<(), AllocError>
     requires { slot < MOST_NODES }
     ensures there { OnOk result (slot < length parts.new.items) }
-    ensures kept { (at : ℕ) (part : APart) → slice_get parts.new.items at ≡ Some (Some part)
+    ensures kept { (at : ℕ) (part : AChoiceShare) → slice_get parts.new.items at ≡ Some (Some part)
         → slice_get parts.old.items at ≡ Some (Some part) }
 {
     if slot < parts.len() {
@@ -130,7 +130,7 @@ fn reserve_slot(parts: &mut Vec<Option<Part>>, slot: usize) -> Result<(), AllocE
 
 /// Keeps what the choice of a child settles, if that isn't kept yet.
 pub(crate) fn keep_part(
-    parts: &mut Vec<Option<Part>>,
+    parts: &mut Vec<Option<ChoiceShare>>,
     child: ChildPlace,
     subject: &Subject<'_>,
     layout: &Layout,
@@ -141,7 +141,7 @@ pub(crate) fn keep_part(
     requires nodes { HoldsNodes layout.now subject.now.nodes }
     ensures parts { AreParts subject.now layout.now parts.old.items
         → AreParts subject.now layout.now parts.new.items }
-    ensures there { OnOk result ((slot : ℕ) → IsSlot child slot → (part : APart)
+    ensures there { OnOk result ((slot : ℕ) → IsSlot child slot → (part : AChoiceShare)
         × (slice_get parts.new.items slot ≡ Some (Some part))) }
 {
     let slot = slot_of(child);
@@ -157,7 +157,7 @@ pub(crate) fn keep_part(
 #[cold]
 #[inline(never)]
 fn read_part(
-    parts: &mut Vec<Option<Part>>,
+    parts: &mut Vec<Option<ChoiceShare>>,
     slot: usize,
     child: ChildPlace,
     subject: &Subject<'_>,
@@ -171,10 +171,10 @@ fn read_part(
     requires nodes { HoldsNodes layout.now subject.now.nodes }
     ensures parts { AreParts subject.now layout.now parts.old.items
         → AreParts subject.now layout.now parts.new.items }
-    ensures there { OnOk result ((own : ℕ) → IsSlot child own → (part : APart)
+    ensures there { OnOk result ((own : ℕ) → IsSlot child own → (part : AChoiceShare)
         × (slice_get parts.new.items own ≡ Some (Some part))) }
 {
-    parts[slot] = Some(Part::new(subject)?);
+    parts[slot] = Some(ChoiceShare::new(subject)?);
     if let Some(part) = &mut parts[slot] {
         let walk = layout.settled_with(child);
         add_settled(part, subject, layout, walk);

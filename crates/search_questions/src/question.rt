@@ -12,7 +12,7 @@ ghost use Rattle.search_questions.specs.Standing.{Standing};
 ghost use Rattle.sysmem_tree.specs.Forest.{choices, settled};
 ghost use Rattle.sysmem_tree.specs.Selection.{IsPrefix, after};
 
-use crate::kept::Part;
+use crate::kept::ChoiceShare;
 use crate::levels::{Level, first_level, join_level, keep_part, reserve_level, slot_of};
 use conflict_finding::{Learnt, Subject, find_conflict_as};
 use std::alloc::AllocError;
@@ -31,7 +31,7 @@ pub struct Question<'a> {
     layout: Layout,
     prefix: Prefix,
     /// By the slot of the child that is chosen; none before the first choice.
-    parts: Vec<Option<Part>>,
+    parts: Vec<Option<ChoiceShare>>,
     /// By the number of choices.
     levels: Vec<Level>,
     /// What was learnt of participants where a conflict was looked for.

@@ -7,13 +7,13 @@ ghost use Rattle.search_questions.specs.Kept.{HasRoom, IsPartFor};
 ghost use Rattle.verdict_claims.specs.Asked.{asked_in};
 ghost use Rattle.sysmem_tree.specs.OpenGroups.{HasLeft, HoldsNodes};
 
-use crate::kept::Part;
+use crate::kept::ChoiceShare;
 use conflict_finding::Subject;
 use negotiation_inputs::Constraints;
 use sysmem_tree::{Layout, MOST_NODES, SettledNodes};
 
 /// Adds what is asked, if anything is.
-fn add_asked(part: &mut Part, subject: &Subject<'_>, asked: Option<&Constraints>)
+fn add_asked(part: &mut ChoiceShare, subject: &Subject<'_>, asked: Option<&Constraints>)
     requires { HasRoom part.old }
     ensures { (ps : List Participant) → IsPartFor subject.now part.old ps
         → IsPartFor subject.now part.new
@@ -26,7 +26,7 @@ fn add_asked(part: &mut Part, subject: &Subject<'_>, asked: Option<&Constraints>
 
 /// Adds what the nodes ask that a walk over the layout gives, to what is kept of no participant.
 pub(crate) fn add_settled(
-    part: &mut Part,
+    part: &mut ChoiceShare,
     subject: &Subject<'_>,
     layout: &Layout,
     walk: SettledNodes,

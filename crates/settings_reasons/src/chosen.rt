@@ -12,7 +12,7 @@ use std::alloc::{AllocError, Global};
 use sysmem_counts::Field;
 use sysmem_formats::{Offer, Pair, bytes_per_pixel};
 use sysmem_merge::Settings;
-use value_sources::{Derived, NamedParticipant, Side, Wishes, why_needed};
+use value_sources::{DerivedNumber, NamedParticipant, Side, Wishes, why_needed};
 
 /// Tells where the settings come from that were chosen for participants.
 pub fn add_settings(
@@ -47,7 +47,7 @@ fn add_count(items: &mut Items, participants: &[NamedParticipant<'_>], settings:
 }
 
 /// Tells a number, and where it comes from; refuses the items where memory was refused to that.
-fn add_derived(items: &mut Items, label: &'static str, derived: Result<Derived, AllocError>) {
+fn add_derived(items: &mut Items, label: &'static str, derived: Result<DerivedNumber, AllocError>) {
     match derived {
         Ok(derived) => add_number(items, label, &derived),
         Err(AllocError) => items.refuse(),
@@ -55,7 +55,7 @@ fn add_derived(items: &mut Items, label: &'static str, derived: Result<Derived, 
 }
 
 /// Tells a number, and where it comes from.
-fn add_number(items: &mut Items, label: &'static str, derived: &Derived) {
+fn add_number(items: &mut Items, label: &'static str, derived: &DerivedNumber) {
     let mut words = TextBuilder::new(items.alloc());
     words
         .put_number(derived.value)
@@ -224,7 +224,7 @@ fn add_sides(items: &mut Items, wishes: Wishes<'_, '_>) -> Result<(), AllocError
 }
 
 /// Tells where an image's width and height come from: both at once, if from the same.
-fn add_width(items: &mut Items, width: &Derived, height: &Derived) {
+fn add_width(items: &mut Items, width: &DerivedNumber, height: &DerivedNumber) {
     if width.why == height.why {
         let mut words = TextBuilder::new(items.alloc());
         words

@@ -10,7 +10,7 @@ use std::alloc::{AllocError, Global};
 use sysmem_counts::Field;
 use sysmem_formats::{ColourSpace, Modifier, Offer, PixelFormat};
 use sysmem_image::{ColourSet, entry_for};
-use value_sources::{Derived, NamedParticipant, Side, Wish, Wishes, format_words, put_has};
+use value_sources::{DerivedNumber, NamedParticipant, Side, Wish, Wishes, format_words, put_has};
 
 /// The name of an offer: `NV12 LINEAR REC709`, or `without an image`.
 pub(crate) fn offer_name(alloc: Global, offer: &Offer) -> TextBuilder {
@@ -333,11 +333,11 @@ fn put_pixels(text: &mut TextBuilder, wishes: Wishes<'_, '_>) {
 fn put_derived(
     text: &mut TextBuilder,
     start: &str,
-    derived: Result<Derived, AllocError>,
+    derived: Result<DerivedNumber, AllocError>,
     unit: &str,
 ) {
     match derived {
-        Ok(Derived { value, why }) => {
+        Ok(DerivedNumber { value, why }) => {
             text.put(start)
                 .put(" ")
                 .put_number(value)

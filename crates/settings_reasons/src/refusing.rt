@@ -90,7 +90,7 @@ pub(crate) fn offer_rows(
     colours: usize,
 ) -> Result<Vec<FailureRow>, AllocError> {
     let mut rows = Vec::new(alloc);
-    let mut pair: Vec<Refused> = Vec::new(alloc);
+    let mut pair: Vec<RefusedOffer> = Vec::new(alloc);
     for offer in offers {
         if is_next_pair(&pair, offer) {
             add_pair(&mut rows, &mut pair, colours)?;
@@ -118,7 +118,7 @@ pub(crate) fn add_offers(
 
 /// An offer that is refused, and why.
 #[derive(Drop)]
-struct Refused {
+struct RefusedOffer {
     offer: Offer,
     texts: Vec<Text>,
     distance: usize,
@@ -131,14 +131,14 @@ fn refused_by(
     participants: &[NamedParticipant<'_>],
     whole: bool,
     all: bool,
-) -> Result<Refused, AllocError> {
+) -> Result<RefusedOffer, AllocError> {
     let reasons = offer_reasons(alloc, offer, participants, whole)?;
     let distance = if all {
         distance_of(offer, &reasons, participants.len())
     } else {
         0
     };
-    Ok(Refused {
+    Ok(RefusedOffer {
         offer: *offer,
         texts: texts_of(alloc, Some(offer), &reasons, all)?,
         distance,
@@ -146,7 +146,7 @@ fn refused_by(
 }
 
 /// Whether an offer is of another pair than those before it.
-fn is_next_pair(before: &[Refused], offer: &Offer) -> bool {
+fn is_next_pair(before: &[RefusedOffer], offer: &Offer) -> bool {
     match before.first() {
         Some(first) => !are_one_pair(&first.offer, offer),
         None => false,
@@ -164,7 +164,7 @@ fn are_one_pair(a: &Offer, b: &Offer) -> bool {
 /// spaces for the same reasons.
 fn add_pair(
     rows: &mut Vec<FailureRow>,
-    offers: &mut Vec<Refused>,
+    offers: &mut Vec<RefusedOffer>,
     colours: usize,
 ) -> Result<(), AllocError> {
     let alloc = *rows.allocator();
@@ -192,7 +192,7 @@ fn name_of(alloc: Global, offer: &Offer, is_pair: bool) -> TextBuilder {
 
 /// Whether offers are all those of a pair in so many colour spaces, each refused for the same
 /// reasons.
-fn is_one_row(offers: &[Refused], colours: usize) -> bool {
+fn is_one_row(offers: &[RefusedOffer], colours: usize) -> bool {
     let Some(first) = offers.first() else {
         return false;
     };

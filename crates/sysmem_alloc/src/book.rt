@@ -95,7 +95,7 @@ impl Model for Book {
 
 /// An accepted action.
 #[derive(Clone, Copy, Debug, PartialEq, Eq)]
-pub struct Done {
+pub struct AcceptedAction {
     /// The node that was made, or else the node acted on.
     pub node: NodeId,
     /// Whether a domain waits for a decision now.
@@ -309,7 +309,7 @@ impl Book {
     /// node itself, and whether a domain waits for a decision now; or the tree's first
     /// refusal, and then nothing has changed. Each node and each domain that was there stays
     /// there, by its number. It takes no memory.
-    pub fn apply(&mut self, event: Event) -> Result<Done, Refusal>
+    pub fn apply(&mut self, event: Event) -> Result<AcceptedAction, Refusal>
         ensures accepted { IfOk result (λ done.
             applied self.old.state.tree event.node (deed_of event.action)
             ≡ Ok (record { tree = self.new.state.tree; node = done.node })) }
@@ -338,7 +338,7 @@ impl Book {
         add_if_ready(&self.tree, unready, &mut self.waiting);
         mark_for_first(&self.tree, none_waited, &self.waiting, &mut self.were_open);
         let ready = self.next_ready().is_some();
-        Ok(Done { node, ready })
+        Ok(AcceptedAction { node, ready })
     }
 
     /// Enters the decision of the domain that is to be decided next: a verdict that is optimal for

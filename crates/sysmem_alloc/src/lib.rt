@@ -22,6 +22,6 @@ mod ready;
 mod terms;
 mod verdicts;
 
-pub use book::{Book, Done};
+pub use book::{AcceptedAction, Book};
 pub use book_events::Entry;
 pub use frozen::Frozen;

@@ -15,15 +15,15 @@ ghost use Rattle.sysmem_tree.specs.Table.{makes_root};
 
 use crate::deciding::decide;
 use crate::holding::{Hold, in_hold};
-use crate::seat::{Prepared, Seat};
-use crate::shared::{Rules, Shared};
+use crate::seat::{PreparedHandle, Seat};
+use crate::shared::{Rules, SharedBook};
 use negotiation_inputs::Constraints;
 use once_cell::race::{Note, OnceBox};
 use std::alloc::{AllocError, Global};
 use std::sync::ledger::Ledger;
 use std::sync::{Arc, Wait};
 use std::thread::Threads;
-use sysmem_room::{Entered, FreshCell, Log, Outcome};
+use sysmem_room::{EnteredAction, FreshCell, Log, Outcome};
 use sysmem_search::Gate;
 use sysmem_tree::{Action, NodeKind, Refusal};
 
@@ -42,14 +42,14 @@ fn shared_again(asked: &Option<Arc<Constraints>>) -> Result<Option<Arc<Constrain
 /// Beside that the book as the action found and left it.
 pub(crate) fn enter<L: Ledger, G: Gate + Drop + Sync, R: Threads + Wait + Sync>(
     rt: &R,
-    shared: &Shared<L>,
+    shared: &SharedBook<L>,
     rules: &Rules<G>,
     log: &mut Log<L>,
     known: Option<&Outcome>,
     action: Action,
     copy: Action,
     fresh: Option<FreshCell>,
-) -> (Result<Entered<L>, Refusal>, Hold<L>)
+) -> (Result<EnteredAction<L>, Refusal>, Hold<L>)
     requires same { deed_of copy ≡ deed_of action }
     requires room { ends_node (kind_of (deed_of action)) ≡ false
         → length log.old.deeds + 2 ≤ log.old.places }
@@ -108,9 +108,9 @@ pub(crate) fn fresh_cell(alloc: Global) -> Result<(FreshCell, Arc<OnceBox<Outcom
     Ok((fresh, cell))
 }
 
-impl<L: Ledger, G: Gate + Drop> Prepared<L, G> {
+impl<L: Ledger, G: Gate + Drop> PreparedHandle<L, G> {
     /// What the handle of the further node holds, once it is made.
-    fn seated(self, entered: Entered<L>) -> Seat<L, G>
+    fn seated(self, entered: EnteredAction<L>) -> Seat<L, G>
         requires path { self.fresh.path ≡ next_path entered.before }
         requires begun { begun_by entered.kind ≡ Some self.fresh.begun }
         requires is_open { self.fresh.begun.state.is_open ≡ true }
@@ -123,7 +123,7 @@ impl<L: Ledger, G: Gate + Drop> Prepared<L, G> {
           platform = (arc_value self.shared).platform;
         } }
     {
-        let Prepared {
+        let PreparedHandle {
             shared,
             rules,
             fresh,
@@ -151,7 +151,7 @@ impl<L: Ledger, G: Gate + Drop + Sync> Seat<L, G> {
         copy: Action,
         fresh: Option<FreshCell>,
     ) -> (
-        Result<Entered<L>, Refusal>,
+        Result<EnteredAction<L>, Refusal>,
         Option<(Hold<L>, Note<Outcome>)>,
     )
         requires same { deed_of copy ≡ deed_of action }

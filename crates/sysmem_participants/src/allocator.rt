@@ -7,7 +7,7 @@ ghost use Rattle.sysmem_room.specs.Counting.{all_parts};
 ghost use Rattle.sysmem_search.specs.declared.wide.TheConstants.{MOST_WORKERS};
 
 use crate::seat::Seat;
-use crate::shared::{Rules, Shared};
+use crate::shared::{Rules, SharedBook};
 use crate::token::Token;
 use negotiation_inputs::Platform;
 use node_limits::Limits;
@@ -51,7 +51,7 @@ fn opened<L: Ledger, G: Gate + Drop + Sync>(
     let opened = Room::open(alloc, blank, platform)?;
     let room = Mutex::new(opened.room);
     let changed = Condvar::new();
-    let shared = Shared {
+    let shared = SharedBook {
         room,
         changed,
         platform: own,

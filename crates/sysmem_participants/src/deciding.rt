@@ -7,13 +7,13 @@ ghost use Rattle.sysmem_alloc.specs.State.{next_ready};
 ghost use Rattle.verdict_claims.specs.Claim.{IsTrueClaim};
 ghost use Rattle.sysmem_search.specs.declared.wide.TheConstants.{MOST_WORKERS};
 
-use crate::shared::{Rules, Shared};
+use crate::shared::{Rules, SharedBook};
 use std::alloc::{AllocError, Global};
 use std::sync::ledger::Ledger;
 use std::sync::{Arc, Wait};
 use std::thread::Threads;
 use sysmem_alloc::Frozen;
-use sysmem_room::{Seen, Turn};
+use sysmem_room::{SeenBook, Turn};
 use sysmem_search::{Gate, prove, search_wide};
 use verdict_claims::Claim;
 
@@ -86,9 +86,9 @@ fn claim_of<G: Gate + Sync, R: Threads + Sync>(
 /// left then.
 fn next_of<L: Ledger, R: Wait>(
     rt: &R,
-    shared: &Shared<L>,
+    shared: &SharedBook<L>,
     turn: Turn<L>,
-) -> (Option<(Frozen, Turn<L>)>, Seen<L>)
+) -> (Option<(Frozen, Turn<L>)>, SeenBook<L>)
     ensures frozen { option_map (λ next. next.0) result.0 ≡ frozen_of result.1 }
     ensures none { result.0 ≡ None → next_ready result.1.state ≡ None }
 {
@@ -103,10 +103,10 @@ fn next_of<L: Ledger, R: Wait>(
 /// where none waited.
 pub(crate) fn decide<L: Ledger, G: Gate + Drop + Sync, R: Threads + Wait + Sync>(
     rt: &R,
-    shared: &Shared<L>,
+    shared: &SharedBook<L>,
     rules: &Rules<G>,
     turn: Turn<L>,
-) -> Seen<L>
+) -> SeenBook<L>
     ensures { next_ready result.state ≡ None }
 {
     let mut turn = turn;

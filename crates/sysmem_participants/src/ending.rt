@@ -13,7 +13,7 @@ ghost use Rattle.sysmem_tree.specs.Table.{makes_root};
 use crate::acting::enter;
 use crate::holding::Hold;
 use crate::seat::Seat;
-use crate::shared::{Rules, Shared};
+use crate::shared::{Rules, SharedBook};
 use crate::stub::Stub;
 use once_cell::race::Note;
 use std::sync::Wait;
@@ -41,7 +41,7 @@ fn at_end(refusal: Refusal) -> Refusal
 /// thread's turn. Beside that the book as the action found and left it.
 fn end<L: Ledger, G: Gate + Drop + Sync, R: Threads + Wait + Sync>(
     rt: &R,
-    shared: &Shared<L>,
+    shared: &SharedBook<L>,
     rules: &Rules<G>,
     log: &mut Log<L>,
     known: Option<&Outcome>,

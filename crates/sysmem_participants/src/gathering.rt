@@ -7,12 +7,12 @@ ghost use Rattle.sysmem_room.specs.Counting.{actions_in};
 
 use crate::agreeing::stubs_agree;
 use crate::faults::{Audit, AuditFault};
-use crate::shared::Shared;
+use crate::shared::SharedBook;
 use crate::stub::Stub;
 use negotiation_inputs::Platform;
 use std::sync::ledger::{Ledger, Share};
 use std::sync::{Arc, Wait};
-use sysmem_room::{Room, Seen};
+use sysmem_room::{Room, SeenBook};
 
 /// A share with all parts and amounts of the stubs'.
 fn joined<L: Ledger>(start: Share<L>, stubs: Vec<Stub<L>>) -> Share<L>
@@ -57,7 +57,7 @@ fn are_for<L: Ledger>(platform: &Platform, stubs: &[Stub<L>]) -> bool
 fn audited<L: Ledger>(
     room: &mut Room<L>,
     stubs: Vec<Stub<L>>,
-) -> Result<(Audit, Seen<L>), (AuditFault, Seen<L>, Vec<Stub<L>>)>
+) -> Result<(Audit, SeenBook<L>), (AuditFault, SeenBook<L>, Vec<Stub<L>>)>
     ensures same { room.new ≡ room.old }
     ensures legal { IsBook room.old }
     ensures seen { MatchResult result (λ found. found.1 ≡ room.old)
@@ -84,7 +84,7 @@ fn audited<L: Ledger>(
 }
 
 /// One more owner of the collection of the first stub.
-fn shared_of<L: Ledger>(stubs: &[Stub<L>]) -> Result<Arc<Shared<L>>, AuditFault>
+fn shared_of<L: Ledger>(stubs: &[Stub<L>]) -> Result<Arc<SharedBook<L>>, AuditFault>
     ensures empty { length stubs.now ≡ 0 → result ≡ Err AuditFault.Stubs }
     ensures some { IfErr result (λ fault.
         0 < length stubs.now → fault ≡ AuditFault.NoMemory) }
@@ -108,7 +108,7 @@ fn shared_of<L: Ledger>(stubs: &[Stub<L>]) -> Result<Arc<Shared<L>>, AuditFault>
 pub fn audit<L: Ledger, R: Wait>(
     rt: &R,
     stubs: Vec<Stub<L>>,
-) -> Result<(Audit, Seen<L>), (AuditFault, Option<Seen<L>>, Vec<Stub<L>>)>
+) -> Result<(Audit, SeenBook<L>), (AuditFault, Option<SeenBook<L>>, Vec<Stub<L>>)>
     ensures book { IfOk result (λ found. IsBook found.1) }
     ensures agree { IfOk result (λ found. AgreesWith found.1 stubs.items found.0) }
     ensures some { IfOk result (λ _. 0 < vec_len stubs) }

@@ -10,19 +10,19 @@ ghost use Rattle.sysmem_room.specs.Refusals.{IsAnswer, IsDisputed, due};
 ghost use Rattle.sysmem_tree.specs.ActionKind.{deed_of, ends_node, kind_of};
 ghost use Rattle.sysmem_tree.specs.Table.{makes_root};
 
-use crate::shared::Shared;
+use crate::shared::SharedBook;
 use node_limits::Limits;
 use std::sync::Wait;
 use std::sync::ledger::Ledger;
-use sysmem_room::{Entered, FreshCell, Log, Outcome, Seen, Turn};
+use sysmem_room::{EnteredAction, FreshCell, Log, Outcome, SeenBook, Turn};
 use sysmem_tree::{Action, Refusal};
 
 /// The book as an action found it in a hold, and as it left it; for clauses alone: it takes no
 /// bytes.
 #[derive(Drop)]
 pub(crate) struct Hold<L: Ledger> {
-    pub(crate) found: Seen<L>,
-    pub(crate) left: Seen<L>,
+    pub(crate) found: SeenBook<L>,
+    pub(crate) left: SeenBook<L>,
 }
 
 /// Enters an action in one hold, in the book and in the log, and gives the turn to decide where that
@@ -31,14 +31,17 @@ pub(crate) struct Hold<L: Ledger> {
 /// what is known, and nothing else; and a refused one leaves it as it was.
 pub(crate) fn in_hold<L: Ledger, R: Wait>(
     rt: &R,
-    shared: &Shared<L>,
+    shared: &SharedBook<L>,
     log: &mut Log<L>,
     known: Option<&Outcome>,
     action: Action,
     copy: Action,
     fresh: Option<FreshCell>,
     limits: Limits,
-) -> (Result<(Entered<L>, Option<Turn<L>>), Refusal>, Hold<L>)
+) -> (
+    Result<(EnteredAction<L>, Option<Turn<L>>), Refusal>,
+    Hold<L>,
+)
     requires same { deed_of copy ≡ deed_of action }
     requires room { ends_node (kind_of (deed_of action)) ≡ false
         → length log.old.deeds + 2 ≤ log.old.places }

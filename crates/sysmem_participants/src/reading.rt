@@ -4,7 +4,7 @@ ghost use Rattle.std.specs.Prelude.{◌≡◌};
 ghost use Rattle.std.specs.Arc.{arc_value};
 ghost use Rattle.sysmem_alloc.specs.Book.{IsBook};
 
-use crate::shared::Shared;
+use crate::shared::SharedBook;
 use std::marker::Model;
 use std::sync::ledger::Ledger;
 use std::sync::{Arc, MutexGuard, Wait};
@@ -15,7 +15,7 @@ use sysmem_room::Room;
 /// its handles are for.
 #[derive(Drop)]
 pub struct Reader<L: Ledger> {
-    shared: Arc<Shared<L>>,
+    shared: Arc<SharedBook<L>>,
 }
 
 impl<L: Ledger> Model for Reader<L> {
@@ -44,7 +44,7 @@ impl<'a, L: Ledger> Model for Reading<'a, L> {
 
 impl<L: Ledger> Reader<L> {
     /// Of what the handles of a collection share.
-    pub(crate) fn new(shared: Arc<Shared<L>>) -> Reader<L>
+    pub(crate) fn new(shared: Arc<SharedBook<L>>) -> Reader<L>
         ensures { result ≡ (arc_value shared).platform }
     {
         Reader { shared }

@@ -7,7 +7,7 @@ ghost use Rattle.sysmem_participants.specs.Held.{IsSameBut, IsStillKnown, state_
 ghost use Rattle.sysmem_participants.specs.Told.{IsShownTo, IsToldBy, Tells};
 ghost use Rattle.sysmem_room.specs.Log.{begun_as};
 
-use crate::shared::{Rules, Shared};
+use crate::shared::{Rules, SharedBook};
 use crate::telling::told;
 use crate::view::View;
 use crate::waiting::wait_until_set;
@@ -22,7 +22,7 @@ use sysmem_tree::{NodeKind, Refusal};
 
 /// What each kind of handle holds; its node is open by its log.
 pub(crate) struct Seat<L: Ledger, G: Gate + Drop> {
-    pub(crate) shared: Arc<Shared<L>>,
+    pub(crate) shared: Arc<SharedBook<L>>,
     pub(crate) rules: Arc<Rules<G>>,
     pub(crate) log: Log<L>,
     /// Where the verdict of its domain is read.
@@ -55,8 +55,8 @@ impl<L: Ledger, G: Gate + Drop> Model for Seat<L, G> {
 
 /// What the handle of a further node will hold, taken before the lock.
 #[derive(Drop)]
-pub(crate) struct Prepared<L: Ledger, G: Gate + Drop> {
-    pub(crate) shared: Arc<Shared<L>>,
+pub(crate) struct PreparedHandle<L: Ledger, G: Gate + Drop> {
+    pub(crate) shared: Arc<SharedBook<L>>,
     pub(crate) rules: Arc<Rules<G>>,
     pub(crate) fresh: FreshLog,
     pub(crate) cell: Arc<OnceBox<Outcome>>,
@@ -73,7 +73,7 @@ impl<L: Ledger, G: Gate + Drop> Seat<L, G> {
         &self,
         begun: NodeKind,
         is_domain_root: bool,
-    ) -> Result<Prepared<L, G>, AllocError>
+    ) -> Result<PreparedHandle<L, G>, AllocError>
         ensures path { IfOk result (λ child.
             child.fresh.path ≡ self.now.path ++ (state_of self.now).children ∷ []) }
         ensures begun { IfOk result (λ child. child.fresh.begun ≡ begun_as begun is_domain_root) }
@@ -84,7 +84,7 @@ impl<L: Ledger, G: Gate + Drop> Seat<L, G> {
         let fresh = self
             .log
             .fresh_next(self.rules.alloc, begun, is_domain_root)?;
-        Ok(Prepared {
+        Ok(PreparedHandle {
             shared: Arc::try_clone(&self.shared)?,
             rules: Arc::try_clone(&self.rules)?,
             fresh,

@@ -14,16 +14,16 @@ use sysmem_search::Gate;
 
 /// A collection's book under its lock, where one waits for a verdict, and the platform for which
 /// it is decided.
-pub(crate) struct Shared<L: Ledger> {
+pub(crate) struct SharedBook<L: Ledger> {
     pub(crate) room: Mutex<Room<L>>,
     pub(crate) changed: Condvar,
     /// The one that its handles, and what is left of them, are for.
     pub(crate) platform: Platform,
 }
 
-impl<L: Ledger> Drop for Shared<L> {
+impl<L: Ledger> Drop for SharedBook<L> {
     fn drop(self) {
-        let Shared {
+        let SharedBook {
             room: _,
             changed: _,
             platform: _,

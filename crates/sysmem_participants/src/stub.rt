@@ -2,7 +2,7 @@
 
 ghost use Rattle.std.specs.Prelude.{◌≡◌, length};
 
-use crate::shared::Shared;
+use crate::shared::SharedBook;
 use once_cell::race::{Note, OnceBox};
 use std::marker::Model;
 use std::sync::Arc;
@@ -12,7 +12,7 @@ use sysmem_room::{Outcome, SpentLog};
 /// What is left of a handle that was spent: its node's path, its accepted actions, its share of the
 /// ledger, its cell and what it knows of that, and the platform. An audit wants one for each node.
 pub struct Stub<L: Ledger> {
-    pub(crate) shared: Arc<Shared<L>>,
+    pub(crate) shared: Arc<SharedBook<L>>,
     pub(crate) log: SpentLog<L>,
     pub(crate) cell: Arc<OnceBox<Outcome>>,
     pub(crate) note: Note<Outcome>,

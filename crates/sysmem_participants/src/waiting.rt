@@ -3,7 +3,7 @@
 ghost use Rattle.std.specs.Prelude.{◌≡◌, ◌≢◌, None, Some, IfSome};
 ghost use Rattle.once_cell.specs.Once.{cell_name};
 
-use crate::shared::Shared;
+use crate::shared::SharedBook;
 use once_cell::race::{Note, OnceBox};
 use std::sync::Wait;
 use std::sync::ledger::Ledger;
@@ -12,7 +12,7 @@ use sysmem_room::Outcome;
 /// Waits until a cell is set, and notes what is in it.
 pub(crate) fn wait_until_set<L: Ledger, R: Wait>(
     rt: &R,
-    shared: &Shared<L>,
+    shared: &SharedBook<L>,
     cell: &OnceBox<Outcome>,
     note: &mut Note<Outcome>,
 )

@@ -24,7 +24,7 @@ use input::{STDIN, is_one_file, open_input};
 use refusal::refusal_ending;
 pub use report_json::{run_as_json, run_as_json_with_proof};
 pub use script_check::check_file;
-pub use script_run::{Ended, Ending, RunFault, ending_of, run, run_leaving, run_with_proof};
+pub use script_run::{Ending, RunFault, RunOutcome, ending_of, run, run_leaving, run_with_proof};
 pub use script_threads::run_threads;
 use std::alloc::Global;
 use std::fs::File;
@@ -135,7 +135,7 @@ fn tell(rt: &HostRuntime, error: &Error) -> Ending {
 }
 
 /// Opens the script, then empties the certificate's file where one is asked for, and replays.
-fn run_file(rt: &HostRuntime, file: &str, proof: Option<&str>) -> Result<Ended, RunFault> {
+fn run_file(rt: &HostRuntime, file: &str, proof: Option<&str>) -> Result<RunOutcome, RunFault> {
     let script = open_input(rt, file)?;
     let mut reader = Counted::new(script);
     let mut writer = Counted::new(io::writer(rt));
@@ -154,7 +154,7 @@ fn run_last<R: Source, W: Sink>(
     alloc: Global,
     reader: &mut R,
     writer: &mut W,
-) -> Result<Ended, RunFault> {
+) -> Result<RunOutcome, RunFault> {
     let mut left = None;
     let ended = run_leaving(alloc, reader, writer, &mut left);
     mem::forget(left);
@@ -163,7 +163,7 @@ fn run_last<R: Source, W: Sink>(
 
 /// Opens the script, then empties the certificate's file where one is asked for, replays, and
 /// writes the objects of the report.
-fn tell_file(rt: &HostRuntime, file: &str, proof: Option<&str>) -> Result<Ended, RunFault> {
+fn tell_file(rt: &HostRuntime, file: &str, proof: Option<&str>) -> Result<RunOutcome, RunFault> {
     let script = open_input(rt, file)?;
     let mut reader = Counted::new(script);
     let mut writer = Counted::new(io::writer(rt));
@@ -182,7 +182,7 @@ fn play_file<T: Threads + Wait + Sync>(
     rt: &HostRuntime,
     threads: &T,
     file: &str,
-) -> Result<Ended, RunFault> {
+) -> Result<RunOutcome, RunFault> {
     let script = open_input(rt, file)?;
     let mut reader = Counted::new(script);
     let mut writer = Counted::new(io::writer(rt));
@@ -226,7 +226,7 @@ fn tell_script(rt: &HostRuntime, file: &str, page: Option<&str>) -> Result<Outco
 }
 
 /// Opens the script and then the certificate, and tests that.
-fn check_files(rt: &HostRuntime, file: &str, proof: &str) -> Result<Ended, RunFault> {
+fn check_files(rt: &HostRuntime, file: &str, proof: &str) -> Result<RunOutcome, RunFault> {
     let script = open_input(rt, file)?;
     let certificate = open_input(rt, proof)?;
     let mut reader = Counted::new(script);

@@ -32,9 +32,9 @@ mod verdicts;
 
 pub use agreeing::has_actions;
 pub use cell::FreshCell;
-pub use log::{Entered, FreshLog, Log, SpentLog};
+pub use log::{EnteredAction, FreshLog, Log, SpentLog};
 pub use outcome::{Outcome, Ruling};
 pub use refusing::{due, is_member};
-pub use room::{Opened, Room, Turn};
-pub use seen::Seen;
+pub use room::{OpenedRoom, Room, Turn};
+pub use seen::SeenBook;
 pub use verdicts::has_verdict;

@@ -80,14 +80,14 @@ impl FreshLog {
 /// An action that was entered, with the share of the node that it made; without parts, where it
 /// made none.
 #[derive(Drop)]
-pub struct Entered<L: Ledger> {
+pub struct EnteredAction<L: Ledger> {
     /// The log of the action's node before it, for clauses alone.
     pub(crate) before: Snapshot<Account>,
     pub(crate) kind: ActionKind,
     pub(crate) share: Share<L>,
 }
 
-impl<L: Ledger> Model for Entered<L> {
+impl<L: Ledger> Model for EnteredAction<L> {
     ghost use Rattle.std.specs.Prelude.{◌≡◌};
     ghost use Rattle.sysmem_room.specs.Counting.{nodes_by};
     ghost use Rattle.sysmem_room.specs.Log.{EnteredFacts};
@@ -99,7 +99,7 @@ impl<L: Ledger> Model for Entered<L> {
     ghost invariant = { λ e. (e.share.parts ≡ nodes_by e.kind) × (e.share.amount ≡ 0) };
 }
 
-impl<L: Ledger> Entered<L> {
+impl<L: Ledger> EnteredAction<L> {
     /// The log of the node that was made, in the memory that was taken for it.
     pub fn into_log(self, fresh: FreshLog) -> Log<L>
         requires path { fresh.path ≡ next_path self.before }
@@ -108,7 +108,7 @@ impl<L: Ledger> Entered<L> {
         ensures begun { result.begun ≡ fresh.begun }
         ensures empty { result.deeds ≡ [] }
     {
-        let Entered {
+        let EnteredAction {
             share,
             before: _,
             kind: _,

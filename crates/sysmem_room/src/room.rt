@@ -23,11 +23,11 @@ ghost use Rattle.sysmem_tree.specs.Tree.{applied};
 use crate::account::Account;
 use crate::agreeing::{has_actions, has_placed};
 use crate::cell::{DomainCell, FreshCell, keep, publish_action, publish_decision};
-use crate::log::{Entered, Log};
+use crate::log::{EnteredAction, Log};
 use crate::outcome::{Outcome, Ruling};
 use crate::places::Places;
 use crate::refusing::{due, unforeseen};
-use crate::seen::Seen;
+use crate::seen::SeenBook;
 use crate::verdicts::has_verdict;
 use negotiation_inputs::Platform;
 use node_limits::{Limits, Offspring, tree_refusal};
@@ -99,7 +99,7 @@ impl<L: Ledger> Model for Room<L> {
 
 /// A new collection.
 #[derive(Drop)]
-pub struct Opened<L: Ledger> {
+pub struct OpenedRoom<L: Ledger> {
     /// What lies under its lock.
     pub room: Room<L>,
     /// What the root's handle knows of it.
@@ -129,7 +129,11 @@ fn parts_of(kind: ActionKind) -> u64
 impl<L: Ledger> Room<L> {
     /// A new collection that is decided for this platform: a root token and nothing else.
     /// `AllocError` where memory is refused, and then nothing is left of it.
-    pub fn open(alloc: Global, blank: Blank, platform: Platform) -> Result<Opened<L>, AllocError>
+    pub fn open(
+        alloc: Global,
+        blank: Blank,
+        platform: Platform,
+    ) -> Result<OpenedRoom<L>, AllocError>
         requires name { blank.name ≡ L.name }
         requires ledger { blank.parts ≡ L.parts }
         requires parts { blank.parts ≡ all_parts }
@@ -157,7 +161,7 @@ impl<L: Ledger> Room<L> {
             is_deciding: false,
         };
         let log = Log { account, share };
-        Ok(Opened { room, log, cell })
+        Ok(OpenedRoom { room, log, cell })
     }
 
     /// The book.
@@ -168,10 +172,10 @@ impl<L: Ledger> Room<L> {
     }
 
     /// The book as it stands, for clauses alone.
-    pub fn seen(&self) -> Seen<L>
+    pub fn seen(&self) -> SeenBook<L>
         ensures { result ≡ self.now }
     {
-        Seen::of(&self.book)
+        SeenBook::of(&self.book)
     }
 
     /// Enters an action on the node at this path, counts it in the share of who acts, and publishes
@@ -311,7 +315,7 @@ impl<L: Ledger> Room<L> {
         copy: Action,
         fresh: Option<FreshCell>,
         limits: Limits,
-    ) -> Result<(Entered<L>, Option<Turn<L>>), Refusal>
+    ) -> Result<(EnteredAction<L>, Option<Turn<L>>), Refusal>
         requires same { deed_of copy ≡ deed_of action }
         requires room { ends_node (kind_of (deed_of action)) ≡ false
             → length log.old.deeds + 2 ≤ log.old.places }
@@ -369,7 +373,7 @@ impl<L: Ledger> Room<L> {
         match self.enter(Event { node, action }, path, fresh, &mut log.share) {
             Ok((_node, share)) => {
                 log.account.push(copy);
-                let entered = Entered {
+                let entered = EnteredAction {
                     before,
                     kind,
                     share,

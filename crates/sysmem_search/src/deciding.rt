@@ -17,7 +17,7 @@ use verdict_claims::{Base, Chosen, MOST_SELECTIONS, Verdict};
 
 /// What a search found.
 #[derive(Debug, Drop)]
-pub struct Found {
+pub struct SearchResult {
     /// `Chosen`, `IntersectionEmpty` or `TooMany`.
     pub verdict: Verdict,
     /// How many prefixes were visited, the empty one included; at most `u64::MAX`.
@@ -38,7 +38,7 @@ pub fn search<G: Gate>(
     domain: DomainId,
     base: Option<&Base>,
     gate: &G,
-) -> Result<Found, AllocError>
+) -> Result<SearchResult, AllocError>
     requires domain { HasDomain tree.now.nodes domain }
     requires ready { is_ready tree.now domain ≡ true }
     requires base { IsGivenBase platform.now tree.now.nodes domain
@@ -51,7 +51,7 @@ pub fn search<G: Gate>(
         found.verdict found.visits) }
 {
     if tree.count_selections(domain) > MOST_SELECTIONS {
-        return Ok(Found {
+        return Ok(SearchResult {
             verdict: Verdict::TooMany,
             visits: 0,
         });
@@ -60,7 +60,7 @@ pub fn search<G: Gate>(
     let mut question = Question::new(&subject)?;
     let mut visits = 0;
     if !search_from(&mut question, gate, &mut visits)? {
-        return Ok(Found {
+        return Ok(SearchResult {
             verdict: Verdict::IntersectionEmpty,
             visits,
         });
@@ -68,7 +68,7 @@ pub fn search<G: Gate>(
     let Some(settings) = question.best() else {
         unreachable!();
     };
-    Ok(Found {
+    Ok(SearchResult {
         verdict: Verdict::Chosen(Chosen::new(question.into_prefix(), settings)),
         visits,
     })

@@ -14,7 +14,7 @@ mod refuting;
 mod searching;
 mod wide;
 
-pub use deciding::{Found, search};
+pub use deciding::{SearchResult, search};
 pub use gate::{Gate, NoGate};
 pub use proving::prove;
 pub use wide::{MOST_WORKERS, search_wide};

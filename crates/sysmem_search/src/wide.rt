@@ -9,7 +9,7 @@ ghost use Rattle.sysmem_search.specs.Wide.{IsUnmetAt, IsFirstAt, IsFirstIn, AreF
 ghost use Rattle.sysmem_tree.specs.Domain.{HasDomain, is_ready};
 ghost use Rattle.sysmem_tree.specs.Selection.{IsPrefix};
 
-use crate::deciding::{Found, search};
+use crate::deciding::{SearchResult, search};
 use crate::gate::Gate;
 use crate::searching::search_from;
 use conflict_finding::Subject;
@@ -49,7 +49,7 @@ impl Share {
     }
 
     /// As the answer of a search of all choices.
-    fn into_found(self) -> Found
+    fn into_found(self) -> SearchResult
         ensures { result.verdict ≡ verdict_of self.chosen }
     {
         let Share { chosen, visits } = self;
@@ -57,7 +57,7 @@ impl Share {
             Some(chosen) => Verdict::Chosen(chosen),
             None => Verdict::IntersectionEmpty,
         };
-        Found { verdict, visits }
+        SearchResult { verdict, visits }
     }
 }
 
@@ -219,7 +219,7 @@ pub fn search_wide<'a, G: Gate + Sync, R: Threads + Sync>(
     base: Option<&'a Base>,
     gate: &G,
     workers: u32,
-) -> Result<Found, AllocError>
+) -> Result<SearchResult, AllocError>
     requires domain { HasDomain tree.now.nodes domain }
     requires ready { is_ready tree.now domain ≡ true }
     requires base { IsGivenBase platform.now tree.now.nodes domain

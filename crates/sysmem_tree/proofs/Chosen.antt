@@ -4,7 +4,7 @@ use Rattle.std.specs.Prelude.{map, option_and_then, IsSomeAnd}
 use Rattle.std.specs.Option.{option_or}
 use Rattle.std.proofs.lemmas.List.{append_assoc}
 use Rattle.std.proofs.lemmas.Option.{same_Some}
-use Rattle.sysmem_tree.specs.declared.layout.Place.{Place}
+use Rattle.sysmem_tree.specs.declared.layout.LayoutPlace.{LayoutPlace}
 use Rattle.sysmem_tree.specs.Forest.{Forest, Empty, Plain, Group, each, kids_else_rest, choices, settled}
 use Rattle.sysmem_tree.specs.Layout.{Spot, start, first_place, AreLaid}
 use Rattle.sysmem_tree.specs.Prefix.{Alternatives, next_alternatives, AreOpen}
@@ -23,7 +23,7 @@ chosen d c = option_and_then (λ es. slice_get es c) (choices d)
 abbrev pub place_of : Forest Spot → ℕ
 place_of d = start d 0
 
-module _ (ps : List Place) where
+module _ (ps : List LayoutPlace) where
   -- what is laid out is open
   pub all_open : (w : Forest Spot) (to : ℕ) (next : Option ℕ) → AreLaid false ps w to next → to ≤ 128 → AreOpen ps w next
   all_open Empty to next l small = tt
@@ -36,10 +36,10 @@ module _ (ps : List Place) where
 
   -- the entry of an alternative says which group is next once it is chosen
   abbrev GoesOn : Forest Spot → Forest Spot → Option ℕ → Type 0
-  GoesOn kid e next = IsSomeAnd (slice_get ps (place_of kid)) (λ (p : Place). p.next ≡ option_or (first_place e) next)
+  GoesOn kid e next = IsSomeAnd (slice_get ps (place_of kid)) (λ (p : LayoutPlace). p.next ≡ option_or (first_place e) next)
 
-  goes_on : (i : ℕ) (p : Place) (n : Option ℕ) → slice_get ps i ≡ Some p → p.next ≡ n → IsSomeAnd (slice_get ps i) (λ (p : Place). p.next ≡ n)
-  goes_on i p n here is = subst (λ o. IsSomeAnd o (λ (p : Place). p.next ≡ n)) (sym here) is
+  goes_on : (i : ℕ) (p : LayoutPlace) (n : Option ℕ) → slice_get ps i ≡ Some p → p.next ≡ n → IsSomeAnd (slice_get ps i) (λ (p : LayoutPlace). p.next ≡ n)
+  goes_on i p n here is = subst (λ o. IsSomeAnd o (λ (p : LayoutPlace). p.next ≡ n)) (sym here) is
 
   alternative : (kids : Forest Spot) (to : ℕ) (next : Option ℕ) → AreLaid true ps kids to next → to ≤ 128 → (c : ℕ) (kid : Forest Spot) → slice_get (each kids) c ≡ Some kid
       → AreOpen ps kid next × GoesOn kid kid next
@@ -97,7 +97,7 @@ module _ (ps : List Place) where
     kid = st.kid;
     is_kid = st.is_kid;
     open_after = (st.open_after, open');
-    goes_on_after = subst (λ n. IsSomeAnd (slice_get ps (place_of st.kid)) (λ (p : Place). p.next ≡ n)) (sym (or_assoc (first_place k) (first_place rest) next)) st.goes_on_after;
+    goes_on_after = subst (λ n. IsSomeAnd (slice_get ps (place_of st.kid)) (λ (p : LayoutPlace). p.next ≡ n)) (sym (or_assoc (first_place k) (first_place rest) next)) st.goes_on_after;
     front = s ∷ st.front;
     back = st.back ++ settled rest;
     settled_before = ap (λ x. s ∷ (x ++ settled rest)) st.settled_before ∙ ap (λ x. s ∷ x) (append_assoc st.front st.back (settled rest));
@@ -115,7 +115,7 @@ module _ (ps : List Place) where
     kid = st.kid;
     is_kid = st.is_kid;
     open_after = (open_now, st.open_after);
-    goes_on_after = subst (λ n. IsSomeAnd (slice_get ps (place_of st.kid)) (λ (p : Place). p.next ≡ n)) (sym (ap (λ o. option_or (option_or o (first_place r)) next) none.1)) st.goes_on_after;
+    goes_on_after = subst (λ n. IsSomeAnd (slice_get ps (place_of st.kid)) (λ (p : LayoutPlace). p.next ≡ n)) (sym (ap (λ o. option_or (option_or o (first_place r)) next) none.1)) st.goes_on_after;
     front = s ∷ (settled kids ++ st.front);
     back = st.back;
     settled_before = ap (λ x. s ∷ (settled kids ++ x)) st.settled_before ∙ ap (λ x. s ∷ x) (sym (append_assoc (settled kids) st.front st.back));
@@ -145,7 +145,7 @@ module _ (ps : List Place) where
         kid = kid;
         is_kid = there;
         open_after = (open', o.1);
-        goes_on_after = subst (λ n. IsSomeAnd (slice_get ps (place_of kid)) (λ (p : Place). p.next ≡ n)) (sym (or_assoc (first_place kid) (first_place rest) next)) on;
+        goes_on_after = subst (λ n. IsSomeAnd (slice_get ps (place_of kid)) (λ (p : LayoutPlace). p.next ≡ n)) (sym (or_assoc (first_place kid) (first_place rest) next)) on;
         front = s ∷ [];
         back = settled rest;
         settled_before = refl;

@@ -4,7 +4,7 @@ use Rattle.std.specs.Prelude.{IsSome, IfSome, IsSomeAnd, option_map, option_and_
 use Rattle.std.specs.Option.{option_or}
 use Rattle.std.proofs.lemmas.Option.{same_Some, slice_get_within, get_or_from_slice_get}
 use Rattle.sysmem_tree.specs.declared.layout.Layout.{Layout}
-use Rattle.sysmem_tree.specs.declared.layout.Place.{Place}
+use Rattle.sysmem_tree.specs.declared.layout.LayoutPlace.{LayoutPlace}
 use Rattle.sysmem_tree.specs.Forest.{Forest, Empty, Plain, Group, each, choices, relabel, first_group}
 use Rattle.sysmem_tree.specs.Layout.{Spot, start, first_place, IsLayout, HoldNumbers}
 use Rattle.sysmem_tree.specs.OpenGroups.{node_of, Leaves, IsFirstOpen, IsChildPlace, HasChild}
@@ -62,17 +62,17 @@ module _ (layout : Layout) (d : Forest ℕ) (cs : List ℕ) (k : ℕ) (left : Fo
   prefix_steps h = let (f, _, st) = walk_on layout.places left k [] leaves.stands (is_prefix_of_spots h) in (f, st)
 
 -- a group stands in the layout
-pub group_stands : (ps : List Place) (left : Forest Spot) (g : Alternatives Spot) → AreOpen ps left None → next_alternatives left ≡ Some g → Stands ps g
+pub group_stands : (ps : List LayoutPlace) (left : Forest Spot) (g : Alternatives Spot) → AreOpen ps left None → next_alternatives left ≡ Some g → Stands ps g
 group_stands ps left g open' is = subst (λ o. IfSome o (Stands ps)) is (stands ps left None open')
 
 -- a place that is read names a node
-pub place_there : (ps : List Place) (i : ℕ) (d : Place) (many : ℕ) → i < 128 → length ps ≡ 128 → HoldNumbers many ps → (get_or ps i d).node < many
+pub place_there : (ps : List LayoutPlace) (i : ℕ) (d : LayoutPlace) (many : ℕ) → i < 128 → length ps ≡ 128 → HoldNumbers many ps → (get_or ps i d).node < many
 place_there ps i d many less long holds =
     let (p, there, _) = front ps i (omega (arith, less, long)) in
-    subst (λ (q : Place). q.node < many) (sym (get_or_from_slice_get ps i p d there)) (holds i p there)
+    subst (λ (q : LayoutPlace). q.node < many) (sym (get_or_from_slice_get ps i p d there)) (holds i p there)
 
 -- at the start
-pub opens_first : (layout : Layout) (d : Forest ℕ) (p : Place) (at : Option ℕ) → IsLayout layout d → (get_or layout.places layout.start p).next ≡ at → IsFirstOpen layout d [] at
+pub opens_first : (layout : Layout) (d : Forest ℕ) (p : LayoutPlace) (at : Option ℕ) → IsLayout layout d → (get_or layout.places layout.start p).next ≡ at → IsFirstOpen layout d [] at
 opens_first layout d p at laid is = record {
   left = laid.spots;
   leaves = record { leads = ap (λ x. Some x) (sym laid.numbers); stands = all_open layout.places laid.spots 128 None laid.laid (omega arith) };
@@ -84,7 +84,7 @@ module _ (layout : Layout) (d : Forest ℕ) (cs : List ℕ) (i : ℕ) (h : IsFir
   pub group_within : i < 128
   group_within = (shown_at layout.places h.left i (h.first, h.leaves.stands)).0
 
-  pub group_shown : (p : Place) → IfSome (after d cs) (λ e. Some ((get_or layout.places i p).node, (get_or layout.places i p).children) ≡ first_group e)
+  pub group_shown : (p : LayoutPlace) → IfSome (after d cs) (λ e. Some ((get_or layout.places i p).node, (get_or layout.places i p).children) ≡ first_group e)
   group_shown p = subst (λ o. IfSome o (λ e. Some ((get_or layout.places i p).node, (get_or layout.places i p).children) ≡ first_group e)) (sym h.leaves.leads)
       (sym ((shown_at layout.places h.left i (h.first, h.leaves.stands)).1 p))
 
@@ -137,11 +137,11 @@ module _ (layout : Layout) (d : Forest ℕ) (cs : List ℕ) (k at : ℕ) (h : Is
         leads = leads_on layout d cs k h.left h.leaves f is;
       }
 
-  pub opens_after : (p : Place) (next : Option ℕ) → (get_or layout.places at p).next ≡ next → IsFirstOpen layout d (cs ++ k ∷ []) next
+  pub opens_after : (p : LayoutPlace) (next : Option ℕ) → (get_or layout.places at p).next ≡ next → IsFirstOpen layout d (cs ++ k ∷ []) next
   opens_after p next is =
       let s = child_steps in
-      let on : IsSomeAnd (slice_get layout.places at) (λ (q : Place). q.next ≡ option_or (first_place s.left) None) =
-      subst (λ j. IsSomeAnd (slice_get layout.places j) (λ (q : Place). q.next ≡ option_or (first_place s.left) None)) (ap (λ x. start x 0) s.same_kid ∙ h.here) s.step.goes_on_after in
+      let on : IsSomeAnd (slice_get layout.places at) (λ (q : LayoutPlace). q.next ≡ option_or (first_place s.left) None) =
+      subst (λ j. IsSomeAnd (slice_get layout.places j) (λ (q : LayoutPlace). q.next ≡ option_or (first_place s.left) None)) (ap (λ x. start x 0) s.same_kid ∙ h.here) s.step.goes_on_after in
       record {
         left = s.left;
         leaves = record { leads = s.leads; stands = s.step.open_after };

@@ -2,8 +2,8 @@
 use Rattle.std.proofs.Common.{◌≡◌, ◌≢◌, ◌≤◌, ◌<◌, ℕ, zero, suc, ◌+◌, Bool, true, false, List, [], ◌∷◌, Option, Some, None, length, slice_get, slice_set, refl, sym, ◌∙◌, ap, subst, arith}
 use Rattle.std.specs.Prelude.{if◌then◌else◌}
 use Rattle.std.specs.Option.{option_or}
-use Rattle.sysmem_tree.specs.declared.layout.Laid.{Laid}
-use Rattle.sysmem_tree.specs.declared.layout.Place.{Place}
+use Rattle.sysmem_tree.specs.declared.layout.LaidNodes.{LaidNodes}
+use Rattle.sysmem_tree.specs.declared.layout.LayoutPlace.{LayoutPlace}
 use Rattle.sysmem_tree.specs.declared.state.NodeKind.{NodeKind}
 use Rattle.sysmem_tree.specs.declared.state.NodeKind.TheVariants as kinds
 use Rattle.sysmem_tree.specs.Forest.{Forest, Empty, Plain, Group, each, relabel}
@@ -31,7 +31,7 @@ set_other (x ∷ xs) (suc i) y zero other = refl
 set_other (x ∷ xs) (suc i) y (suc k) other = set_other xs i y k (λ e. other (ap suc e))
 
 -- a layout starts before its end
-pub starts_before : (g : Bool) (ps : List Place) (w : Forest Spot) (to : ℕ) (next : Option ℕ) → AreLaid g ps w to next → start w to ≤ to
+pub starts_before : (g : Bool) (ps : List LayoutPlace) (w : Forest Spot) (to : ℕ) (next : Option ℕ) → AreLaid g ps w to next → start w to ≤ to
 starts_before g ps Empty to next l = omega arith
 starts_before g ps (Plain s kids rest) to next l =
     let a = starts_before false ps kids (start rest to) (behind g rest next) l.1 in
@@ -41,7 +41,7 @@ starts_before g ps (Group s kids rest) to next l =
     let b = starts_before g ps rest to next l.2 in omega (arith, a, b, l.0.kids_here)
 
 -- a layout stays where no place from its start on changes
-pub still_laid : (ps qs : List Place) (g : Bool) (w : Forest Spot) (to : ℕ) (next : Option ℕ) → AreLaid g ps w to next
+pub still_laid : (ps qs : List LayoutPlace) (g : Bool) (w : Forest Spot) (to : ℕ) (next : Option ℕ) → AreLaid g ps w to next
     → ((k : ℕ) → start w to ≤ k → slice_get qs k ≡ slice_get ps k) → AreLaid g qs w to next
 still_laid ps qs g Empty to next l same = l
 still_laid ps qs g (Plain s kids rest) to next l same =
@@ -69,7 +69,7 @@ size_tree kinds.Collection i a b = refl
 
 -- a place by what it shows
 same_place : (i : ℕ) (k : Bool) (c c' e e' : ℕ) (n n' : Option ℕ) → c ≡ c' → e ≡ e' → n ≡ n'
-    → Path Place (record { node = i; is_group = k; children = c; end = e; next = n }) (record { node = i; is_group = k; children = c'; end = e'; next = n' })
+    → Path LayoutPlace (record { node = i; is_group = k; children = c; end = e; next = n }) (record { node = i; is_group = k; children = c'; end = e'; next = n' })
 same_place i k c c' e e' n n' p q r = rw (p, q, r) refl
 
 -- what is behind a tree and its neighbours
@@ -84,19 +84,19 @@ goes_group false s kids rest next = refl
 
 -- a child is laid out in front of the others: below it come its own
 -- children, laid out before the others
-module _ (g : Bool) (ps qs : List Place) (i to : ℕ) (next : Option ℕ) (a b : Forest ℕ) (own others : Laid)
+module _ (g : Bool) (ps qs : List LayoutPlace) (i to : ℕ) (next : Option ℕ) (a b : Forest ℕ) (own others : LaidNodes)
     (rest : Lays g ps b others to next) (kept : (k : ℕ) → others.start ≤ k → slice_get qs k ≡ slice_get ps k)
     (place : ℕ) (before : suc place ≡ own.start) (room : place < length qs) where
   abbrev spot : Spot
   spot = record { place = place; node = i }
 
-  abbrev entry : Bool → Place
+  abbrev entry : Bool → LayoutPlace
   entry k = record { node = i; is_group = k; children = own.children; end = others.start; next = if k then Some place else own.next }
 
-  abbrev made : Bool → Laid
+  abbrev made : Bool → LaidNodes
   made k = record { start = place; children = others.children + 1; next = if g then next else (if k then Some place else own.next) }
 
-  abbrev written : Bool → List Place
+  abbrev written : Bool → List LayoutPlace
   written k = slice_set qs place (entry k)
 
   module _ (k : Bool) (kids : Lays k qs a own others.start others.next) where

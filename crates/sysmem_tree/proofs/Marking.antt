@@ -5,13 +5,13 @@ use Rattle.std.proofs.lemmas.Bool.{cases_eq, ne_eqb}
 use Rattle.std.proofs.lemmas.Grind.{get_or-set_at}
 use Rattle.std.proofs.lemmas.List.{get_or-set_other}
 use Rattle.std.proofs.lemmas.Option.{same_Some}
-use Rattle.sysmem_tree.specs.declared.layout.Place.{Place}
+use Rattle.sysmem_tree.specs.declared.layout.LayoutPlace.{LayoutPlace}
 use Rattle.sysmem_tree.specs.Layout.{Spot, HoldNumbers}
 use Rattle.sysmem_tree.specs.Selection.{after}
 use Rattle.sysmem_tree.proofs.Settling.{Meets, past, is_at, is_met}
 
 -- what is read where there is no place
-abbrev pub nowhere : Place
+abbrev pub nowhere : LayoutPlace
 nowhere = record { node = 0; is_group = false; children = 0; end = 0; next = None }
 
 or_true : (b : Bool) → (b || true) ≡ true
@@ -35,7 +35,7 @@ marked_on marks n s rest k less same = elim (cases_eq k n) [
 ]
 
 -- one step of a walk that marks
-pub mark_next : (ps : List Place) (to at after : ℕ) (d : Place) (marks : List Bool) (ss : List Spot) (all : ℕ → Bool) → length marks ≡ 128 → HoldNumbers 128 ps → at < to → Meets ps to at ss
+pub mark_next : (ps : List LayoutPlace) (to at after : ℕ) (d : LayoutPlace) (marks : List Bool) (ss : List Spot) (all : ℕ → Bool) → length marks ≡ 128 → HoldNumbers 128 ps → at < to → Meets ps to at ss
     → after ≡ past (get_or ps at d) at → ((k : ℕ) → (get_or marks k false || list_any (is_at k) ss) ≡ all k)
     → (rest : List Spot) × Meets ps to after rest × ((k : ℕ) → (get_or (slice_set marks (get_or ps at d).node true) k false || list_any (is_at k) rest) ≡ all k)
 mark_next ps to at after d marks ss all long hold less m is so_far =
@@ -49,9 +49,9 @@ mark_next ps to at after d marks ss all long hold less m is so_far =
     )
 
 -- a written place names a node too
-pub hold_written : (many : ℕ) (ps : List Place) (i : ℕ) (q : Place) → HoldNumbers many ps → q.node < many → HoldNumbers many (slice_set ps i q)
+pub hold_written : (many : ℕ) (ps : List LayoutPlace) (i : ℕ) (q : LayoutPlace) → HoldNumbers many ps → q.node < many → HoldNumbers many (slice_set ps i q)
 hold_written many [] i q all less k p is = absurd (cc)
-hold_written many (x ∷ ps) zero q all less zero p is = subst (λ (y : Place). y.node < many) (same_Some q p is) less
+hold_written many (x ∷ ps) zero q all less zero p is = subst (λ (y : LayoutPlace). y.node < many) (same_Some q p is) less
 hold_written many (x ∷ ps) zero q all less (suc k) p is = all (suc k) p is
 hold_written many (x ∷ ps) (suc i) q all less zero p is = all zero p is
 hold_written many (x ∷ ps) (suc i) q all less (suc k) p is = hold_written many ps i q (λ j. all (suc j)) less k p is
@@ -59,7 +59,7 @@ hold_written many (x ∷ ps) (suc i) q all less (suc k) p is = hold_written many
 -- at first none but the first does, and none is marked
 pub hold_first : (many : ℕ) → 0 < many → (long : ℕ) → HoldNumbers many (replicate long nowhere)
 hold_first many some zero k p is = absurd (cc)
-hold_first many some (suc long) zero p is = subst (λ (y : Place). y.node < many) (same_Some nowhere p is) some
+hold_first many some (suc long) zero p is = subst (λ (y : LayoutPlace). y.node < many) (same_Some nowhere p is) some
 hold_first many some (suc long) (suc k) p is = hold_first many some long k p is
 
 pub none_marked : (many k : ℕ) → get_or (replicate many false) k false ≡ false

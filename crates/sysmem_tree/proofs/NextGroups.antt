@@ -4,7 +4,7 @@ use Rattle.std.specs.Prelude.{option_map, IfSome, IsSome, IsSomeAnd}
 use Rattle.std.specs.Option.{option_or}
 use Rattle.std.proofs.lemmas.Option.{same_Some, none-some, get_or_from_slice_get}
 use Rattle.sysmem_tree.specs.declared.layout.Layout.{Layout}
-use Rattle.sysmem_tree.specs.declared.layout.Place.{Place}
+use Rattle.sysmem_tree.specs.declared.layout.LayoutPlace.{LayoutPlace}
 use Rattle.sysmem_tree.specs.Forest.{Forest, Empty, Plain, Group, each, relabel, first_group}
 use Rattle.sysmem_tree.specs.Layout.{Spot, first_place, IsLayout}
 use Rattle.sysmem_tree.specs.Prefix.{Alternatives, next_alternatives, AreOpen}
@@ -37,24 +37,24 @@ first_shown (Plain s kids rest) = ap (λ o. option_or o (first_group (relabel no
 first_shown (Group s kids rest) = ap (λ n. Some (s.node, n)) (many_relabel kids)
 
 -- what was told of the forest of places
-abbrev pub Told : List Place → Option ℕ → Forest Spot → Type 0
+abbrev pub Told : List LayoutPlace → Option ℕ → Forest Spot → Type 0
 Told ps at e = (at ≡ first_place e) × AreOpen ps e None
 
 -- what the entry at a place shows is the first group
-abbrev ShownAt : List Place → Forest Spot → ℕ → Type 0
-ShownAt ps e i = (d : Place) → first_group (relabel node_of e) ≡ Some ((get_or ps i d).node, (get_or ps i d).children)
+abbrev ShownAt : List LayoutPlace → Forest Spot → ℕ → Type 0
+ShownAt ps e i = (d : LayoutPlace) → first_group (relabel node_of e) ≡ Some ((get_or ps i d).node, (get_or ps i d).children)
 
 -- the place of the next group has its node and its number of children
-pub shown_at : (ps : List Place) (e : Forest Spot) (i : ℕ) → Told ps (Some i) e
+pub shown_at : (ps : List LayoutPlace) (e : Forest Spot) (i : ℕ) → Told ps (Some i) e
     → (i < 128) × ShownAt ps e i
 shown_at ps e i told = by (next_alternatives e) refl (stands ps e None told.1) where
   by : (o : Option (Alternatives Spot)) → next_alternatives e ≡ o → IfSome o (Stands ps) → (i < 128) × ShownAt ps e i
   by None is_none st = absurd (none-some i (sym (no_first e is_none) ∙ sym told.0))
-  by (Some g) is_some st = at (slice_get ps i) refl (subst (λ k. IsSomeAnd (slice_get ps k) (λ (q : Place). (q.node ≡ g.group.node) × (q.children ≡ length (each g.kids)))) (sym place) st.entry) where
+  by (Some g) is_some st = at (slice_get ps i) refl (subst (λ k. IsSomeAnd (slice_get ps k) (λ (q : LayoutPlace). (q.node ≡ g.group.node) × (q.children ≡ length (each g.kids)))) (sym place) st.entry) where
     place : i ≡ g.group.place
     place = same_Some i g.group.place (told.0 ∙ first_is e g is_some)
 
-    at : (o : Option Place) → slice_get ps i ≡ o → IsSomeAnd o (λ (q : Place). (q.node ≡ g.group.node) × (q.children ≡ length (each g.kids)))
+    at : (o : Option LayoutPlace) → slice_get ps i ≡ o → IsSomeAnd o (λ (q : LayoutPlace). (q.node ≡ g.group.node) × (q.children ≡ length (each g.kids)))
         → (i < 128) × ShownAt ps e i
     at None here h = absurd h
     at (Some q) here h =
@@ -62,7 +62,7 @@ shown_at ps e i told = by (next_alternatives e) refl (stands ps e None told.1) w
           omega (arith, before, place, st.alternatives.starts, st.alternatives.small),
           λ d.
               let same : get_or ps i d ≡ q = get_or_from_slice_get ps i q d here in
-              first_shown e ∙ (ap (option_map shown) is_some ∙ ap Some (pair (sym h.0 ∙ sym (ap (λ (x : Place). x.node) same)) (sym h.1 ∙ sym (ap (λ (x : Place). x.children) same)))),
+              first_shown e ∙ (ap (option_map shown) is_some ∙ ap Some (pair (sym h.0 ∙ sym (ap (λ (x : LayoutPlace). x.node) same)) (sym h.1 ∙ sym (ap (λ (x : LayoutPlace). x.children) same)))),
         ) where
           pair : {a b c d : ℕ} → a ≡ b → c ≡ d → Path (ℕ × ℕ) (a, c) (b, d)
           pair e f = rw (e, f) refl
@@ -91,7 +91,7 @@ module _ (layout : Layout) (d : Forest ℕ) (laid : IsLayout layout d) (cs : Lis
       by (Some e) h t = (shown_at layout.places e i t).0
 
     -- and tells of it
-    pub told_group : (i : ℕ) (p : Place) → told_at ≡ Some i → IfSome (after d cs) (λ e. Some ((get_or layout.places i p).node, (get_or layout.places i p).children) ≡ first_group e)
+    pub told_group : (i : ℕ) (p : LayoutPlace) → told_at ≡ Some i → IfSome (after d cs) (λ e. Some ((get_or layout.places i p).node, (get_or layout.places i p).children) ≡ first_group e)
     told_group i p is = subst (λ o. IfSome o (λ e. Some ((get_or layout.places i p).node, (get_or layout.places i p).children) ≡ first_group e)) (sym after_spots) (by (after laid.spots cs) (told_as (Some i) is)) where
       by : (o : Option (Forest Spot)) → IfSome o (Told layout.places (Some i)) → IfSome (option_map (relabel node_of) o) (λ e. Some ((get_or layout.places i p).node, (get_or layout.places i p).children) ≡ first_group e)
       by None t = tt

@@ -6,7 +6,7 @@ use Rattle.std.proofs.lemmas.List.Elements.{All-filter, All-weaker}
 use Rattle.std.proofs.lemmas.List.Sums.{count_by-le-length, length-filter}
 use Rattle.std.proofs.lemmas.Option.{get_or_from_slice_get, slice_get_within}
 use Rattle.sysmem_tree.specs.declared.layout.Layout.{Layout}
-use Rattle.sysmem_tree.specs.declared.layout.Place.{Place}
+use Rattle.sysmem_tree.specs.declared.layout.LayoutPlace.{LayoutPlace}
 use Rattle.sysmem_tree.specs.Domain.{HasDomain}
 use Rattle.sysmem_tree.specs.Forest.{Forest, Empty, Plain, Group, relabel, settled}
 use Rattle.sysmem_tree.specs.Laws.{labels}
@@ -24,7 +24,7 @@ use Rattle.sysmem_tree.proofs.Settling.{is_at}
 use Rattle.sysmem_tree.proofs.ToldMembers.{told_member}
 
 -- the nodes that stand from a place on
-abbrev pub nodes_from : List Place → ℕ → List ℕ
+abbrev pub nodes_from : List LayoutPlace → ℕ → List ℕ
 nodes_from places at = map (λ p. p.node) (drop at places)
 
 -- from a place on: its node, and those behind it
@@ -39,12 +39,12 @@ abbrev node_at : Spot → ℕ
 node_at s = s.node
 
 -- a part of a layout holds the nodes of what is laid out there
-module _ (ps : List Place) where
-  stand_at : (s : Spot) (p : Place) (kids rest : Forest Spot) (to : ℕ) → slice_get ps s.place ≡ Some p → p.node ≡ s.node → start kids (start rest to) ≡ s.place + 1
+module _ (ps : List LayoutPlace) where
+  stand_at : (s : Spot) (p : LayoutPlace) (kids rest : Forest Spot) (to : ℕ) → slice_get ps s.place ≡ Some p → p.node ≡ s.node → start kids (start rest to) ≡ s.place + 1
       → nodes_from ps (start kids (start rest to)) ≡ labels (relabel node_at kids) ++ nodes_from ps (start rest to) → nodes_from ps (start rest to) ≡ labels (relabel node_at rest) ++ nodes_from ps to
       → nodes_from ps s.place ≡ s.node ∷ ((labels (relabel node_at kids) ++ labels (relabel node_at rest)) ++ nodes_from ps to)
   stand_at s p kids rest to here node next below behind' =
-      ap (map (λ (q : Place). q.node)) (drop_at ps s.place p here)
+      ap (map (λ (q : LayoutPlace). q.node)) (drop_at ps s.place p here)
       ∙ (ap (λ (n : ℕ). n ∷ nodes_from ps (s.place + 1)) node
       ∙ ap (λ ns. s.node ∷ ns) (ap (nodes_from ps) (sym next) ∙ (below ∙ (ap (λ ns. labels (relabel node_at kids) ++ ns) behind' ∙ sym (append_assoc (labels (relabel node_at kids)) (labels (relabel node_at rest)) (nodes_from ps to))))))
 
@@ -63,7 +63,7 @@ past_end (x ∷ xs) (suc k) more = past_end xs k (omega (arith, more))
 pub all_of_layout : (layout : Layout) (d : Forest ℕ) → length layout.places ≡ 128 → IsLayout layout d → nodes_from layout.places layout.start ≡ labels d
 all_of_layout layout d long is =
     ap (nodes_from layout.places) (sym is.starts) ∙ (stand layout.places false is.spots 128 None is.laid
-    ∙ (ap (λ ps. labels (relabel node_at is.spots) ++ map (λ (q : Place). q.node) ps) (past_end layout.places 128 (omega (arith, long)))
+    ∙ (ap (λ ps. labels (relabel node_at is.spots) ++ map (λ (q : LayoutPlace). q.node) ps) (past_end layout.places 128 (omega (arith, long)))
     ∙ (append-nil (labels (relabel node_at is.spots)) ∙ ap labels is.numbers)))
 
 -- those that are marked as members and have constraints are the participants
@@ -86,27 +86,27 @@ layout_participants layout nodes r cs marks tree has laid prefix marked =
     marked_participants nodes r cs marks tree has (λ k. told_member layout nodes r k cs cs (get_or marks k false) laid refl prefix (marked k))
 
 -- a pass: what is kept so far, and those that will be kept of what is left, are the whole
-pub record IsOnTheWay (test : ℕ → Bool) (places : List Place) (at : ℕ) (kept whole : List ℕ) : Type 0 where
+pub record IsOnTheWay (test : ℕ → Bool) (places : List LayoutPlace) (at : ℕ) (kept whole : List ℕ) : Type 0 where
   pub long : length places ≡ 128
   pub all : kept ++ filter test (nodes_from places at) ≡ whole
 
-step : (test : ℕ → Bool) (places : List Place) (at : ℕ) (d : Place) → at < length places
+step : (test : ℕ → Bool) (places : List LayoutPlace) (at : ℕ) (d : LayoutPlace) → at < length places
     → filter test (nodes_from places at) ≡ (if test (get_or places at d).node then (get_or places at d).node ∷ filter test (nodes_from places (at + 1)) else filter test (nodes_from places (at + 1)))
 step test places at d less =
     let (p, here, _) = front places at less in
     let same : p ≡ get_or places at d = sym (get_or_from_slice_get places at p d here) in
-    subst (λ (q : Place). filter test (nodes_from places at) ≡ (if test q.node then q.node ∷ filter test (nodes_from places (at + 1)) else filter test (nodes_from places (at + 1)))) same
-    (ap (λ qs. filter test (map (λ (q : Place). q.node) qs)) (drop_at places at p here))
+    subst (λ (q : LayoutPlace). filter test (nodes_from places at) ≡ (if test q.node then q.node ∷ filter test (nodes_from places (at + 1)) else filter test (nodes_from places (at + 1)))) same
+    (ap (λ qs. filter test (map (λ (q : LayoutPlace). q.node) qs)) (drop_at places at p here))
 
 -- one node is kept
-next_kept : (test : ℕ → Bool) (places : List Place) (at : ℕ) (d : Place) (n : ℕ) → at < length places → n ≡ (get_or places at d).node → test n ≡ true
+next_kept : (test : ℕ → Bool) (places : List LayoutPlace) (at : ℕ) (d : LayoutPlace) (n : ℕ) → at < length places → n ≡ (get_or places at d).node → test n ≡ true
     → filter test (nodes_from places at) ≡ n ∷ filter test (nodes_from places (at + 1))
 next_kept test places at d n less is passes =
     step test places at d less
     ∙ subst (λ (k : ℕ). (if test k then k ∷ filter test (nodes_from places (at + 1)) else filter test (nodes_from places (at + 1))) ≡ n ∷ filter test (nodes_from places (at + 1))) is
     (ap (λ b. if b then n ∷ filter test (nodes_from places (at + 1)) else filter test (nodes_from places (at + 1))) passes)
 
-pub kept_on : (test : ℕ → Bool) (places : List Place) (at : ℕ) (kept whole : List ℕ) (d : Place) (n : ℕ) → at < length places → n ≡ (get_or places at d).node → test n ≡ true
+pub kept_on : (test : ℕ → Bool) (places : List LayoutPlace) (at : ℕ) (kept whole : List ℕ) (d : LayoutPlace) (n : ℕ) → at < length places → n ≡ (get_or places at d).node → test n ≡ true
     → IsOnTheWay test places at kept whole → IsOnTheWay test places (at + 1) (kept ++ n ∷ []) whole
 kept_on test places at kept whole d n less is passes way = record {
   long = way.long;
@@ -114,7 +114,7 @@ kept_on test places at kept whole d n less is passes way = record {
 }
 
 -- there is room for it where there is for the whole
-pub room_on : (test : ℕ → Bool) (places : List Place) (at : ℕ) (kept whole : List ℕ) (d : Place) (n : ℕ) → at < length places → n ≡ (get_or places at d).node → test n ≡ true
+pub room_on : (test : ℕ → Bool) (places : List LayoutPlace) (at : ℕ) (kept whole : List ℕ) (d : LayoutPlace) (n : ℕ) → at < length places → n ≡ (get_or places at d).node → test n ≡ true
     → IsOnTheWay test places at kept whole → length kept < length whole
 room_on test places at kept whole d n less is passes way =
     let all = ap length way.all in
@@ -122,7 +122,7 @@ room_on test places at kept whole d n less is passes way =
     omega (arith, all, next, length-append kept (filter test (nodes_from places at)))
 
 -- or passed over
-pub passed_on : (test : ℕ → Bool) (places : List Place) (at : ℕ) (kept whole : List ℕ) (d : Place) (n : ℕ) → at < length places → n ≡ (get_or places at d).node → test n ≡ false
+pub passed_on : (test : ℕ → Bool) (places : List LayoutPlace) (at : ℕ) (kept whole : List ℕ) (d : LayoutPlace) (n : ℕ) → at < length places → n ≡ (get_or places at d).node → test n ≡ false
     → IsOnTheWay test places at kept whole → IsOnTheWay test places (at + 1) kept whole
 passed_on test places at kept whole d n less is fails way = record { long = way.long; all = ap (λ xs. kept ++ xs) (sym (step test places at d less ∙ by)) ∙ way.all } where
   by : (if test (get_or places at d).node then (get_or places at d).node ∷ filter test (nodes_from places (at + 1)) else filter test (nodes_from places (at + 1))) ≡ filter test (nodes_from places (at + 1))
@@ -130,9 +130,9 @@ passed_on test places at kept whole d n less is fails way = record { long = way.
       (ap (λ b. if b then n ∷ filter test (nodes_from places (at + 1)) else filter test (nodes_from places (at + 1))) fails)
 
 -- at the end all is kept
-pub all_kept : (test : ℕ → Bool) (places : List Place) (at : ℕ) (kept whole : List ℕ) → 128 ≤ at → IsOnTheWay test places at kept whole → kept ≡ whole
+pub all_kept : (test : ℕ → Bool) (places : List LayoutPlace) (at : ℕ) (kept whole : List ℕ) → 128 ≤ at → IsOnTheWay test places at kept whole → kept ≡ whole
 all_kept test places at kept whole more way =
-    sym (append-nil kept) ∙ (ap (λ (qs : List Place). kept ++ filter test (map (λ (q : Place). q.node) qs)) (sym (past_end places at (omega (arith, more, way.long)))) ∙ way.all)
+    sym (append-nil kept) ∙ (ap (λ (qs : List LayoutPlace). kept ++ filter test (map (λ (q : LayoutPlace). q.node) qs)) (sym (past_end places at (omega (arith, more, way.long)))) ∙ way.all)
 
 -- and they are nodes of the tree
 pub members_there : (nodes : List NodeFacts) (r : ℕ) (cs : List ℕ) → IsTree nodes → HasDomain nodes r → All (HasNode nodes) (members_of nodes r cs)

@@ -5,22 +5,22 @@ use Rattle.std.specs.List.{list_any}
 use Rattle.std.proofs.lemmas.Bool.{ne_eqb}
 use Rattle.std.proofs.lemmas.List.{append_assoc, append-nil}
 use Rattle.std.proofs.lemmas.Option.{get_or_from_slice_get}
-use Rattle.sysmem_tree.specs.declared.layout.Place.{Place}
+use Rattle.sysmem_tree.specs.declared.layout.LayoutPlace.{LayoutPlace}
 use Rattle.sysmem_tree.specs.Forest.{Forest, Empty, Plain, Group, settled}
 use Rattle.sysmem_tree.specs.Layout.{Spot, start, behind, AreLaid}
 use Rattle.sysmem_tree.proofs.Layouts.{starts_before}
 
 -- the place that follows one in a walk past the alternatives of groups
-abbrev pub past : Place → ℕ → ℕ
+abbrev pub past : LayoutPlace → ℕ → ℕ
 past p at = if p.is_group then p.end else at + 1
 
 -- a walk from a place on meets the nodes of these spots, and ends before `to`
-abbrev pub Meets : List Place → ℕ → ℕ → List Spot → Type 0
+abbrev pub Meets : List LayoutPlace → ℕ → ℕ → List Spot → Type 0
 Meets ps to at [] = at ≡ to
-Meets ps to at (s ∷ ss) = (at < to) × ((p : Place) × (slice_get ps at ≡ Some p) × (p.node ≡ s.node) × (at < past p at) × Meets ps to (past p at) ss)
+Meets ps to at (s ∷ ss) = (at < to) × ((p : LayoutPlace) × (slice_get ps at ≡ Some p) × (p.node ≡ s.node) × (at < past p at) × Meets ps to (past p at) ss)
 
 -- a walk over what is laid out meets what is settled
-module _ (ps : List Place) (to : ℕ) where
+module _ (ps : List LayoutPlace) (to : ℕ) where
   meets : (g : Bool) (w : Forest Spot) (e : ℕ) (next : Option ℕ) (ss : List Spot) → AreLaid g ps w e next → e ≤ to → Meets ps to e ss → Meets ps to (start w e) (settled w ++ ss)
   meets g Empty e next ss l small m = m
   meets g (Plain s kids rest) e next ss l small m =
@@ -35,15 +35,15 @@ module _ (ps : List Place) (to : ℕ) where
       let y = starts_before true ps kids (start rest e) (behind g rest next) l.1 in
       (omega (arith, x, y, small, l.0.kids_here), (_, l.0.here, refl, omega (arith, y, l.0.kids_here), meets g rest e next ss l.2 small m))
 
-pub meets_settled : (ps : List Place) (g : Bool) (w : Forest Spot) (to : ℕ) (next : Option ℕ) → AreLaid g ps w to next → Meets ps to (start w to) (settled w)
+pub meets_settled : (ps : List LayoutPlace) (g : Bool) (w : Forest Spot) (to : ℕ) (next : Option ℕ) → AreLaid g ps w to next → Meets ps to (start w to) (settled w)
 meets_settled ps g w to next l = subst (Meets ps to (start w to)) (append-nil (settled w)) (meets ps to g w to next [] l (omega arith) refl)
 
 -- whether a spot has the node
 abbrev pub is_at : ℕ → Spot → Bool
 is_at node s = s.node == node
 
-module _ (ps : List Place) (to at : ℕ) (d : Place) (less : at < to) where
-  abbrev here : Place
+module _ (ps : List LayoutPlace) (to at : ℕ) (d : LayoutPlace) (less : at < to) where
+  abbrev here : LayoutPlace
   here = get_or ps at d
 
   -- what a walk meets at a place before its end
@@ -94,6 +94,6 @@ module _ (ps : List Place) (to at : ℕ) (d : Place) (less : at < to) where
       ap (list_any (is_at node)) met.is ∙ ap (λ b. b || list_any (is_at node) met.rest) (eq-eqb met.spot.node node (sym met.node ∙ is))
 
 -- at the end there is nothing more
-pub nothing_more : (ps : List Place) (to at node : ℕ) (ss : List Spot) → to ≤ at → Meets ps to at ss → list_any (is_at node) ss ≡ false
+pub nothing_more : (ps : List LayoutPlace) (to at node : ℕ) (ss : List Spot) → to ≤ at → Meets ps to at ss → list_any (is_at node) ss ≡ false
 nothing_more ps to at node [] less m = refl
 nothing_more ps to at node (s ∷ ss) less m = absurd (omega (arith, less, m.0))

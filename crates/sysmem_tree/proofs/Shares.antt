@@ -6,7 +6,7 @@ use Rattle.std.proofs.lemmas.List.{append_assoc, map-append}
 use Rattle.std.proofs.lemmas.List.Sorted.{IsPermutation-append_comm, IsPermutation-append_right}
 use Rattle.std.proofs.lemmas.Option.{same_Some, slice_get_within, get_or_from_slice_get}
 use Rattle.sysmem_tree.specs.declared.layout.Layout.{Layout}
-use Rattle.sysmem_tree.specs.declared.layout.Place.{Place}
+use Rattle.sysmem_tree.specs.declared.layout.LayoutPlace.{LayoutPlace}
 use Rattle.sysmem_tree.specs.Forest.{Forest, Empty, Plain, Group, each, settled, relabel}
 use Rattle.sysmem_tree.specs.Layout.{Spot, start, behind, AreLaid, IsLayout}
 use Rattle.sysmem_tree.specs.LayoutLaws.{Settles}
@@ -20,12 +20,12 @@ use Rattle.sysmem_tree.proofs.Settling.{Meets, meets_settled}
 use Rattle.sysmem_tree.proofs.Walks.{alternative_laid}
 
 -- the places hold the forest that was laid out in them
-module _ (ps : List Place) where
+module _ (ps : List LayoutPlace) where
   none_between : (many at to : ℕ) → to ≤ at → forest_between many ps at to ≡ Empty
   none_between zero at to less = refl
   none_between (suc many) at to less = if_false _ _ Empty (le-ltb at to less)
 
-  some_between : (many at to : ℕ) (p : Place) → at < to → slice_get ps at ≡ Some p → forest_between (suc many) ps at to ≡ with_below (forest_between many ps) at to (Some p)
+  some_between : (many at to : ℕ) (p : LayoutPlace) → at < to → slice_get ps at ≡ Some p → forest_between (suc many) ps at to ≡ with_below (forest_between many ps) at to (Some p)
   some_between many at to p less here = if_true _ _ Empty (lt-ltb at to less) ∙ ap (with_below (forest_between many ps) at to) here
 
   pub reads : (many : ℕ) (g : Bool) (w : Forest Spot) (at to : ℕ) (next : Option ℕ) → AreLaid g ps w to next → start w to ≡ at → to ≤ at + many → forest_between many ps at to ≡ relabel node_of w
@@ -53,7 +53,7 @@ module _ (ps : List Place) where
 
   -- an alternative has a place
   kid_there : (kids : Forest Spot) (to : ℕ) (next : Option ℕ) → AreLaid true ps kids to next → (k : ℕ) (kid : Forest Spot) → slice_get (each kids) k ≡ Some kid
-      → (p : Place) × (slice_get ps (start kid 0) ≡ Some p)
+      → (p : LayoutPlace) × (slice_get ps (start kid 0) ≡ Some p)
   kid_there Empty to next l k kid is = absurd (cc)
   kid_there (Plain s kk ks) to next l zero kid is = (_, ap (λ x. slice_get ps (start x 0)) (sym (same_Some (Plain s kk Empty) kid is)) ∙ l.0.here)
   kid_there (Group s kk ks) to next l zero kid is = (_, ap (λ x. slice_get ps (start x 0)) (sym (same_Some (Group s kk Empty) kid is)) ∙ l.0.here)
@@ -67,7 +67,7 @@ module _ (ps : List Place) where
 
 -- the child at a place
 module _ (layout : Layout) (at : ℕ) (h : HasChild layout at) where
-  pub child_entry : (p : Place) × (slice_get layout.places at ≡ Some p)
+  pub child_entry : (p : LayoutPlace) × (slice_get layout.places at ≡ Some p)
   child_entry =
       let (p, there) = kid_there layout.places h.kids h.alternatives.to h.alternatives.next h.alternatives.laid h.number h.kid h.is_kid in
       (p, ap (slice_get layout.places) (sym h.here) ∙ there)
@@ -75,10 +75,10 @@ module _ (layout : Layout) (at : ℕ) (h : HasChild layout at) where
   pub child_within : at < length layout.places
   child_within = let (p, there) = child_entry in slice_get_within layout.places at p there
 
-  end_read : (d : Place) → end_of (slice_get layout.places at) ≡ (get_or layout.places at d).end
+  end_read : (d : LayoutPlace) → end_of (slice_get layout.places at) ≡ (get_or layout.places at d).end
   end_read d =
       let (p, there) = child_entry in
-      ap end_of there ∙ sym (ap (λ (q : Place). q.end) (get_or_from_slice_get layout.places at p d there))
+      ap end_of there ∙ sym (ap (λ (q : LayoutPlace). q.end) (get_or_from_slice_get layout.places at p d there))
 
   pub child_tree : tree_at layout at ≡ relabel node_of h.kid
   child_tree =
@@ -89,14 +89,14 @@ module _ (layout : Layout) (at : ℕ) (h : HasChild layout at) where
   pub child_share : share_of layout at ≡ map node_of (settled h.kid)
   child_share = ap settled child_tree ∙ settled_relabel node_of h.kid
 
-  pub gives_share : (d : Place) → WalksTo layout.places at (get_or layout.places at d).end (share_of layout at)
+  pub gives_share : (d : LayoutPlace) → WalksTo layout.places at (get_or layout.places at d).end (share_of layout at)
   gives_share d =
       let (laid, from, small) = alternative_laid layout.places h.kids h.alternatives.to h.alternatives.next h.alternatives.laid h.alternatives.small h.number h.kid h.is_kid at h.here d in
       let met = subst (λ i. Meets layout.places (get_or layout.places at d).end i (settled h.kid)) from (meets_settled layout.places true h.kid (get_or layout.places at d).end h.alternatives.next laid) in
       subst (WalksTo layout.places at (get_or layout.places at d).end) (sym child_share) (gives layout.places (get_or layout.places at d).end at (settled h.kid) met)
 
 -- the same where the place is told by another name
-pub gives_share_as : (layout : Layout) (at i : ℕ) → i ≡ at → HasChild layout at → (d : Place) → WalksTo layout.places i (get_or layout.places i d).end (share_of layout at)
+pub gives_share_as : (layout : Layout) (at i : ℕ) → i ≡ at → HasChild layout at → (d : LayoutPlace) → WalksTo layout.places i (get_or layout.places i d).end (share_of layout at)
 gives_share_as layout at i is h d = subst (λ j. WalksTo layout.places j (get_or layout.places j d).end (share_of layout at)) (sym is) (gives_share layout at h d)
 
 -- what no choice settles
@@ -128,7 +128,7 @@ choice_settles_share layout d cs k at h =
     }
 
 -- one step of a walk
-module _ (ps : List Place) (at to : ℕ) where
+module _ (ps : List LayoutPlace) (at to : ℕ) where
   pub ends : (ns : List ℕ) → to ≤ at → WalksTo ps at to ns → ns ≡ []
   ends [] less g = refl
   ends (n ∷ ns) less g = absurd (omega (arith, less, g.0))
@@ -137,10 +137,10 @@ module _ (ps : List Place) (at to : ℕ) where
   walk_within [] less g = absurd (omega (arith, less, g))
   walk_within (n ∷ ns) less g = let (p, there, _, _, _) = g.1 in slice_get_within ps at p there
 
-  pub walks_on : (d : Place) (ns : List ℕ) (after : ℕ) → at < to → WalksTo ps at to ns → after ≡ place_after (get_or ps at d) at
+  pub walks_on : (d : LayoutPlace) (ns : List ℕ) (after : ℕ) → at < to → WalksTo ps at to ns → after ≡ place_after (get_or ps at d) at
       → (rest : List ℕ) × (ns ≡ (get_or ps at d).node ∷ rest) × WalksTo ps after to rest
   walks_on d [] after less g is = absurd (omega (arith, less, g))
   walks_on d (n ∷ ns) after less g is =
       let (p, there, node, up, on) = g.1 in
       let same : get_or ps at d ≡ p = get_or_from_slice_get ps at p d there in
-      (ns, ap (λ x. x ∷ ns) (sym node ∙ ap (λ (q : Place). q.node) (sym same)), subst (λ i. WalksTo ps i to ns) (ap (λ q. place_after q at) (sym same) ∙ sym is) on)
+      (ns, ap (λ x. x ∷ ns) (sym node ∙ ap (λ (q : LayoutPlace). q.node) (sym same)), subst (λ i. WalksTo ps i to ns) (ap (λ q. place_after q at) (sym same) ∙ sym is) on)

@@ -3,7 +3,7 @@ use Rattle.std.proofs.Common.{◌≡◌, ◌<◌, ℕ, List, [], ◌∷◌, ◌+
 use Rattle.std.specs.Prelude.{All, IsSome, IsSomeAnd, option_and_then, slice_index_or}
 use Rattle.std.proofs.lemmas.Option.{same_Some, slice_get_within}
 use Rattle.sysmem_tree.specs.declared.layout.Layout.{Layout}
-use Rattle.sysmem_tree.specs.declared.layout.Place.{Place}
+use Rattle.sysmem_tree.specs.declared.layout.LayoutPlace.{LayoutPlace}
 use Rattle.sysmem_tree.specs.Forest.{Forest}
 use Rattle.sysmem_tree.specs.LayoutLaws.{NoneOpenIsSelection}
 use Rattle.sysmem_tree.specs.Node.{NodeFacts}
@@ -13,7 +13,7 @@ use Rattle.sysmem_tree.specs.Selection.{after, IsPrefix}
 use Rattle.sysmem_tree.proofs.Selections.{after_more}
 
 -- a walk gives one list of nodes
-pub gives_same : (places : List Place) (to : ℕ) (ns ms : List ℕ) (at : ℕ) → WalksTo places at to ns → WalksTo places at to ms → ns ≡ ms
+pub gives_same : (places : List LayoutPlace) (to : ℕ) (ns ms : List ℕ) (at : ℕ) → WalksTo places at to ns → WalksTo places at to ms → ns ≡ ms
 gives_same places to [] [] at g h = refl
 gives_same places to [] (m ∷ ms) at g h = absurd (omega (arith, g, h.0))
 gives_same places to (n ∷ ns) [] at g h = absurd (omega (arith, g.0, h))
@@ -21,8 +21,8 @@ gives_same places to (n ∷ ns) (m ∷ ms) at g h =
     let (p, here, node, up, rest) = g.1 in
     let (q, here', node', up', rest') = h.1 in
     let same : q ≡ p = same_Some q p (sym here' ∙ here) in
-    let tails = gives_same places to ns ms (place_after p at) rest (subst (λ (x : Place). WalksTo places (place_after x at) to ms) same rest') in
-    let heads : n ≡ m = sym node ∙ (ap (λ (x : Place). x.node) (sym same) ∙ node') in
+    let tails = gives_same places to ns ms (place_after p at) rest (subst (λ (x : LayoutPlace). WalksTo places (place_after x at) to ms) same rest') in
+    let heads : n ≡ m = sym node ∙ (ap (λ (x : LayoutPlace). x.node) (sym same) ∙ node') in
     ap (λ x. x ∷ ns) heads ∙ ap (λ xs. m ∷ xs) tails
 
 -- nodes of which something is said are there

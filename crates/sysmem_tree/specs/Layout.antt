@@ -3,8 +3,8 @@ use Rattle.std.specs.Prelude.{◌≡◌, ◌≤◌, ◌<◌, ℕ, suc, ◌+◌, 
 use Rattle.std.specs.Prelude.{None, length, slice_get}
 use Rattle.std.specs.Option.{option_or}
 use Rattle.sysmem_tree.specs.declared.layout.Layout.{Layout}
-use Rattle.sysmem_tree.specs.declared.layout.Place.{Place}
-use Rattle.sysmem_tree.specs.declared.layout.Laid.{Laid}
+use Rattle.sysmem_tree.specs.declared.layout.LayoutPlace.{LayoutPlace}
+use Rattle.sysmem_tree.specs.declared.layout.LaidNodes.{LaidNodes}
 use Rattle.sysmem_tree.specs.declared.state.NodeKind.{NodeKind}
 use Rattle.sysmem_tree.specs.declared.state.NodeKind.TheVariants.{Token, Group, Collection}
 use Rattle.sysmem_tree.specs.Forest.{Forest, Empty, Plain, each, relabel, count, count_each}
@@ -53,7 +53,7 @@ behind false rest next = option_or (first_place rest) next
 
 -- the place of a node: its children start just behind it and end before `to`, and `next` is the
 -- first group once the way to it is chosen
-pub record IsLaidPlace (places : List Place) (s : Spot) (is_group : Bool) (kids : Forest Spot)
+pub record IsLaidPlace (places : List LayoutPlace) (s : Spot) (is_group : Bool) (kids : Forest Spot)
     (to : ℕ) (next : Option ℕ) : Type 0 where
   pub here : slice_get places s.place
       ≡ Some (record {
@@ -67,7 +67,7 @@ pub record IsLaidPlace (places : List Place) (s : Spot) (is_group : Bool) (kids 
 
 -- the places before `to` hold a forest of nodes that are all there, or of alternatives, in
 -- pre-order; `next` is the first group behind them
-abbrev pub AreLaid : Bool → List Place → Forest Spot → ℕ → Option ℕ → Type 0
+abbrev pub AreLaid : Bool → List LayoutPlace → Forest Spot → ℕ → Option ℕ → Type 0
 AreLaid alternatives places Empty to next = Unit {0}
 AreLaid alternatives places (Plain s kids rest) to next =
     IsLaidPlace places s false kids (start rest to)
@@ -80,11 +80,11 @@ AreLaid alternatives places (forest.Group s kids rest) to next =
     × AreLaid alternatives places rest to next
 
 -- the places name no nodes but the first so many
-abbrev pub HoldNumbers : ℕ → List Place → Type 0
-HoldNumbers many places = (k : ℕ) (p : Place) → slice_get places k ≡ Some p → p.node < many
+abbrev pub HoldNumbers : ℕ → List LayoutPlace → Type 0
+HoldNumbers many places = (k : ℕ) (p : LayoutPlace) → slice_get places k ≡ Some p → p.node < many
 
 -- the forest of these numbers of nodes was laid out before `to`
-pub record Lays (alternatives : Bool) (places : List Place) (d : Forest ℕ) (laid : Laid) (to : ℕ)
+pub record Lays (alternatives : Bool) (places : List LayoutPlace) (d : Forest ℕ) (laid : LaidNodes) (to : ℕ)
     (next : Option ℕ) : Type 0 where
   pub spots : Forest Spot
   pub numbers : relabel (λ (s : Spot). s.node) spots ≡ d

@@ -3,7 +3,7 @@
 use Rattle.std.specs.Prelude.{◌≡◌, ◌<◌, ℕ, zero, suc, ◌+◌, List, [], ◌∷◌, Option, Some, None}
 use Rattle.std.specs.Prelude.{length, nat_lt, slice_get, if◌then◌else◌}
 use Rattle.sysmem_tree.specs.declared.layout.Layout.{Layout}
-use Rattle.sysmem_tree.specs.declared.layout.Place.{Place}
+use Rattle.sysmem_tree.specs.declared.layout.LayoutPlace.{LayoutPlace}
 use Rattle.sysmem_tree.specs.declared.open_groups.SettledNodes.{SettledNodes}
 use Rattle.sysmem_tree.specs.Forest.{Forest, Empty, Plain, Group, each, relabel, settled}
 use Rattle.sysmem_tree.specs.Layout.{Spot, start, first_place, HoldNumbers}
@@ -53,21 +53,21 @@ pub record HasChild (layout : Layout) (at : ℕ) : Type 0 where
   pub here : start kid 0 ≡ at
 
 -- the node at a place, what stands below it, and what stands behind that before `to`
-abbrev pub with_below : (ℕ → ℕ → Forest ℕ) → ℕ → ℕ → Option Place → Forest ℕ
+abbrev pub with_below : (ℕ → ℕ → Forest ℕ) → ℕ → ℕ → Option LayoutPlace → Forest ℕ
 with_below between at to None = Empty
 with_below between at to (Some p) =
     if p.is_group then Group p.node (between (at + 1) p.end) (between p.end to)
     else Plain p.node (between (at + 1) p.end) (between p.end to)
 
 -- the forest that stands from a place on, before `to`, where those are at most so many places
-abbrev pub forest_between : ℕ → List Place → ℕ → ℕ → Forest ℕ
+abbrev pub forest_between : ℕ → List LayoutPlace → ℕ → ℕ → Forest ℕ
 forest_between zero places at to = Empty
 forest_between (suc many) places at to =
     if nat_lt at to then with_below (forest_between many places) at to (slice_get places at)
     else Empty
 
 -- the place behind all that is below the node at a place
-abbrev pub end_of : Option Place → ℕ
+abbrev pub end_of : Option LayoutPlace → ℕ
 end_of None = 0
 end_of (Some p) = p.end
 
@@ -81,15 +81,15 @@ abbrev pub share_of : Layout → ℕ → List ℕ
 share_of layout at = settled (tree_at layout at)
 
 -- the place that follows one in a walk over settled nodes, past what is below a group
-abbrev pub place_after : Place → ℕ → ℕ
+abbrev pub place_after : LayoutPlace → ℕ → ℕ
 place_after p at = if p.is_group then p.end else at + 1
 
 -- a walk from a place on gives these nodes, and ends at `to`
-abbrev pub WalksTo : List Place → ℕ → ℕ → List ℕ → Type 0
+abbrev pub WalksTo : List LayoutPlace → ℕ → ℕ → List ℕ → Type 0
 WalksTo places at to [] = at ≡ to
 WalksTo places at to (n ∷ ns) =
     (at < to)
-    × ((p : Place) × (slice_get places at ≡ Some p) × (p.node ≡ n) × (at < place_after p at)
+    × ((p : LayoutPlace) × (slice_get places at ≡ Some p) × (p.node ≡ n) × (at < place_after p at)
     × WalksTo places (place_after p at) to ns)
 
 -- the nodes that a walk over the layout has yet to give

@@ -1,7 +1,7 @@
 -- The next group of a forest, and where it stands in a layout.
 use Rattle.std.specs.Prelude.{◌≡◌, ◌≤◌, ℕ, List, Option, Some, None, true}
 use Rattle.std.specs.Option.{option_or}
-use Rattle.sysmem_tree.specs.declared.layout.Place.{Place}
+use Rattle.sysmem_tree.specs.declared.layout.LayoutPlace.{LayoutPlace}
 use Rattle.sysmem_tree.specs.Forest.{Forest, Empty, Plain, Group}
 use Rattle.sysmem_tree.specs.Layout.{Spot, start, first_place, IsLaidPlace, AreLaid}
 use Rattle.sysmem_tree.specs.declared.tree.TheConstants.{MOST_NODES}
@@ -18,7 +18,7 @@ next_alternatives (Plain n kids rest) = option_or (next_alternatives kids) (next
 next_alternatives (Group n kids rest) = Some (record { group = n; kids = kids })
 
 -- the groups that are left stand in the layout; `next` is the first one behind them
-abbrev pub AreOpen : List Place → Forest Spot → Option ℕ → Type 0
+abbrev pub AreOpen : List LayoutPlace → Forest Spot → Option ℕ → Type 0
 AreOpen places Empty next = Unit {0}
 AreOpen places (Plain s kids rest) next =
     AreOpen places kids (option_or (first_place rest) next) × AreOpen places rest next
@@ -28,7 +28,7 @@ AreOpen places (Group s kids rest) next =
     × AreOpen places rest next
 
 -- alternatives that stand from a place on
-pub record AreAlternatives (places : List Place) (at : ℕ) (kids : Forest Spot) : Type 0 where
+pub record AreAlternatives (places : List LayoutPlace) (at : ℕ) (kids : Forest Spot) : Type 0 where
   pub to : ℕ
   pub next : Option ℕ
   pub small : to ≤ MOST_NODES

@@ -15,7 +15,7 @@ use crate::tree::MOST_NODES;
 /// comes just behind it. Its numbers are bytes, so that a layout is small: there are at most 128
 /// nodes.
 #[derive(Clone, Copy, Debug, PartialEq, Eq)]
-pub struct Place {
+pub struct LayoutPlace {
     /// The number of the node.
     pub(crate) node: u8,
     /// Whether its children are alternatives.
@@ -29,7 +29,7 @@ pub struct Place {
     pub(crate) next: Option<u8>,
 }
 
-const NO_PLACE: Place = Place {
+const NO_PLACE: LayoutPlace = LayoutPlace {
     node: 0,
     is_group: false,
     children: 0,
@@ -52,7 +52,7 @@ pub(crate) struct Children {
 
 /// What was laid out.
 #[derive(Clone, Copy)]
-pub(crate) struct Laid {
+pub(crate) struct LaidNodes {
     /// The place of the first of them.
     pub(crate) start: u8,
     /// How many they are.
@@ -77,7 +77,12 @@ fn either(test: bool, yes: Option<u8>, no: Option<u8>) -> Option<u8>
 }
 
 /// Lays out children of a node, the last one first.
-fn lay(nodes: &[Node], links: &Links, what: Children, places: &mut [Place; MOST_NODES]) -> Laid
+fn lay(
+    nodes: &[Node],
+    links: &Links,
+    what: Children,
+    places: &mut [LayoutPlace; MOST_NODES],
+) -> LaidNodes
     requires tree { IsTree nodes.now }
     requires links { (root : ℕ) × AreLinks nodes.now root (root + 1) links.now
         × IfSome what.first (IsBelow nodes.now root) }
@@ -90,7 +95,7 @@ fn lay(nodes: &[Node], links: &Links, what: Children, places: &mut [Place; MOST_
         → HoldNumbers (length nodes.now) places.new }
 {
     let Some(own) = what.first else {
-        return Laid {
+        return LaidNodes {
             start: what.end,
             children: 0,
             next: what.next,
@@ -112,14 +117,14 @@ fn lay(nodes: &[Node], links: &Links, what: Children, places: &mut [Place; MOST_
     let kids = lay(nodes, links, below, places);
     let start = kids.start - 1;
     let next = either(is_group, Some(start), kids.next);
-    places[start as usize] = Place {
+    places[start as usize] = LayoutPlace {
         node: own,
         is_group,
         children: kids.children,
         end: rest.start,
         next,
     };
-    Laid {
+    LaidNodes {
         start,
         children: rest.children + 1,
         next: either(what.is_group, what.next, next),
@@ -133,7 +138,7 @@ fn lay(nodes: &[Node], links: &Links, what: Children, places: &mut [Place; MOST_
 /// stands for the tree as it was: later actions and decisions don't reach it.
 #[derive(Clone, Copy, Debug)]
 pub struct Layout {
-    pub(crate) places: [Place; MOST_NODES],
+    pub(crate) places: [LayoutPlace; MOST_NODES],
     /// The place of the domain's root.
     pub(crate) start: usize,
 }
@@ -164,7 +169,7 @@ impl Layout {
         let kids = lay(nodes, &links, below, &mut places);
         let start = kids.start - 1;
         let next = either(is_group, Some(start), kids.next);
-        places[start as usize] = Place {
+        places[start as usize] = LayoutPlace {
             node: root as u8,
             is_group,
             children: kids.children,

@@ -8,13 +8,13 @@ ghost use Rattle.sysmem_tree.specs.Nodes.{IsTree};
 ghost use Rattle.sysmem_tree.specs.Selection.{IsPrefix, after};
 ghost use Rattle.sysmem_tree.specs.Shape.{by_number, forest_of, members_of};
 
-use crate::layout::{Layout, Place};
+use crate::layout::{Layout, LayoutPlace};
 use crate::node::Node;
 use crate::prefix::Prefix;
 use crate::tree::MOST_NODES;
 
 /// The place that follows one, past what is below it where that is alternatives.
-pub(crate) fn past(place: &Place, at: usize) -> usize
+pub(crate) fn past(place: &LayoutPlace, at: usize) -> usize
     requires { at < MOST_NODES }
     ensures { result ≡ (if place.now.is_group then place.now.end else at + 1) }
 {

@@ -17,5 +17,5 @@ mod wishes;
 
 pub use counting::{MOST_COUNTED, count_text, is_count_line, why_needed};
 pub use participant::{NamedParticipant, put_has, put_participants};
-pub use sizes::{Derived, format_words};
+pub use sizes::{DerivedNumber, format_words};
 pub use wishes::{Side, Wish, Wishes};

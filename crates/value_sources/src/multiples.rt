@@ -1,6 +1,6 @@
 //! Numbers that others are multiples of, with who asks for each.
 
-use crate::sizes::Derived;
+use crate::sizes::DerivedNumber;
 use explanation_text::wording::{MOST_NAMES, put_few};
 use explanation_text::{ListBuilder, Text, TextBuilder};
 use std::alloc::{AllocError, Global};
@@ -47,10 +47,13 @@ fn lcm(a: u128, b: u128) -> u128 {
 }
 
 /// The number that all are divisors of, and those who are needed for it.
-pub(crate) fn multiple_of(alloc: Global, parts: Vec<Multiple>) -> Result<Derived, AllocError> {
+pub(crate) fn multiple_of(
+    alloc: Global,
+    parts: Vec<Multiple>,
+) -> Result<DerivedNumber, AllocError> {
     let whole = lcm_but(&parts, usize::MAX, &[]);
     let why = who_asks(alloc, &parts, whole)?;
-    Ok(Derived { value: whole, why })
+    Ok(DerivedNumber { value: whole, why })
 }
 
 /// Those of the parts that are needed for the multiple of all, in words.

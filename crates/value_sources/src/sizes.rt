@@ -13,7 +13,7 @@ use sysmem_image::entry_for;
 
 /// A number, and where it comes from.
 #[derive(Drop)]
-pub struct Derived {
+pub struct DerivedNumber {
     pub value: u128,
     pub why: Text,
 }
@@ -87,7 +87,7 @@ impl<'a> Wishes<'a, '_> {
     }
 
     /// The least width or height.
-    pub fn side(&self, alloc: Global, side: Side) -> Result<Derived, AllocError> {
+    pub fn side(&self, alloc: Global, side: Side) -> Result<DerivedNumber, AllocError> {
         let (base, first) = self.side_asked(side);
         let mark = if first.is_some() { Some(" ") } else { None };
         let multiple = self.side_multiple(alloc, side)?;
@@ -119,7 +119,7 @@ impl<'a> Wishes<'a, '_> {
     }
 
     /// What a side has to be a multiple of.
-    fn side_multiple(&self, alloc: Global, side: Side) -> Result<Derived, AllocError> {
+    fn side_multiple(&self, alloc: Global, side: Side) -> Result<DerivedNumber, AllocError> {
         let (width, height) = own_alignment(&self.offer);
         let own = if side == Side::Width { width } else { height };
         let who = itself(alloc, &self.offer);
@@ -145,7 +145,7 @@ impl<'a> Wishes<'a, '_> {
     }
 
     /// The least row in bytes; where the width comes from is said too if that is asked for.
-    pub fn row(&self, alloc: Global, is_alone: bool) -> Result<Derived, AllocError> {
+    pub fn row(&self, alloc: Global, is_alone: bool) -> Result<DerivedNumber, AllocError> {
         let multiple = self.row_multiple(alloc)?;
         let (value, why) = self.plain_row(alloc, is_alone)?;
         rounded(value, multiple, Some(" = "), why)
@@ -179,7 +179,7 @@ impl<'a> Wishes<'a, '_> {
     }
 
     /// Puts where that row comes from after a text.
-    fn put_packed(&self, text: &mut TextBuilder, width: &Derived, is_alone: bool) {
+    fn put_packed(&self, text: &mut TextBuilder, width: &DerivedNumber, is_alone: bool) {
         let pixel = u128::from(bytes_per_pixel(&self.offer));
         put_pixels(text, width.value, pixel);
         if is_alone {
@@ -194,7 +194,7 @@ impl<'a> Wishes<'a, '_> {
     }
 
     /// What a row has to be a multiple of.
-    fn row_multiple(&self, alloc: Global) -> Result<Derived, AllocError> {
+    fn row_multiple(&self, alloc: Global) -> Result<DerivedNumber, AllocError> {
         let who = if modifier_of(&self.offer) == Modifier::Linear {
             itself(alloc, &self.offer)
         } else {
@@ -213,7 +213,7 @@ impl<'a> Wishes<'a, '_> {
 
     /// The least size of a buffer in bytes; where the image's sides come from is said too if that
     /// is asked for.
-    pub fn size(&self, alloc: Global, is_alone: bool) -> Result<Derived, AllocError> {
+    pub fn size(&self, alloc: Global, is_alone: bool) -> Result<DerivedNumber, AllocError> {
         let least = self.least_size();
         let stated = match least {
             Some((_, value)) => u128::from(value),
@@ -230,21 +230,21 @@ impl<'a> Wishes<'a, '_> {
             Some((one, _)) => words.name(one.called()).put(" ").field(Field::MinSizeBytes),
             None => words.put("nobody asks for more"),
         };
-        Ok(Derived {
+        Ok(DerivedNumber {
             value: stated,
             why: words.into_text()?,
         })
     }
 
     /// The bytes of the smallest image.
-    fn image(&self, alloc: Global, is_alone: bool) -> Result<Derived, AllocError> {
+    fn image(&self, alloc: Global, is_alone: bool) -> Result<DerivedNumber, AllocError> {
         let image = self.smallest(alloc)?;
         let mut words = TextBuilder::new(alloc);
         image.put(&mut words);
         if is_alone {
             self.put_sides(&mut words, image);
         }
-        Ok(Derived {
+        Ok(DerivedNumber {
             value: image.bytes(),
             why: words.into_text()?,
         })
@@ -344,22 +344,22 @@ fn own_multiple(words: TextBuilder, value: u128) -> Result<ListBuilder<Multiple>
 /// after a mark, if there is one.
 fn rounded(
     base: u128,
-    multiple: Derived,
+    multiple: DerivedNumber,
     mark: Option<&str>,
     why: TextBuilder,
-) -> Result<Derived, AllocError> {
+) -> Result<DerivedNumber, AllocError> {
     let mut words = why;
     let value = up(base, multiple.value);
     if value != base {
         put_rounding(&mut words, base, &multiple, mark);
     }
-    Ok(Derived {
+    Ok(DerivedNumber {
         value,
         why: words.into_text()?,
     })
 }
 
-fn put_rounding(text: &mut TextBuilder, base: u128, multiple: &Derived, mark: Option<&str>) {
+fn put_rounding(text: &mut TextBuilder, base: u128, multiple: &DerivedNumber, mark: Option<&str>) {
     if let Some(mark) = mark {
         text.put(mark).put_number(base);
     }

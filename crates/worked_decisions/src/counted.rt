@@ -7,11 +7,11 @@ use std::io::{self, ErrorKind, Read, Write};
 
 // Answers its calls in turn, with a count of bytes or an error, and then with 0.
 #[derive(Drop)]
-struct Scripted<'a> {
+struct ScriptedAnswers<'a> {
     answers: &'a [Option<usize>],
 }
 
-impl Scripted<'_> {
+impl ScriptedAnswers<'_> {
     fn answer(&mut self, most: usize) -> io::Result<usize>
         ensures { IfOk result (λ count. count ≤ most) }
     {
@@ -26,7 +26,7 @@ impl Scripted<'_> {
     }
 }
 
-impl Read for Scripted<'_> {
+impl Read for ScriptedAnswers<'_> {
     fn read(&mut self, buf: &mut [u8]) -> io::Result<usize> {
         let count = self.answer(buf.len())?;
         buf[..count].fill(7);
@@ -34,7 +34,7 @@ impl Read for Scripted<'_> {
     }
 }
 
-impl Write for Scripted<'_> {
+impl Write for ScriptedAnswers<'_> {
     fn write(&mut self, buf: &[u8]) -> io::Result<usize> {
         self.answer(buf.len())
     }
@@ -60,7 +60,7 @@ const READS: [(Result<usize, ErrorKind>, [u8; 4], u64); 6] = [
 #[test]
 fn counts_errors_of_a_reader_and_gives_what_it_gave(rt: HostRuntime) {
     let mut reader = Counted {
-        inner: Scripted { answers: ANSWERS },
+        inner: ScriptedAnswers { answers: ANSWERS },
         failures: u64::MAX,
     };
     for (given, bytes, failures) in READS {
@@ -85,7 +85,7 @@ const WRITES: [(&[u8], Result<usize, ErrorKind>, u64); 7] = [
 
 #[test]
 fn counts_errors_and_empty_writes_of_a_writer(rt: HostRuntime) {
-    let mut writer = Counted::new(Scripted { answers: ANSWERS });
+    let mut writer = Counted::new(ScriptedAnswers { answers: ANSWERS });
     for (bytes, taken, failures) in WRITES {
         let answered = Sink::write(&mut writer, bytes).map_err(|error| error.kind());
         let found = (answered, writer.failures);

@@ -9,12 +9,12 @@ use verdict_claims::Verdict;
 
 // Counts the visits of which it is told, and keeps how many choices there were at most.
 #[derive(Drop)]
-struct Counted {
+struct VisitCounter {
     visits: Cell<u64>,
     most_choices: Cell<u32>,
 }
 
-impl Gate for Counted {
+impl Gate for VisitCounter {
     fn at_prefix(&self, length: u32) {
         self.visits.set(self.visits.get().saturating_add(1));
         self.most_choices.set(self.most_choices.get().max(length));
@@ -24,7 +24,7 @@ impl Gate for Counted {
 /// A verdict, the number of visits, and what the gate was told: how many visits, and of how many
 /// choices at most.
 #[derive(Drop)]
-pub(crate) struct Searched {
+pub(crate) struct SearchRun {
     pub(crate) verdict: Verdict,
     pub(crate) visits: u64,
     pub(crate) told: u64,
@@ -32,8 +32,8 @@ pub(crate) struct Searched {
 }
 
 /// Searches what is frozen.
-pub(crate) fn search_frozen(alloc: Global, frozen: &Frozen) -> Result<Searched, AllocError> {
-    let gate = Counted {
+pub(crate) fn search_frozen(alloc: Global, frozen: &Frozen) -> Result<SearchRun, AllocError> {
+    let gate = VisitCounter {
         visits: Cell::new(0),
         most_choices: Cell::new(0),
     };
@@ -42,7 +42,7 @@ pub(crate) fn search_frozen(alloc: Global, frozen: &Frozen) -> Result<Searched, 
     let domain = frozen.domain();
     let base = frozen.base();
     let found = search(alloc, platform, tree, domain, base, &gate)?;
-    Ok(Searched {
+    Ok(SearchRun {
         verdict: found.verdict,
         visits: found.visits,
         told: gate.visits.get(),

@@ -21,13 +21,13 @@ pub(crate) fn comes<C: Clock>(clock: &C, count: &AtomicU64, wanted: u64) -> bool
 
 /// What became of a gate: how many visits came to it, and how many it held in vain.
 #[derive(Drop)]
-pub(crate) struct Held {
+pub(crate) struct GateCounts {
     pub(crate) entered: AtomicU64,
     pub(crate) in_vain: AtomicU64,
 }
 
-pub(crate) fn fresh() -> Held {
-    Held {
+pub(crate) fn fresh() -> GateCounts {
+    GateCounts {
         entered: AtomicU64::new(0),
         in_vain: AtomicU64::new(0),
     }
@@ -37,7 +37,7 @@ pub(crate) fn fresh() -> Held {
 #[derive(Drop)]
 pub(crate) struct Meeting<'a, C> {
     pub(crate) clock: &'a C,
-    pub(crate) held: &'a Held,
+    pub(crate) held: &'a GateCounts,
     pub(crate) wanted: u64,
 }
 

@@ -88,15 +88,15 @@ fn tell_tree(script: &mut String, shape: &[Group], tree: usize) -> Result<(), Al
 
 // What of one search was visited: the visits of which its gate was told, its visits, and whether it
 // chose.
-type Visited = (u64, u64, bool);
+type VisitTally = (u64, u64, bool);
 
-fn visited(alloc: Global, frozen: &Frozen) -> Result<Visited, AllocError> {
+fn visited(alloc: Global, frozen: &Frozen) -> Result<VisitTally, AllocError> {
     let found = search_frozen(alloc, frozen)?;
     let is_chosen = matches!(found.verdict, Verdict::Chosen(_));
     Ok((found.told, found.visits, is_chosen))
 }
 
-fn visited_in(alloc: Global, shape: &[Group], tree: usize) -> Result<Visited, Fail> {
+fn visited_in(alloc: Global, shape: &[Group], tree: usize) -> Result<VisitTally, Fail> {
     let mut script = String::new(alloc);
     tell_tree(&mut script, shape, tree)?;
     let frozen = frozen_after(alloc, &script)?;

@@ -11,7 +11,7 @@ use std::alloc::{AllocError, Global};
 
 /// A script's calls, and what they did on its platform.
 #[derive(Clone, Copy)]
-pub(crate) struct Played<'a, 'b> {
+pub(crate) struct PlayedScript<'a, 'b> {
     pub(crate) story: &'b Story<'a>,
     pub(crate) platform: &'b Platform,
     pub(crate) calls: &'b [Call<'a>],
@@ -21,7 +21,7 @@ pub(crate) struct Played<'a, 'b> {
 #[derive(Clone, Copy)]
 pub(crate) struct Scene<'a, 'b> {
     pub(crate) document: Document<'a>,
-    pub(crate) played: Option<Played<'a, 'b>>,
+    pub(crate) played: Option<PlayedScript<'a, 'b>>,
 }
 
 impl Scene<'_, '_> {

@@ -2,7 +2,7 @@
 
 ghost use Rattle.std.specs.Prelude.{[], ⊤};
 
-use crate::json::Played;
+use crate::json::PlayedScript;
 use explanation_text::wording::put_count;
 use explanation_text::{ListBuilder, TextBuilder};
 use script_replay::{Decider, Stop, proved_claim_for, report_of};
@@ -79,7 +79,10 @@ impl Decider for Telling<'_, '_> {
 }
 
 /// A sentence for each decision of a script. `AllocError` also where memory was refused to one.
-pub(crate) fn proofs_of(alloc: Global, played: Played<'_, '_>) -> Result<Vec<String>, AllocError> {
+pub(crate) fn proofs_of(
+    alloc: Global,
+    played: PlayedScript<'_, '_>,
+) -> Result<Vec<String>, AllocError> {
     let mut telling = Telling {
         story: played.story,
         proofs: ListBuilder::new(alloc),

@@ -68,7 +68,7 @@ pub(crate) fn keys_in(bytes: &[u8]) -> usize {
     let mut nesting = Nesting::new();
     let mut keys = 0usize;
     for byte in bytes {
-        if *byte == b':' && nesting.quoted == Quoted::Not {
+        if *byte == b':' && nesting.quoted == QuoteState::Not {
             keys = keys.saturating_add(1);
         }
         nesting.take(*byte);
@@ -78,7 +78,7 @@ pub(crate) fn keys_in(bytes: &[u8]) -> usize {
 
 /// Whether the next byte stands in a text in quotes.
 #[derive(Clone, Copy, PartialEq, Eq)]
-enum Quoted {
+enum QuoteState {
     Not,
     Is,
     /// The same, after a backslash.
@@ -89,32 +89,32 @@ enum Quoted {
 #[derive(Clone, Copy)]
 struct Nesting {
     depth: usize,
-    quoted: Quoted,
+    quoted: QuoteState,
 }
 
 impl Nesting {
     fn new() -> Nesting {
         Nesting {
             depth: 0,
-            quoted: Quoted::Not,
+            quoted: QuoteState::Not,
         }
     }
 
     /// Takes the next byte.
     fn take(&mut self, byte: u8) {
         match self.quoted {
-            Quoted::Not => self.take_plain(byte),
-            Quoted::Is if byte == b'"' => self.quoted = Quoted::Not,
-            Quoted::Is if byte == b'\\' => self.quoted = Quoted::Escaped,
-            Quoted::Is => {}
-            Quoted::Escaped => self.quoted = Quoted::Is,
+            QuoteState::Not => self.take_plain(byte),
+            QuoteState::Is if byte == b'"' => self.quoted = QuoteState::Not,
+            QuoteState::Is if byte == b'\\' => self.quoted = QuoteState::Escaped,
+            QuoteState::Is => {}
+            QuoteState::Escaped => self.quoted = QuoteState::Is,
         }
     }
 
     /// Takes a byte that stands in no text in quotes.
     fn take_plain(&mut self, byte: u8) {
         match byte {
-            b'"' => self.quoted = Quoted::Is,
+            b'"' => self.quoted = QuoteState::Is,
             b'{' | b'[' => self.depth = self.depth.saturating_add(1),
             b'}' | b']' => self.depth = self.depth.saturating_sub(1),
             _ => {}

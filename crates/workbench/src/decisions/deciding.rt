@@ -11,7 +11,7 @@ use negotiation_inputs::Platform;
 use std::alloc::Global;
 use std::thread::Threads;
 use sysmem_proof::check;
-use sysmem_search::{Found, NoGate, prove, search, search_wide};
+use sysmem_search::{NoGate, SearchResult, prove, search, search_wide};
 use sysmem_tree::{DomainId, Tree};
 use verdict_claims::Claim;
 
@@ -99,7 +99,7 @@ pub(crate) fn found_in(
     platform: &Platform,
     tree: &Tree,
     domain: DomainId,
-) -> Result<Found, Failure>
+) -> Result<SearchResult, Failure>
     requires { HasDomain tree.now.nodes domain }
     ensures initial { OnOk result (IsGivenBase platform.now tree.now.nodes domain None) }
     ensures optimal { IfOk result

@@ -6,7 +6,7 @@ ghost use Rattle.sysmem_room.specs.Counting.{all_parts};
 use super::ending::end;
 use super::hand::Hand;
 use super::playing::{keep, play_calls};
-use super::script::{Asked, all_stated};
+use super::script::{AskedConstraints, all_stated};
 use crate::failure::Failure;
 use book_replay::replayed;
 use live_book::{Collection, Snapshot};
@@ -57,7 +57,7 @@ fn collection_after<L: Ledger, R: Threads + Wait + Sync>(
     allocator: &Allocator<NoGate>,
     blank: Blank,
     calls: &[Call<'_>],
-    asked: &[Asked],
+    asked: &[AskedConstraints],
 ) -> Result<Option<Collection>, Failure>
     requires name { blank.name ≡ L.name }
     requires ledger { blank.parts ≡ L.parts }

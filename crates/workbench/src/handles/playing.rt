@@ -2,7 +2,7 @@
 
 use super::hand::{Hand, put, taken};
 use super::naming::{Reply, put_call};
-use super::script::Asked;
+use super::script::AskedConstraints;
 use script_reading::{Act, Call};
 use std::alloc::AllocError;
 use std::sync::ledger::Ledger;
@@ -15,7 +15,7 @@ pub(crate) fn play_calls<L: Ledger, R: Threads + Wait + Sync>(
     rt: &R,
     hands: &mut Vec<Hand<L>>,
     calls: &[Call<'_>],
-    asked: &[Asked],
+    asked: &[AskedConstraints],
     text: &mut String,
 ) -> Result<(), AllocError> {
     for (index, call) in calls.iter().enumerate() {
@@ -56,7 +56,7 @@ pub(crate) fn make<L: Ledger, R: Threads + Wait + Sync>(
     rt: &R,
     hands: &mut Vec<Hand<L>>,
     call: &Call<'_>,
-    asked: &Asked,
+    asked: &AskedConstraints,
 ) -> Reply {
     let place = call.place;
     if place >= hands.len() || matches!(&hands[place], Hand::Nobody) {
@@ -84,7 +84,7 @@ fn act<L: Ledger, R: Threads + Wait + Sync>(
     rt: &R,
     hand: &mut Hand<L>,
     act: &Act<'_>,
-    asked: &Asked,
+    asked: &AskedConstraints,
 ) -> Reply {
     let refused = match act {
         Act::Bind | Act::Release | Act::Close => spend(rt, hand, act),
@@ -97,7 +97,11 @@ fn act<L: Ledger, R: Threads + Wait + Sync>(
 }
 
 /// Sets constraints, of which one more owner is made, or none.
-fn set<L: Ledger, R: Threads + Wait + Sync>(rt: &R, hand: &mut Hand<L>, asked: &Asked) -> Reply {
+fn set<L: Ledger, R: Threads + Wait + Sync>(
+    rt: &R,
+    hand: &mut Hand<L>,
+    asked: &AskedConstraints,
+) -> Reply {
     match asked {
         Ok(Some(shared)) => match Arc::try_clone(shared) {
             Ok(own) => Reply::new(hand.set_constraints(rt, Some(own)).err()),

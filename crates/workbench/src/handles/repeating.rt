@@ -6,7 +6,7 @@ ghost use Rattle.sysmem_room.specs.Counting.{all_parts};
 use super::ending::end;
 use super::hand::Hand;
 use super::playing::{keep, make};
-use super::script::Asked;
+use super::script::AskedConstraints;
 use crate::failure::Failure;
 use negotiation_inputs::Platform;
 use script_reading::{Act, Call};
@@ -27,7 +27,7 @@ pub(crate) fn repeat_handles<R: Threads + Wait + Sync>(
     alloc: Global,
     platform: Platform,
     calls: &[Call<'_>],
-    asked: &[Asked],
+    asked: &[AskedConstraints],
     is_audited: bool,
     times: u32,
 ) -> Result<(), Failure> {
@@ -54,7 +54,7 @@ fn play_once<L: Ledger, R: Threads + Wait + Sync>(
     allocator: &Allocator<NoGate>,
     blank: Blank,
     calls: &[Call<'_>],
-    asked: &[Asked],
+    asked: &[AskedConstraints],
     is_audited: bool,
 ) -> Result<(), Failure>
     requires name { blank.name ≡ L.name }
@@ -81,7 +81,7 @@ fn play_on<L: Ledger, R: Threads + Wait + Sync>(
     root: Token<L, NoGate>,
     stubs: Vec<Stub<L>>,
     calls: &[Call<'_>],
-    asked: &[Asked],
+    asked: &[AskedConstraints],
 ) -> Vec<Stub<L>> {
     let mut hands = Vec::new(alloc);
     let _room = hands.reserve(129);
@@ -105,7 +105,7 @@ pub(crate) fn repeat_book(
     alloc: Global,
     platform: &Platform,
     calls: &[Call<'_>],
-    asked: &[Asked],
+    asked: &[AskedConstraints],
     times: u32,
 ) -> Result<(), AllocError> {
     for _ in 0..times {
@@ -118,7 +118,7 @@ fn apply_once(
     alloc: Global,
     platform: Platform,
     calls: &[Call<'_>],
-    asked: &[Asked],
+    asked: &[AskedConstraints],
 ) -> Result<(), AllocError> {
     let mut book = book_after(alloc, platform, calls, asked)?;
     let node = book.tree().root();
@@ -133,7 +133,7 @@ pub(crate) fn book_after(
     alloc: Global,
     platform: Platform,
     calls: &[Call<'_>],
-    asked: &[Asked],
+    asked: &[AskedConstraints],
 ) -> Result<Book, AllocError> {
     let mut book = Book::new(alloc, platform)?;
     match apply_all(alloc, &mut book, calls, asked) {
@@ -146,7 +146,7 @@ fn apply_all(
     alloc: Global,
     book: &mut Book,
     calls: &[Call<'_>],
-    asked: &[Asked],
+    asked: &[AskedConstraints],
 ) -> Result<(), AllocError> {
     let mut names = vec![in alloc; Some(book.tree().root())]?;
     for (call, asked) in calls.iter().zip(asked) {
@@ -163,7 +163,7 @@ pub(crate) fn apply(
     book: &mut Book,
     names: &[Option<NodeId>],
     call: &Call<'_>,
-    asked: &Asked,
+    asked: &AskedConstraints,
 ) -> Result<Option<NodeId>, AllocError> {
     let Some(Some(node)) = names.get(call.place).copied() else {
         return Ok(None);
@@ -186,7 +186,7 @@ pub(crate) fn apply(
     }
 }
 
-fn setting(asked: &Asked) -> Result<Action, AllocError> {
+fn setting(asked: &AskedConstraints) -> Result<Action, AllocError> {
     match asked {
         Ok(Some(shared)) => Ok(Action::SetConstraints(Some(Arc::try_clone(shared)?))),
         _ => Ok(Action::SetConstraints(None)),

@@ -20,10 +20,13 @@ use sysmem_sanitise::read_constraints;
 use sysmem_search::NoGate;
 
 /// What a call asks for, if it states anything, or why that can't be read.
-pub(crate) type Asked = Result<Option<Arc<Constraints>>, Fault>;
+pub(crate) type AskedConstraints = Result<Option<Arc<Constraints>>, Fault>;
 
 /// What each call asks for.
-pub(crate) fn all_stated(alloc: Global, calls: &[Call<'_>]) -> Result<Vec<Asked>, AllocError> {
+pub(crate) fn all_stated(
+    alloc: Global,
+    calls: &[Call<'_>],
+) -> Result<Vec<AskedConstraints>, AllocError> {
     let mut asked = Vec::with_capacity(alloc, calls.len())?;
     for call in calls {
         asked.push(stated(alloc, &call.act)?)?;
@@ -31,7 +34,7 @@ pub(crate) fn all_stated(alloc: Global, calls: &[Call<'_>]) -> Result<Vec<Asked>
     Ok(asked)
 }
 
-fn stated(alloc: Global, act: &Act<'_>) -> Result<Asked, AllocError> {
+fn stated(alloc: Global, act: &Act<'_>) -> Result<AskedConstraints, AllocError> {
     let Act::SetConstraints(Some(value)) = *act else {
         return Ok(Ok(None));
     };
@@ -63,7 +66,7 @@ fn play<R: Threads + Wait + Sync>(
     alloc: Global,
     allocator: &Allocator<NoGate>,
     calls: &[Call<'_>],
-    asked: &[Asked],
+    asked: &[AskedConstraints],
     text: &mut String,
 ) -> Result<(), AllocError> {
     if play_on::<Brand, R>(rt, alloc, allocator, Blank::new(129), calls, asked, text)? {
@@ -82,7 +85,7 @@ fn play_on<L: Ledger, R: Threads + Wait + Sync>(
     allocator: &Allocator<NoGate>,
     blank: Blank,
     calls: &[Call<'_>],
-    asked: &[Asked],
+    asked: &[AskedConstraints],
     text: &mut String,
 ) -> Result<bool, AllocError>
     requires name { blank.name ≡ L.name }
@@ -108,7 +111,7 @@ fn play_with<L: Ledger, R: Threads + Wait + Sync>(
     hands: Vec<Hand<L>>,
     stubs: Vec<Stub<L>>,
     calls: &[Call<'_>],
-    asked: &[Asked],
+    asked: &[AskedConstraints],
     text: &mut String,
 ) -> Result<(), AllocError> {
     let mut hands = hands;

@@ -7,7 +7,7 @@ ghost use Rattle.sysmem_alloc.specs.Sound.{MayWait};
 ghost use Rattle.sysmem_alloc.specs.State.{base_of, next_ready};
 
 use super::repeating::apply;
-use super::script::Asked;
+use super::script::AskedConstraints;
 use crate::failure::Failure;
 use negotiation_inputs::Platform;
 use script_reading::{Act, Call};
@@ -25,7 +25,7 @@ pub(crate) fn repeat_decided(
     alloc: Global,
     platform: &Platform,
     calls: &[Call<'_>],
-    asked: &[Asked],
+    asked: &[AskedConstraints],
     times: u32,
 ) -> Result<(), Failure> {
     for _ in 0..times {
@@ -38,7 +38,7 @@ fn decide_once(
     alloc: Global,
     platform: Platform,
     calls: &[Call<'_>],
-    asked: &[Asked],
+    asked: &[AskedConstraints],
 ) -> Result<(), Failure> {
     let mut book = Book::new(alloc, platform)?;
     let mut names = vec![in alloc; Some(book.tree().root())]?;

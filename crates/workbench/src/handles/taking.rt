@@ -5,7 +5,7 @@
 ghost use Rattle.std.specs.Prelude.{◌≡◌};
 ghost use Rattle.sysmem_room.specs.Counting.{all_parts};
 
-use super::script::Asked;
+use super::script::AskedConstraints;
 use super::tokens::{close_all, share_out, take_part};
 use crate::failure::Failure;
 use negotiation_inputs::{Constraints, Platform};
@@ -22,7 +22,7 @@ use sysmem_tree::{Action, Event, NodeId};
 /// What each asks for who asks for anything.
 pub(crate) fn all_asked(
     alloc: Global,
-    asked: Vec<Asked>,
+    asked: Vec<AskedConstraints>,
 ) -> Result<Vec<Arc<Constraints>>, AllocError> {
     let mut all = Vec::new(alloc);
     for one in asked {

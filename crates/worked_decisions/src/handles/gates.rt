@@ -9,7 +9,7 @@ use super::handling::{
 };
 use super::slots::{emptied, take_part};
 use crate::equal::is_equal;
-use crate::gate::{Held, Meeting, comes, fresh};
+use crate::gate::{GateCounts, Meeting, comes, fresh};
 use crate::steps::{asked, large_platform, platform};
 use negotiation_inputs::Constraints;
 use std::alloc::Global;
@@ -32,7 +32,7 @@ use sysmem_tree::Refusal;
 #[derive(Drop)]
 struct Stages<'a, C> {
     clock: &'a C,
-    held: &'a Held,
+    held: &'a GateCounts,
     let_go: &'a AtomicU64,
     visits: AtomicU64,
     proofs: AtomicU64,
@@ -105,7 +105,7 @@ fn decided_apart<L: Ledger, G: Gate + Drop + Sync, R: Threads + Wait + Abort + S
 fn attach_meanwhile<L: Ledger, G: Gate + Drop + Sync, R: Threads + Wait + Abort + Clock + Sync>(
     rt: &R,
     waiting: &mut Collection<L, G>,
-    held: &Held,
+    held: &GateCounts,
     stage: u64,
 ) -> Token<L, G> {
     is_equal(rt, "held", &comes(rt, &held.entered, stage), &true);
@@ -124,7 +124,7 @@ fn act_meanwhile<L: Ledger, G: Gate + Drop + Sync, R: Threads + Wait + Abort + C
     allocator: &Allocator<G>,
     waiting: &mut Collection<L, G>,
     asked: &Arc<Constraints>,
-    held: &Held,
+    held: &GateCounts,
     let_go: &AtomicU64,
 ) -> [Stub<L>; 3] {
     let first = attach_meanwhile(rt, waiting, held, 1);
@@ -154,7 +154,7 @@ fn hold<
     allocator: &Allocator<G>,
     blank: Blank,
     asked: &[Arc<Constraints>; 2],
-    held: &Held,
+    held: &GateCounts,
     let_go: &AtomicU64,
 ) -> Result<Audit, AuditFault>
     requires name { blank.name ≡ L.name }
@@ -206,7 +206,12 @@ fn is_decided_outside<R: Threads + Wait + Abort + Clock + Sync>(
 }
 
 // So many nodes, actions and decisions were counted, and nothing was held in vain.
-fn is_audited(rt: &impl Abort, held: &Held, found: Result<Audit, AuditFault>, wanted: [u32; 3]) {
+fn is_audited(
+    rt: &impl Abort,
+    held: &GateCounts,
+    found: Result<Audit, AuditFault>,
+    wanted: [u32; 3],
+) {
     let [nodes, actions, decisions] = wanted;
     let wanted = Audit {
         nodes,

@@ -10,7 +10,7 @@ use sysmem_tree::NodeKind;
 
 /// A node of which the joint isn't there yet, with the index of the joint above it.
 #[derive(Clone, Copy)]
-struct Left {
+struct UndrawnNode {
     node: usize,
     above: Option<usize>,
     depth: usize,
@@ -24,8 +24,8 @@ pub(crate) fn add_joints<'b>(
     story: &'b Story<'_>,
 ) -> Result<(), AllocError> {
     let in_the_way = in_the_way_of(alloc, platform, story)?;
-    let mut left: Vec<Left> = Vec::new(alloc);
-    left.push(Left {
+    let mut left: Vec<UndrawnNode> = Vec::new(alloc);
+    left.push(UndrawnNode {
         node: 0,
         above: None,
         depth: 0,
@@ -45,14 +45,14 @@ pub(crate) fn add_joints<'b>(
 
 /// Puts a node's children before what is left, the last first.
 fn add_children(
-    left: &mut Vec<Left>,
+    left: &mut Vec<UndrawnNode>,
     story: &Story<'_>,
-    above: Left,
+    above: UndrawnNode,
     row: usize,
 ) -> Result<(), AllocError> {
     for (number, known) in story.nodes.iter().enumerate().rev() {
         if known.parent == Some(above.node) {
-            left.push(Left {
+            left.push(UndrawnNode {
                 node: number,
                 above: Some(row),
                 depth: above.depth.saturating_add(1),
@@ -65,7 +65,7 @@ fn add_children(
 fn joint_of<'b>(
     alloc: Global,
     story: &'b Story<'_>,
-    left: Left,
+    left: UndrawnNode,
     in_the_way: &[usize],
 ) -> Result<Joint<'b>, AllocError> {
     let node = left.node;

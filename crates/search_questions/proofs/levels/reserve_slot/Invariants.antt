@@ -1,10 +1,10 @@
 -- So many slots, and nothing in the new ones.
 use Rattle.std.proofs.Common.{ℕ, ◌≡◌, Some, length, slice_get}
-use Rattle.search_questions.specs.declared.kept.Part.{Part}
+use Rattle.search_questions.specs.declared.kept.ChoiceShare.{ChoiceShare}
 use Rattle.search_questions.proofs.levels.reserve_slot.Given as goal
 
 abbrev pub invariant-loop-more : goal.invariant-loop-more
 invariant-loop-more l = record {
   many : length l.parts.items ≡ l._more;
-  kept : (at : ℕ) (part : Part) → slice_get l.parts.items at ≡ Some (Some part) → slice_get l.fn.parts.items at ≡ Some (Some part);
+  kept : (at : ℕ) (part : ChoiceShare) → slice_get l.parts.items at ≡ Some (Some part) → slice_get l.fn.parts.items at ≡ Some (Some part);
 }

@@ -5,7 +5,7 @@ use Rattle.std.specs.Prelude.{IsSomeAnd}
 use Rattle.std.specs.Option.{option_or}
 use Rattle.std.proofs.lemmas.List.{drop_more}
 use Rattle.std.proofs.lemmas.Option.{same_Some, none-some, slice_get_within}
-use Rattle.sysmem_tree.specs.declared.layout.Place.{Place}
+use Rattle.sysmem_tree.specs.declared.layout.LayoutPlace.{LayoutPlace}
 use Rattle.sysmem_tree.specs.Forest.{each, settled}
 use Rattle.sysmem_tree.specs.Layout.{first_place}
 use Rattle.sysmem_tree.specs.Prefix.{AreAlternatives}
@@ -74,7 +74,7 @@ loop-choice-preserved c = λ d laid h.
       on.goes,
       on.open_left,
       next_there c.args.layout.now.places c.child-kid.result _ (first_place on.left)
-          (subst (λ x. IsSomeAnd (slice_get c.args.layout.now.places x) (λ (p : Place). p.next ≡ option_or (first_place on.left) None)) child on.next),
+          (subst (λ x. IsSomeAnd (slice_get c.args.layout.now.places x) (λ (p : LayoutPlace). p.next ≡ option_or (first_place on.left) None)) child on.next),
       λ k. c.mark-in-loop-choice.ensures on.kid true alternatives.next laid' from k
           ∙ (ap (λ b. b || list_any (is_at k) (settled on.kid)) (marked k) ∙ sym (on.adds (is_at k))),
     )

@@ -5,7 +5,7 @@ use Rattle.std.specs.List.{list_any}
 use Rattle.std.specs.Option.{option_or}
 use Rattle.std.proofs.lemmas.List.{drop_more}
 use Rattle.std.proofs.lemmas.Option.{same_Some, none-some, slice_get_within}
-use Rattle.sysmem_tree.specs.declared.layout.Place.{Place}
+use Rattle.sysmem_tree.specs.declared.layout.LayoutPlace.{LayoutPlace}
 use Rattle.sysmem_tree.specs.Forest.{each, settled}
 use Rattle.sysmem_tree.specs.Layout.{first_place}
 use Rattle.sysmem_tree.specs.Prefix.{AreAlternatives}
@@ -71,7 +71,7 @@ loop-choice-preserved c = λ d laid h.
     let same : at ≡ c.in-Some.at = same_Some at c.in-Some.at (sym there ∙ c.in-Some.is) in
     let child = c.child-kid.ensures.place on.kids on.kid (subst (λ x. AreAlternatives c.args.layout.now.places (x + 1) on.kids) same on.alternatives) on.is_kid in
     let next = next_there c.args.layout.now.places c.child-kid.result _ (first_place on.left)
-    (subst (λ x. IsSomeAnd (slice_get c.args.layout.now.places x) (λ (p : Place). p.next ≡ option_or (first_place on.left) None)) child on.next) in
+    (subst (λ x. IsSomeAnd (slice_get c.args.layout.now.places x) (λ (p : LayoutPlace). p.next ≡ option_or (first_place on.left) None)) child on.next) in
     elim c.if-is_settled.branch [
       | then-is_settled w ↦ (
         on.left,

@@ -3,7 +3,7 @@ use Rattle.std.proofs.Common.{arith, ◌≡◌, ◌≤◌, ℕ, zero, suc, List,
 use Rattle.std.specs.Prelude.{IsSomeAnd}
 use Rattle.std.proofs.lemmas.Option.{slice_get_within, same_Some}
 use Rattle.verdict_claims.specs.Members.{participants}
-use Rattle.search_questions.specs.declared.kept.Part.{Part}
+use Rattle.search_questions.specs.declared.kept.ChoiceShare.{ChoiceShare}
 use Rattle.search_questions.specs.declared.levels.Level.{Level}
 use Rattle.search_questions.specs.Kept.{IsKeptFor}
 use Rattle.verdict_claims.specs.Matter.{Matter}
@@ -38,7 +38,7 @@ only_one : (first : Level) (none levels : List Level) → none ≡ [] → levels
 only_one first none levels empty added = added ∙ ap (λ xs. xs ++ first ∷ []) empty
 
 -- nothing is kept where there is no slot
-none_kept : {X : Type 0} (parts : List (Option Part)) (slot : ℕ) (part : Part) → parts ≡ [] → slice_get parts slot ≡ Some (Some part) → X
+none_kept : {X : Type 0} (parts : List (Option ChoiceShare)) (slot : ℕ) (part : ChoiceShare) → parts ≡ [] → slice_get parts slot ≡ Some (Some part) → X
 none_kept [] slot part none here = absurd (cc)
 none_kept (x ∷ parts) slot part none here = absurd (cc)
 

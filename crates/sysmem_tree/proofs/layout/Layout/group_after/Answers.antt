@@ -4,7 +4,7 @@ use Rattle.std.specs.Prelude.{IsSomeAnd}
 use Rattle.std.specs.Option.{option_or}
 use Rattle.std.proofs.lemmas.List.{drop_more}
 use Rattle.std.proofs.lemmas.Option.{same_Some, none-some, slice_get_within}
-use Rattle.sysmem_tree.specs.declared.layout.Place.{Place}
+use Rattle.sysmem_tree.specs.declared.layout.LayoutPlace.{LayoutPlace}
 use Rattle.sysmem_tree.specs.Forest.{each}
 use Rattle.sysmem_tree.specs.Layout.{first_place}
 use Rattle.sysmem_tree.specs.Prefix.{AreAlternatives}
@@ -44,7 +44,7 @@ loop-choice-preserved c = λ d laid h.
       on.goes,
       on.open_left,
       next_there c.args.self.now.places c.child.result _ (first_place on.left)
-          (subst (λ x. IsSomeAnd (slice_get c.args.self.now.places x) (λ (p : Place). p.next ≡ option_or (first_place on.left) None)) child on.next),
+          (subst (λ x. IsSomeAnd (slice_get c.args.self.now.places x) (λ (p : LayoutPlace). p.next ≡ option_or (first_place on.left) None)) child on.next),
     )
 
 pub returns : goal.returns

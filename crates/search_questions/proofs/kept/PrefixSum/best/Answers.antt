@@ -4,7 +4,7 @@ use Rattle.std.specs.Prelude.{option_map}
 use Rattle.verdict_claims.specs.Members.{participants}
 use Rattle.search_questions.specs.Kept.{IsKeptFor}
 use Rattle.search_questions.proofs.Keeping.{base_best, base_none}
-use Rattle.search_questions.proofs.kept.Kept.best.Goals as goal
+use Rattle.search_questions.proofs.kept.PrefixSum.best.Goals as goal
 
 pub returns-then-suits : goal.returns-then-suits
 returns-then-suits c = λ ms keeps.

@@ -3,7 +3,7 @@ use Rattle.std.proofs.Common.{[], ◌∷◌, ◌++◌, sym, ◌∙◌, ap, subst
 use Rattle.std.specs.Prelude.{option_map}
 use Rattle.search_questions.specs.Kept.{IsPartFor, TakesBase}
 use Rattle.search_questions.proofs.Keeping.{part_taken, taken_part}
-use Rattle.search_questions.proofs.kept.Part.add.Goals as goal
+use Rattle.search_questions.proofs.kept.ChoiceShare.add.Goals as goal
 
 pub returns-in-Some : goal.returns-in-Some
 returns-in-Some c = λ ps is.

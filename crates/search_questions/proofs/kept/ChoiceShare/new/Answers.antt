@@ -2,7 +2,7 @@
 use Rattle.std.proofs.Common.{[], refl, sym, ◌∙◌, ap}
 use Rattle.std.specs.Prelude.{option_map}
 use Rattle.search_questions.proofs.Keeping.{taken_part}
-use Rattle.search_questions.proofs.kept.Part.new.Goals as goal
+use Rattle.search_questions.proofs.kept.ChoiceShare.new.Goals as goal
 
 pub returns-in-Some : goal.returns-in-Some
 returns-in-Some c =

@@ -2,10 +2,10 @@
 use Rattle.std.proofs.Common.{◌≤◌, ◌≢◌, [], sym, ◌∙◌, ap, subst, length, arith}
 use Rattle.std.specs.Prelude.{All, option_map}
 use Rattle.verdict_claims.specs.Base.{IsGivenBase}
-use Rattle.search_questions.specs.declared.kept.Kept.TheVariants as kept_as
+use Rattle.search_questions.specs.declared.kept.PrefixSum.TheVariants as kept_as
 use Rattle.search_questions.specs.Kept.{IsKeptOf, TakesBase}
 use Rattle.verdict_claims.specs.Asked.{asked_in}
-use Rattle.search_questions.proofs.kept.Kept.new.Goals as goal
+use Rattle.search_questions.proofs.kept.PrefixSum.new.Goals as goal
 use Rattle.sysmem_tree.proofs.CallerLemmas.{few_different, named_there}
 use Rattle.sysmem_tree.specs.Nodes.{HasNode}
 

@@ -4,7 +4,7 @@ use Rattle.std.specs.Prelude.{option_map}
 use Rattle.verdict_claims.specs.Members.{participants}
 use Rattle.search_questions.specs.Kept.{IsKeptFor}
 use Rattle.search_questions.proofs.Keeping.{SumAsked, sum_met, base_met}
-use Rattle.search_questions.proofs.kept.Kept.is_met.Goals as goal
+use Rattle.search_questions.proofs.kept.PrefixSum.is_met.Goals as goal
 
 pub returns-in-Sum : goal.returns-in-Sum
 returns-in-Sum c = λ ms keeps.
