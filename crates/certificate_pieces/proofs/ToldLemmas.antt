@@ -6,7 +6,7 @@ use Rattle.std.proofs.lemmas.List.{take-append-drop}
 use Rattle.std.proofs.Math.Seq.{take-append_seam}
 use Rattle.byte_transfer.specs.Transfer.{WritesFront}
 use Rattle.certificate_pieces.specs.declared.piece.Piece.{Piece}
-use Rattle.certificate_pieces.specs.Telling.{SinkFacts, Waits, Ended, HasTold, Tells, IsEmpty, Takes, WritesAll}
+use Rattle.certificate_pieces.specs.Telling.{SinkFacts, HasTold, Tells, IsEmpty, Takes, WritesAll}
 
 -- known bytes grow by one text, and then by another
 pub both_appended : (u v w : Option (List ℕ)) (a b : List ℕ) → Appends u v a → Appends v w b → Appends u w (a ++ b)

@@ -66,7 +66,7 @@ fn add_all(items: &mut Items, group: Group<'_, '_>, edits: &[Edit]) -> Result<()
 }
 
 /// Tells changes that help together, each as small as it can be.
-fn list_parts(
+fn add_least_changes(
     items: &mut Items,
     joint: CombinedChange<'_, '_>,
     shelf: &mut RecordCache,
@@ -109,7 +109,7 @@ impl CombinedChange<'_, '_> {
             return Ok(());
         }
         let fewest = self.fewest(shelf, items.alloc(), &plain)?;
-        list_parts(items, *self, shelf, &fewest, "")
+        add_least_changes(items, *self, shelf, &fewest, "")
     }
 
     /// Tells the fewest of all changes that help, where they take the use by a CPU away.
@@ -124,7 +124,7 @@ impl CombinedChange<'_, '_> {
         }
         let others = self.needed(shelf, items.alloc(), all, false)?;
         if takes_cpu(&others) {
-            list_parts(items, *self, shelf, &others, "or ")?;
+            add_least_changes(items, *self, shelf, &others, "or ")?;
         }
         Ok(())
     }

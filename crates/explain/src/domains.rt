@@ -24,7 +24,7 @@ pub(crate) fn add_domains(
         if !story.order.get(..k).unwrap_or(&[]).contains(index) {
             add_domain(items, scenario.platform, story, *index)?;
             add_unused(items, document, scenario, story, *index)?;
-            list_help(items, document, scenario, story, *index)?;
+            add_helps(items, document, scenario, story, *index)?;
         }
     }
     Ok(())
@@ -32,7 +32,7 @@ pub(crate) fn add_domains(
 
 /// Tells what would help a domain that is pending or empty, and what else one could be that is
 /// chosen.
-fn list_help(
+fn add_helps(
     items: &mut Items,
     document: &Document<'_>,
     scenario: &Scenario<'_>,

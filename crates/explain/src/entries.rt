@@ -137,11 +137,11 @@ impl Teller<'_, '_> {
             return Ok(());
         }
         tried.push(item)?;
-        self.put_in_first(items, item)
+        self.try_entry_first(items, item)
     }
 
     /// Tells what would be decided with an entry of the record, from 0, before the others.
-    fn put_in_first(&self, items: &mut Items, item: usize) -> Result<(), AllocError> {
+    fn try_entry_first(&self, items: &mut Items, item: usize) -> Result<(), AllocError> {
         let Some(value) = self.one.stated else {
             return Ok(());
         };

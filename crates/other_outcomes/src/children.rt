@@ -33,14 +33,14 @@ pub fn add_later_children(
 ) -> Result<(), AllocError> {
     let pairs = siblings_in(items.alloc(), story, index)?;
     for pair in pairs.iter().take(MOST) {
-        list_exchanged(items, scenario, story, *pair, path)?;
+        try_exchanged(items, scenario, story, *pair, path)?;
     }
     Ok(())
 }
 
 /// Tells what would be decided if the later of two children stood in the other's place, if it would
 /// be chosen then.
-fn list_exchanged(
+fn try_exchanged(
     items: &mut Items,
     scenario: &Scenario<'_>,
     story: &Story<'_>,

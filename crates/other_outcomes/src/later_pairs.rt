@@ -26,7 +26,7 @@ pub fn add_later_pairs(
     };
     let listed = listed_in(alloc, scenario, story, index, chosen)?;
     for pair in listed.iter().take(MOST) {
-        list_pair(items, scenario, path, *pair, chosen)?;
+        try_pair_first(items, scenario, path, *pair, chosen)?;
     }
     Ok(())
 }
@@ -45,7 +45,7 @@ fn listed_in(
 
 /// Tells what the domain at a path would be if a pair stood first on the platform, if that would be
 /// chosen.
-fn list_pair(
+fn try_pair_first(
     items: &mut Items,
     scenario: &Scenario<'_>,
     path: &str,

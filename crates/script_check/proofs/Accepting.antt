@@ -1,21 +1,21 @@
 -- A report's certificate is accepted by a check.
-use Rattle.std.proofs.Common.{◌≡◌, ℕ, ◌+◌, ◌≤◌, List, [], ◌∷◌, length, Bool, false, Option, Some, None, Result, Ok, Err, refl, sym, ◌∙◌, ap, subst}
+use Rattle.std.proofs.Common.{◌≡◌, ℕ, ◌≤◌, List, [], ◌∷◌, length, Bool, false, Option, Some, None, Result, Ok, Err, refl, sym, ap, subst}
 use Rattle.std.specs.List.{AllByRecursion, AllZip}
 use Rattle.std.specs.Io.KnownBytes.{Appends}
 use Rattle.std.proofs.lemmas.List.{length-map}
 use Rattle.std.proofs.lemmas.List.Elements.{recursion_from_All}
 use Rattle.certificate_text.specs.Said.{claim_said}
 use Rattle.certificate_text.specs.Told.{decision_data}
-use Rattle.serde_json.specs.Data.{Data, array}
+use Rattle.serde_json.specs.Data.{array}
 use Rattle.serde_json.specs.View.{items_of}
 use Rattle.script_reading.proofs.CallerLemmas.{script_ids, script_platform}
 use Rattle.script_reading.specs.Script.{ScriptFacts}
 use Rattle.script_reading.specs.Text.{IsJson, longest}
 use Rattle.verdict_claims.specs.declared.certificate.Claim.{Claim}
 use Rattle.negotiation_inputs.specs.Platform.{PlatformFacts}
-use Rattle.script_run.specs.Certificate.{CertifiedFacts, IsCertifiedBy, IsProved, certificate_of, data_of}
+use Rattle.script_run.specs.Certificate.{IsCertifiedBy, IsProved, certificate_of, data_of}
 use Rattle.script_check.specs.Checked.{AreTaken, IsOf, accepts}
-use Rattle.script_check.specs.CheckedFile.{ChecksTo, EndsInYes, HasChecked, IsListOf, IsScriptOf, answer_text}
+use Rattle.script_check.specs.CheckedFile.{ChecksTo, EndsInYes, HasChecked, IsListOf, answer_text}
 use Rattle.script_check.specs.Headline.{HasClaim}
 use Rattle.script_check.specs.Laws.{AreReadBack, CertificatesAreAccepted, CertificatesReadBack, CertifiedIsReport, FaultIsAlone, OneCheck, claim_told}
 use Rattle.script_replay.specs.Outcome.{ReportFacts, RunsTo}

@@ -1,6 +1,5 @@
 -- A report is of a legal history.
 use Rattle.std.proofs.Common.{◌≡◌, ℕ, ◌+◌, List, [], ◌∷◌, false, IsOk, refl, sym, ◌∙◌, ap, subst}
-use Rattle.std.specs.List.{AllByRecursion}
 use Rattle.serde_json.specs.Data.{Data}
 use Rattle.sysmem_alloc.specs.Decision.{answer_of}
 use Rattle.sysmem_alloc.specs.Entry.{BookEntry, Acted, Decided}

@@ -1,5 +1,5 @@
 -- The history that a report is of, and what the headline says of its decisions.
-use Rattle.std.specs.Prelude.{◌≡◌, ℕ, List, [], ◌∷◌, Bool, false, Result, Ok, is_none}
+use Rattle.std.specs.Prelude.{◌≡◌, ℕ, List, [], ◌∷◌, Bool, false, Ok, is_none}
 use Rattle.std.specs.List.{AllByRecursion, AllZip}
 use Rattle.serde_json.specs.Data.{Data}
 use Rattle.sysmem_alloc.specs.Entry.{BookEntry, Acted, Decided}

@@ -122,7 +122,8 @@ pub struct CertifiedReport {
 }
 
 /// The report of a script's bytes. The fault is the script's, or that memory was refused before
-/// the first call; where it is refused later, the report says so.
+/// the first call or to the report's own text; where a call or a decision finds none, the report
+/// says so.
 pub fn report_of_bytes(alloc: Global, bytes: &[u8]) -> Result<Report, ParseFault>
     ensures { GivesOneOf report_seen result (RunsTo bytes.now) }
 {

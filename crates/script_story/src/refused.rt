@@ -79,7 +79,7 @@ fn add_rows(items: &mut Items, document: &Document<'_>, story: &Story<'_>, rows:
     };
     items.title("calls to look at");
     for row in rows.iter().take(most) {
-        list_row(items, document, story, row);
+        add_refused_calls(items, document, story, row);
     }
     add_more(items, rows.len().saturating_sub(most))
 }
@@ -198,7 +198,12 @@ fn fault_of(alloc: Global, call: &MadeCall<'_>) -> Result<Option<Fault>, AllocEr
     }
 }
 
-fn list_row(items: &mut Items, document: &Document<'_>, story: &Story<'_>, row: &RefusedCalls) {
+fn add_refused_calls(
+    items: &mut Items,
+    document: &Document<'_>,
+    story: &Story<'_>,
+    row: &RefusedCalls,
+) {
     let number = number_of(row);
     let Some(call) = story.call(number) else {
         return;

@@ -22,7 +22,7 @@ pub fn add_settings(
     settings: &Settings,
 ) -> Result<(), AllocError> {
     add_count(items, participants, settings);
-    list_place(items, platform, participants, settings)?;
+    add_chosen_place(items, platform, participants, settings)?;
     add_offer(items, platform, participants, settings)?;
     let wishes = Wishes {
         participants,
@@ -112,7 +112,7 @@ fn note_row(items: &mut Items, wishes: Wishes<'_, '_>) -> Result<(), AllocError>
 }
 
 /// Tells the place, and who refused each of those before it.
-fn list_place(
+fn add_chosen_place(
     items: &mut Items,
     platform: &Platform,
     participants: &[NamedParticipant<'_>],
@@ -166,13 +166,13 @@ fn add_listed(
     };
     let pairs = listed_before(items.alloc(), platform, participants, chosen)?;
     for pair in &pairs {
-        list_pair(items, platform, participants, *pair)?;
+        add_refused_pair(items, platform, participants, *pair)?;
     }
     Ok(())
 }
 
 /// Tells who refuses a pair, where all its offers are refused.
-fn list_pair(
+fn add_refused_pair(
     items: &mut Items,
     platform: &Platform,
     participants: &[NamedParticipant<'_>],

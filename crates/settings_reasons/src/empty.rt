@@ -34,7 +34,7 @@ pub fn add_conflict(
     add_contradictions(items, depth, participants);
     add_in_the_way(items, depth, platform, participants)?;
     add_counts(items, depth, participants);
-    list_places(items, depth, platform, participants)?;
+    add_refused_places(items, depth, platform, participants)?;
     add_offers(items, depth, platform, participants, whole)
 }
 
@@ -49,7 +49,7 @@ fn add_counts(items: &mut Items, depth: usize, participants: &[NamedParticipant<
 }
 
 /// Tells who refuses each place, where somebody does.
-fn list_places(
+fn add_refused_places(
     items: &mut Items,
     depth: usize,
     platform: &Platform,

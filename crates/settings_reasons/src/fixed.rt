@@ -70,7 +70,7 @@ fn add_misfit(
         let text = misfit_text(items.alloc(), platform, settings, one, *field);
         items.say(1, "misfit", text);
         if matches!(field, Field::PixelFormat | Field::ColorSpaces) {
-            list_refused(items, platform, one, before)?;
+            add_refused_images(items, platform, one, before)?;
         }
     }
     Ok(())
@@ -91,7 +91,7 @@ fn misfit_text(
 
 /// Tells who of those before refuses the images that a participant takes; or that nobody does, and
 /// the platform has what was decided before them.
-fn list_refused(
+fn add_refused_images(
     items: &mut Items,
     platform: &Platform,
     one: &NamedParticipant<'_>,

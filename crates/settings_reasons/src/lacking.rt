@@ -31,7 +31,7 @@ pub(crate) fn add_no_images(
             add_lacked(&mut lacked, platform, entry, one)?;
         }
     }
-    list_lacked(
+    add_lacked_rows(
         items,
         depth,
         &lacked,
@@ -77,7 +77,7 @@ pub(crate) fn add_no_heaps(
             }
         }
     }
-    list_lacked(
+    add_lacked_rows(
         items,
         depth,
         &lacked,
@@ -137,7 +137,7 @@ fn add_named<'a>(
 }
 
 /// Tells what is named and isn't there, by whom, those first that most of so many name.
-fn list_lacked(
+fn add_lacked_rows(
     items: &mut Items,
     depth: usize,
     lacked: &[LackedName<'_>],

@@ -1,9 +1,6 @@
 use Rattle.std.proofs.lemmas.Result.{err_from_is_err_and}
-use Rattle.std.proofs.Common.{Ok, Err}
-use Rattle.std.specs.String.{string_bytes}
 use Rattle.serde_json.specs.View.{view}
 use Rattle.script_reading.specs.Seen.{script_seen}
-use Rattle.script_check.specs.declared.checked_file.CheckReply.{CheckReply}
 use Rattle.script_check.proofs.CheckedLemmas.{is-answered, is-unanswered, unread-bytes, unspelled-bytes}
 use Rattle.script_check.proofs.checked_file.check_of_bytes.Goals as goal
 
