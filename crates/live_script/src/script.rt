@@ -5,6 +5,7 @@ ghost use Rattle.std.specs.List.{AllByRecursion};
 ghost use Rattle.std.specs.String.{string_bytes};
 ghost use Rattle.live_script.specs.Script.{IsScriptOf, IsTooLong, act_told, actor_told, asked_by, call_told, called, calls_told, nodes_then};
 ghost use Rattle.live_script.specs.Calls.{HasItsNode, IsRead, nodes_behind};
+ghost use Rattle.live_script.specs.declared.script.TheConstants.{MANY_NODES};
 ghost use Rattle.live_script.specs.declared.script.Unwritten.TheVariants.{TooLong};
 ghost use Rattle.negotiation_inputs.specs.Participant.{Participant};
 ghost use Rattle.negotiation_inputs.specs.Platform.{PlatformFacts};
@@ -33,6 +34,9 @@ use sysmem_tree::{ActionKind, NodeId, Tree};
 
 /// As many actors as a script may have, but for `main`.
 const MOST_NAMED_ACTORS: usize = 15;
+
+/// More nodes than the entries of a history make: these are at most 639.
+const MANY_NODES: u32 = 1000;
 
 /// Who makes the calls on a node: it itself, by the name that it was given, where few were given
 /// one.
@@ -115,7 +119,7 @@ fn act_of<'a>(kind: ActionKind, made: &'a str, stated: Option<&'a Value>) -> Act
 
 /// How many nodes there are after an action.
 fn nodes_then(nodes: u32, kind: ActionKind) -> u32
-    requires { nodes ≤ 1000 }
+    requires { nodes ≤ MANY_NODES }
     ensures { (set : Option Participant) → result ≡ nodes_then nodes (deed_with set kind) }
 {
     if kind.makes().is_some() {
@@ -135,7 +139,7 @@ fn put_action(
     nodes: u32,
 ) -> Result<u32, AllocError>
     requires there { HasNode snapshot.now.tree.nodes node }
-    requires few { nodes ≤ 1000 }
+    requires few { nodes ≤ MANY_NODES }
     ensures put { (platform : PlatformFacts) (calls : List WrittenCall)
         → HasTaken writer.old platform calls → OnOk result (HasTaken writer.new platform
         (calls ++ call_told snapshot.now.names nodes node
@@ -166,7 +170,7 @@ fn put_entry(
 ) -> Result<u32, AllocError>
     requires there { HasItsNode snapshot.now.tree.nodes
         (entry_in snapshot.now.tree.nodes entry.now) }
-    requires few { nodes ≤ 1000 }
+    requires few { nodes ≤ MANY_NODES }
     ensures put { (platform : PlatformFacts) (calls : List WrittenCall)
         → HasTaken writer.old platform calls → OnOk result (HasTaken writer.new platform
         (calls ++ calls_told snapshot.now.names nodes
@@ -207,6 +211,7 @@ pub enum Unwritten {
 }
 
 impl From<AllocError> for Unwritten {
+    ghost use Rattle.live_script.specs.declared.script.TheConstants.{MANY_NODES};
     ghost use Rattle.live_script.specs.declared.script.Unwritten.TheVariants.{NoMemory};
 
     ghost from_gives = { λ _ unwritten. unwritten ≡ NoMemory };

@@ -26,7 +26,8 @@ put_entry-requires c =
     let few : length s.history ≤ 639 = c.few_entries.ensures s.platform s.history c.recall_settled.ensures.settled.legal in
     let long : length es ≡ c.loop-entry.entry-index = length-map (take c.loop-entry.entry-index raw) f ∙ length-take-le _ _ c.loop-entry.auto.entry-index-end in
     let at : c.loop-entry.entry-index ≤ length raw = c.loop-entry.auto.entry-index-end in
-    record { there = there; few = omega (arith, c.loop-entry.invariant.nodes_are, few_behind 1 es, long, at, many, few) }
+    let small : c.loop-entry.nodes ≤ 1000 = omega (arith, c.loop-entry.invariant.nodes_are, few_behind 1 es, long, at, many, few) in
+    record { there = there; few = small }
 
 pub loop-entry-preserved : goal.loop-entry-preserved
 loop-entry-preserved c =
