@@ -87,8 +87,8 @@ fn try_all(
 ) -> Result<(), AllocError> {
     try_exchanges(search, group, index, true)?;
     try_room(search, group, index)?;
-    for one in group.participants {
-        try_entries(search, group, one)?;
+    for participant in group.participants {
+        try_entries(search, group, participant)?;
     }
     for edit in edits {
         try_edit(search, group, *edit)?;
@@ -134,9 +134,9 @@ fn try_count(
     count: u32,
 ) -> Result<(), AllocError> {
     let before = search.count;
-    for one in participants {
-        if search.count == before && (one.node == node) == is_there {
-            try_one(search, group, one, Edit::LeastCount(count))?;
+    for participant in participants {
+        if search.count == before && (participant.node == node) == is_there {
+            try_one(search, group, participant, Edit::LeastCount(count))?;
         }
     }
     Ok(())
@@ -152,13 +152,13 @@ fn host_of(story: &Story<'_>, index: usize) -> Option<usize> {
 fn try_entries(
     search: &mut Search<'_, '_>,
     group: Group<'_, '_>,
-    one: &NamedParticipant<'_>,
+    participant: &NamedParticipant<'_>,
 ) -> Result<(), AllocError> {
     let alloc = search.found.alloc();
     let before = search.count;
-    for index in &entries_behind(alloc, group.scenario.platform, one)? {
+    for index in &entries_behind(alloc, group.scenario.platform, participant)? {
         if search.count == before && !search.is_done(group.scenario.effort) {
-            try_one(search, group, one, Edit::EntryFirst(*index))?;
+            try_one(search, group, participant, Edit::EntryFirst(*index))?;
         }
     }
     Ok(())
@@ -175,12 +175,12 @@ fn try_edit(
     } else {
         1
     };
-    for one in group.participants {
+    for participant in group.participants {
         if search.is_done(group.scenario.effort) {
             break;
         }
-        if is_worth(edit, one, group.participants, few) {
-            try_one(search, group, one, edit)?;
+        if is_worth(edit, participant, group.participants, few) {
+            try_one(search, group, participant, edit)?;
         }
     }
     Ok(())
@@ -190,10 +190,13 @@ fn try_edit(
 fn try_one(
     search: &mut Search<'_, '_>,
     group: Group<'_, '_>,
-    one: &NamedParticipant<'_>,
+    participant: &NamedParticipant<'_>,
     edit: Edit,
 ) -> Result<(), AllocError> {
-    let Some(number) = group.story.milestone(one.node, Milestone::SetConstraints) else {
+    let Some(number) = group
+        .story
+        .milestone(participant.node, Milestone::SetConstraints)
+    else {
         return Ok(());
     };
     let trial = Trial {
@@ -201,7 +204,7 @@ fn try_one(
         path: group.path,
         place: number.saturating_sub(1),
     };
-    try_change(search, group, trial, one, edit)
+    try_change(search, group, trial, participant, edit)
 }
 
 /// Tries an edit of a participant's constraints, and tells it where it helps.
@@ -209,11 +212,11 @@ fn try_change(
     search: &mut Search<'_, '_>,
     group: Group<'_, '_>,
     trial: Trial<'_, '_>,
-    one: &NamedParticipant<'_>,
+    participant: &NamedParticipant<'_>,
     edit: Edit,
 ) -> Result<(), AllocError> {
     let alloc = search.found.alloc();
-    let Some(value) = one.stated else {
+    let Some(value) = participant.stated else {
         return Ok(());
     };
     let heaps = trial.scenario.platform.heaps();
@@ -221,7 +224,7 @@ fn try_change(
         return Ok(());
     }
     search.tried = search.tried.saturating_add(1);
-    let known = leaves_none_unstated(alloc, search, group, one, edit)?;
+    let known = leaves_none_unstated(alloc, search, group, participant, edit)?;
     if known == Some(true) {
         return Ok(());
     }
@@ -246,7 +249,7 @@ fn try_change(
         value: stated.into_value(),
     };
     let least = trial.least(alloc, group, search.parties, value, edit, found)?;
-    put_found(search, group, trial, one, edit, least)
+    put_found(search, group, trial, participant, edit, least)
 }
 
 /// Tells a change that helps, if it may be meant.
@@ -254,7 +257,7 @@ fn put_found(
     search: &mut Search<'_, '_>,
     group: Group<'_, '_>,
     trial: Trial<'_, '_>,
-    one: &NamedParticipant<'_>,
+    participant: &NamedParticipant<'_>,
     edit: Edit,
     found: TrialResult,
 ) -> Result<(), AllocError>
@@ -268,7 +271,7 @@ fn put_found(
     }
     let alloc = search.found.alloc();
     let choice = choices_in(alloc, group.story, group.root, &found.line)?;
-    let who = group.who_changes(alloc, one, edit, &found.value)?;
+    let who = group.who_changes(alloc, participant, edit, &found.value)?;
     let label = search.label();
     put_change(&mut search.found, trial, label, &who, found);
     put_choice(&mut search.found, 3, choice);
@@ -281,14 +284,14 @@ fn leaves_none_unstated(
     alloc: Global,
     search: &Search<'_, '_>,
     group: Group<'_, '_>,
-    one: &NamedParticipant<'_>,
+    participant: &NamedParticipant<'_>,
     edit: Edit,
 ) -> Result<Option<bool>, AllocError> {
-    if !can_help(search.parties, one.node) {
+    if !can_help(search.parties, participant.node) {
         return Ok(Some(true));
     }
     let change = Change { edit, amount: None };
-    change_leaves_none(alloc, group, search.parties, one, change)
+    change_leaves_none(alloc, group, search.parties, participant, change)
 }
 
 fn put_head(items: &mut Items, search: &Search<'_, '_>, effort: &Effort) {

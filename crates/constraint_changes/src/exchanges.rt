@@ -22,7 +22,7 @@ const MOST: usize = 24;
 /// Another participant, with the index of its domain.
 #[derive(Clone, Copy)]
 struct Partner<'a> {
-    one: NamedParticipant<'a>,
+    participant: NamedParticipant<'a>,
     domain: usize,
 }
 
@@ -38,16 +38,16 @@ pub(crate) fn try_exchanges(
     let story = group.story;
     let partners = partners_in(search.found.alloc(), story)?;
     let mut pairs = 0usize;
-    for one in group.participants {
+    for participant in group.participants {
         for partner in &partners {
             if pairs >= MOST || search.is_done(group.scenario.effort) {
                 return Ok(());
             }
-            if can_matter(story, *one, *partner, index)
-                && are_exchanged(story, *one, partner.one) == are_meant
+            if can_matter(story, *participant, *partner, index)
+                && are_exchanged(story, *participant, partner.participant) == are_meant
             {
                 pairs = pairs.saturating_add(1);
-                try_exchange(search, group, *one, *partner)?;
+                try_exchange(search, group, *participant, *partner)?;
             }
         }
     }
@@ -58,8 +58,11 @@ pub(crate) fn try_exchanges(
 fn partners_in<'a>(alloc: Global, story: &Story<'a>) -> Result<Vec<Partner<'a>>, AllocError> {
     let mut partners = ListBuilder::new(alloc);
     for domain in 0..story.domains.len() {
-        for one in &asked_in(alloc, story, domain, false)? {
-            partners.add(Partner { one: *one, domain });
+        for participant in &asked_in(alloc, story, domain, false)? {
+            partners.add(Partner {
+                participant: *participant,
+                domain,
+            });
         }
     }
     partners.done()
@@ -69,14 +72,14 @@ fn partners_in<'a>(alloc: Global, story: &Story<'a>) -> Result<Vec<Partner<'a>>,
 /// only where one of them lies below a group, and each two once.
 fn can_matter(
     story: &Story<'_>,
-    one: NamedParticipant<'_>,
+    participant: NamedParticipant<'_>,
     partner: Partner<'_>,
     index: usize,
 ) -> bool {
-    let other = partner.one;
+    let other = partner.participant;
     partner.domain != index
-        || (one.node < other.node
-            && (is_below_group(story, one.node) || is_below_group(story, other.node)))
+        || (participant.node < other.node
+            && (is_below_group(story, participant.node) || is_below_group(story, other.node)))
 }
 
 /// Whether a node lies below a group.
@@ -99,11 +102,11 @@ fn is_below_group(story: &Story<'_>, node: usize) -> bool {
 fn try_exchange(
     search: &mut Search<'_, '_>,
     group: Group<'_, '_>,
-    one: NamedParticipant<'_>,
+    participant: NamedParticipant<'_>,
     partner: Partner<'_>,
 ) -> Result<(), AllocError> {
     let alloc = search.found.alloc();
-    let Some(stated) = exchanged(alloc, group.story, one, partner.one)? else {
+    let Some(stated) = exchanged(alloc, group.story, participant, partner.participant)? else {
         return Ok(());
     };
     for other in &stated {
@@ -111,7 +114,7 @@ fn try_exchange(
     }
     search.tried = search.tried.saturating_add(1);
     match outcome_of(alloc, search, group, partner, &stated)? {
-        Some(line) => write_exchange(search, group, one, partner.one, line),
+        Some(line) => write_exchange(search, group, participant, partner.participant, line),
         None => Ok(()),
     }
 }
@@ -146,7 +149,7 @@ fn outcome_of(
 fn write_exchange(
     search: &mut Search<'_, '_>,
     group: Group<'_, '_>,
-    one: NamedParticipant<'_>,
+    participant: NamedParticipant<'_>,
     other: NamedParticipant<'_>,
     line: String,
 ) -> Result<(), AllocError>
@@ -155,7 +158,7 @@ fn write_exchange(
 {
     let alloc = search.found.alloc();
     let choice = choices_in(alloc, group.story, group.root, &line)?;
-    put_exchange(search, group, one, other)?;
+    put_exchange(search, group, participant, other)?;
     put_line(&mut search.found, group, 3, line);
     put_choice(&mut search.found, 3, choice);
     Ok(())
@@ -164,11 +167,11 @@ fn write_exchange(
 fn put_exchange(
     search: &mut Search<'_, '_>,
     group: Group<'_, '_>,
-    one: NamedParticipant<'_>,
+    participant: NamedParticipant<'_>,
     other: NamedParticipant<'_>,
 ) -> Result<(), AllocError> {
     let alloc = search.found.alloc();
-    let who = group.who(alloc, &one)?;
+    let who = group.who(alloc, &participant)?;
     let whom = group.who(alloc, &other)?;
     let mut words = TextBuilder::of_text(alloc, &who);
     words
@@ -185,18 +188,18 @@ fn put_exchange(
 fn exchanged(
     alloc: Global,
     story: &Story<'_>,
-    one: NamedParticipant<'_>,
+    participant: NamedParticipant<'_>,
     other: NamedParticipant<'_>,
 ) -> Result<Option<Vec<RestatedConstraints>>, AllocError> {
-    let (Some(mine), Some(its)) = (one.stated, other.stated) else {
+    let (Some(mine), Some(its)) = (participant.stated, other.stated) else {
         return Ok(None);
     };
-    let first = story.milestone(one.node, Milestone::SetConstraints);
+    let first = story.milestone(participant.node, Milestone::SetConstraints);
     let second = story.milestone(other.node, Milestone::SetConstraints);
     let (Some(first), Some(second)) = (first, second) else {
         return Ok(None);
     };
-    if one.asked.is_same(other.asked) {
+    if participant.asked.is_same(other.asked) {
         return Ok(None);
     }
     let mut stated = Vec::new(alloc);

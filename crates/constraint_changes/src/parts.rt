@@ -106,7 +106,7 @@ pub(crate) fn own_of(
 /// What a participant asks after changes of its own; `None` where that has a fault.
 pub(crate) fn asked_with(
     alloc: Global,
-    one: &NamedParticipant<'_>,
+    participant: &NamedParticipant<'_>,
     own: &[PartyChange],
     heaps: &[HeapInfo],
 ) -> Result<Option<Constraints>, AllocError> {
@@ -118,10 +118,10 @@ pub(crate) fn asked_with(
         });
     }
     let changes = changes.done()?;
-    if let Some(asked) = asked_after(alloc, one, &changes)? {
+    if let Some(asked) = asked_after(alloc, participant, &changes)? {
         return Ok(Some(asked));
     }
-    let Some(value) = one.stated else {
+    let Some(value) = participant.stated else {
         return Ok(None);
     };
     let mut now = value.clone()?;

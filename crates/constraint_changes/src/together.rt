@@ -320,27 +320,27 @@ impl CombinedChange<'_, '_> {
         shelf: &mut RecordCache,
         alloc: Global,
         person: usize,
-        one: &NamedParticipant<'_>,
+        participant: &NamedParticipant<'_>,
         parts: &[PartyChange],
     ) -> Result<Option<usize>, AllocError> {
         let own = own_of(alloc, parts, person)?;
         if let Some(place) = shelf.place_of(person, &own) {
             return Ok(Some(place));
         }
-        self.add_changes(one, own.len());
+        self.add_changes(participant, own.len());
         let heaps = self.group.scenario.platform.heaps();
-        match asked_with(alloc, one, &own, heaps)? {
+        match asked_with(alloc, participant, &own, heaps)? {
             Some(asked) => Ok(Some(shelf.keep(person, own, asked)?)),
             None => Ok(None),
         }
     }
 
     /// Adds that the constraints of a participant are changed so often.
-    fn add_changes(&self, one: &NamedParticipant<'_>, times: usize) {
+    fn add_changes(&self, participant: &NamedParticipant<'_>, times: usize) {
         let number = self
             .group
             .story
-            .milestone(one.node, Milestone::SetConstraints);
+            .milestone(participant.node, Milestone::SetConstraints);
         if let Some(number) = number {
             let place = number.saturating_sub(1);
             self.group.scenario.effort.change(place, times);
@@ -600,12 +600,12 @@ impl CombinedChange<'_, '_> {
 }
 
 /// A participant as it states something else.
-fn stating<'a>(one: &NamedParticipant<'a>, value: &'a Value) -> NamedParticipant<'a> {
+fn stating<'a>(participant: &NamedParticipant<'a>, value: &'a Value) -> NamedParticipant<'a> {
     let stated = Some(value);
     NamedParticipant {
-        node: one.node,
-        name: one.name,
-        asked: one.asked,
+        node: participant.node,
+        name: participant.name,
+        asked: participant.asked,
         stated,
     }
 }

@@ -88,8 +88,8 @@ fn add_who(
     let alloc = items.alloc();
     let participants = asked_in(alloc, story, index, are_selected)?;
     items.say(1, "who", who_text(alloc, story, &participants));
-    for one in &participants {
-        note_usage(items, story, *one)?;
+    for participant in &participants {
+        note_usage(items, story, *participant)?;
     }
     Ok(())
 }
@@ -99,27 +99,27 @@ fn add_who(
 fn note_usage(
     items: &mut Items,
     story: &Story<'_>,
-    one: NamedParticipant<'_>,
+    participant: NamedParticipant<'_>,
 ) -> Result<(), AllocError> {
-    let Some(usage) = usage_meant(story, one) else {
+    let Some(usage) = usage_meant(story, participant) else {
         return Ok(());
     };
-    let number = number_of_setting(story, one);
-    if usages_of(story, number).is_none() || states_usage(story, one, usage) {
+    let number = number_of_setting(story, participant);
+    if usages_of(story, number).is_none() || states_usage(story, participant, usage) {
         return Ok(());
     }
     let alloc = items.alloc();
-    match exchanged_with(alloc, story, one)? {
-        None if !is_named_so(one) => {}
-        other => items.say(1, "note", note_of(alloc, story, one, usage, other)),
+    match exchanged_with(alloc, story, participant)? {
+        None if !is_named_so(participant) => {}
+        other => items.say(1, "note", note_of(alloc, story, participant, usage, other)),
     }
     Ok(())
 }
 
 /// The call by which a participant set its constraints, by number.
-fn number_of_setting(story: &Story<'_>, one: NamedParticipant<'_>) -> usize {
+fn number_of_setting(story: &Story<'_>, participant: NamedParticipant<'_>) -> usize {
     story
-        .milestone(one.node, Milestone::SetConstraints)
+        .milestone(participant.node, Milestone::SetConstraints)
         .unwrap_or(0)
 }
 
@@ -127,11 +127,11 @@ fn number_of_setting(story: &Story<'_>, one: NamedParticipant<'_>) -> usize {
 fn exchanged_with<'a>(
     alloc: Global,
     story: &Story<'a>,
-    one: NamedParticipant<'_>,
+    participant: NamedParticipant<'_>,
 ) -> Result<Option<NamedParticipant<'a>>, AllocError> {
     for index in 0..story.domains.len() {
         for other in &asked_in(alloc, story, index, false)? {
-            if are_exchanged(story, one, *other) {
+            if are_exchanged(story, participant, *other) {
                 return Ok(Some(*other));
             }
         }
@@ -143,12 +143,14 @@ fn exchanged_with<'a>(
 fn note_of(
     alloc: Global,
     story: &Story<'_>,
-    one: NamedParticipant<'_>,
+    participant: NamedParticipant<'_>,
     usage: &str,
     other: Option<NamedParticipant<'_>>,
 ) -> TextBuilder {
-    let mut words = TextBuilder::of_name(alloc, one.called());
-    words.put(" (call ").call(number_of_setting(story, one));
+    let mut words = TextBuilder::of_name(alloc, participant.called());
+    words
+        .put(" (call ")
+        .call(number_of_setting(story, participant));
     words.put(") doesn't state usage ").put(usage);
     words.put(": are these the constraints that are meant for it?");
     if let Some(other) = other {
@@ -173,8 +175,8 @@ fn who_text(
         return TextBuilder::of(alloc, "nobody has constraints");
     }
     let mut names: ListBuilder<Text> = ListBuilder::new(alloc);
-    for one in participants {
-        names.add_text(who(alloc, story, one.node));
+    for participant in participants {
+        names.add_text(who(alloc, story, participant.node));
     }
     let mut words = TextBuilder::new(alloc);
     match names.done() {

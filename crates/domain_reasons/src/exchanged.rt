@@ -16,16 +16,19 @@ fn usage_of(name: &str) -> Option<&'static str> {
 }
 
 /// The usage that is expected of a participant.
-pub(crate) fn usage_meant(story: &Story<'_>, one: NamedParticipant<'_>) -> Option<&'static str> {
+pub(crate) fn usage_meant(
+    story: &Story<'_>,
+    participant: NamedParticipant<'_>,
+) -> Option<&'static str> {
     let number = story
-        .milestone(one.node, Milestone::SetConstraints)
+        .milestone(participant.node, Milestone::SetConstraints)
         .unwrap_or(0);
-    usage_of(one.name).or(usage_of(story.actor(number)))
+    usage_of(participant.name).or(usage_of(story.actor(number)))
 }
 
 /// Whether a participant's own name goes with a usage, and not its actor's alone.
-pub(crate) fn is_named_so(one: NamedParticipant<'_>) -> bool {
-    usage_of(one.name).is_some()
+pub(crate) fn is_named_so(participant: NamedParticipant<'_>) -> bool {
+    usage_of(participant.name).is_some()
 }
 
 /// The usages that a call states, if it states a list of them.
@@ -37,9 +40,13 @@ pub(crate) fn usages_of<'a>(story: &Story<'a>, number: usize) -> Option<&'a [Val
 }
 
 /// Whether a participant states a usage.
-pub(crate) fn states_usage(story: &Story<'_>, one: NamedParticipant<'_>, usage: &str) -> bool {
+pub(crate) fn states_usage(
+    story: &Story<'_>,
+    participant: NamedParticipant<'_>,
+    usage: &str,
+) -> bool {
     let number = story
-        .milestone(one.node, Milestone::SetConstraints)
+        .milestone(participant.node, Milestone::SetConstraints)
         .unwrap_or(0);
     for known in usages_of(story, number).unwrap_or(&[]) {
         if known.as_str() == Some(usage) {

@@ -226,8 +226,8 @@ fn add_unsuited(
     settings: &Settings,
 ) -> Result<(), AllocError> {
     let alloc = items.alloc();
-    for one in participants {
-        if !failing(alloc, platform, settings, one.asked)?.is_empty() {
+    for participant in participants {
+        if !failing(alloc, platform, settings, participant.asked)?.is_empty() {
             return list_misfits(items, platform, participants, before, settings);
         }
     }
@@ -272,12 +272,12 @@ fn add_open<'a>(
     index: usize,
     number: usize,
 ) -> Result<(), AllocError> {
-    for one in &asked_in(accepted.alloc(), story, index, true)? {
+    for participant in &asked_in(accepted.alloc(), story, index, true)? {
         if story
-            .milestone_before(one.node, Milestone::End, number)
+            .milestone_before(participant.node, Milestone::End, number)
             .is_none()
         {
-            accepted.add(*one);
+            accepted.add(*participant);
         }
     }
     Ok(())
@@ -289,8 +289,8 @@ fn needed_by(participants: &[NamedParticipant<'_>]) -> u64 {
     let mut held = 0u64;
     let mut shared = 0u32;
     let mut least = 1u32;
-    for one in participants {
-        let counts = one.asked.counts();
+    for participant in participants {
+        let counts = participant.asked.counts();
         held = held
             .saturating_add(u64::from(counts.min_buffer_count_for_camping))
             .saturating_add(u64::from(counts.min_buffer_count_for_dedicated_slack));
@@ -332,10 +332,10 @@ fn add_lacking(items: &mut Items, all: &[NamedParticipant<'_>], count: u32) {
 
 /// Tells who takes fewer buffers than were decided.
 fn add_fewer(items: &mut Items, participants: &[NamedParticipant<'_>], count: u32) {
-    for one in participants {
-        let most = one.asked.counts().max_buffer_count;
+    for participant in participants {
+        let most = participant.asked.counts().max_buffer_count;
         if most < count {
-            let mut words = TextBuilder::of_name(items.alloc(), one.called());
+            let mut words = TextBuilder::of_name(items.alloc(), participant.called());
             words.put(" takes at most ").put_number(most);
             words
                 .put(" buffers (")

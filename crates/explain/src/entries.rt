@@ -38,8 +38,8 @@ pub(crate) fn add_unused(
         return Ok(());
     }
     let participants = asked_in(items.alloc(), story, index, verdict == "chosen")?;
-    for one in &participants {
-        add_of(items, &*document, &*scenario, &*story, index, one)?;
+    for participant in &participants {
+        add_of(items, &*document, &*scenario, &*story, index, participant)?;
     }
     Ok(())
 }
@@ -51,16 +51,16 @@ fn add_of<'a, 'b>(
     scenario: &'b Scenario<'a>,
     story: &'b Story<'a>,
     index: usize,
-    one: &'b NamedParticipant<'a>,
+    participant: &'b NamedParticipant<'a>,
 ) -> Result<(), AllocError> {
     let teller = Teller {
         document,
         scenario,
         story,
         index,
-        one,
+        participant,
         number: story
-            .milestone(one.node, Milestone::SetConstraints)
+            .milestone(participant.node, Milestone::SetConstraints)
             .unwrap_or(0),
     };
     teller.tell(items)
@@ -90,7 +90,7 @@ struct Teller<'a, 'b> {
     scenario: &'b Scenario<'a>,
     story: &'b Story<'a>,
     index: usize,
-    one: &'b NamedParticipant<'a>,
+    participant: &'b NamedParticipant<'a>,
     number: usize,
 }
 
@@ -104,7 +104,7 @@ struct Holder {
 impl Teller<'_, '_> {
     fn tell(&self, items: &mut Items) -> Result<(), AllocError> {
         let alloc = items.alloc();
-        let entries = self.one.asked.entries();
+        let entries = self.participant.asked.entries();
         let mut tried: Vec<usize> = Vec::new(alloc);
         let mut told = 0usize;
         for index in &unused_entries(alloc, self.scenario.platform, entries)? {
@@ -129,8 +129,8 @@ impl Teller<'_, '_> {
         holder: Holder,
     ) -> Result<(), AllocError> {
         items.say(1, "note", self.sentence(items.alloc(), index, holder));
-        let item = entry_place(self.one.stated, index).item;
-        let is_own = item == entry_place(self.one.stated, holder.index).item;
+        let item = entry_place(self.participant.stated, index).item;
+        let is_own = item == entry_place(self.participant.stated, holder.index).item;
         let is_chosen = verdict_of(self.story, self.index) == "chosen";
         let is_spent = self.scenario.effort.is_spent();
         if is_own || !is_chosen || is_spent || tried.contains(&item) {
@@ -142,7 +142,7 @@ impl Teller<'_, '_> {
 
     /// Tells what would be decided with an entry of the record, from 0, before the others.
     fn try_entry_first(&self, items: &mut Items, item: usize) -> Result<(), AllocError> {
-        let Some(value) = self.one.stated else {
+        let Some(value) = self.participant.stated else {
             return Ok(());
         };
         let heaps = self.scenario.platform.heaps();
@@ -183,7 +183,7 @@ impl Teller<'_, '_> {
         words
             .put_number(item.saturating_add(1))
             .put(" of ")
-            .name(self.one.called());
+            .name(self.participant.called());
         words
             .put(" (call ")
             .call(self.number)
@@ -195,10 +195,10 @@ impl Teller<'_, '_> {
     /// The first pair of the platform that the entry of an index takes, and which entry holds for
     /// it.
     fn holder_of(&self, index: usize) -> Option<Holder> {
-        let entry = self.one.asked.entries().get(index)?;
+        let entry = self.participant.asked.entries().get(index)?;
         for pair in self.scenario.platform.pairs() {
             if is_taken(entry, *pair) {
-                let index = holder_of(self.one.asked.entries(), *pair)?;
+                let index = holder_of(self.participant.asked.entries(), *pair)?;
                 return Some(Holder { index, pair: *pair });
             }
         }
@@ -208,7 +208,7 @@ impl Teller<'_, '_> {
     /// `camera (call 5): entry 2 (NV12 LINEAR, line 18) is never used: entry 1 (any format
     /// DO_NOT_CARE, line 17) comes before it and holds for ..`.
     fn sentence(&self, alloc: Global, index: usize, holder: Holder) -> TextBuilder {
-        let mut words = TextBuilder::of_name(alloc, self.one.called());
+        let mut words = TextBuilder::of_name(alloc, self.participant.called());
         words.put(" (call ").call(self.number).put("): ");
         self.put_entry(&mut words, index);
         words.put(" is never used: ");
@@ -222,10 +222,10 @@ impl Teller<'_, '_> {
     /// Puts which entry of the record that of an index is after a text, with what it takes and its
     /// line.
     fn put_entry(&self, text: &mut TextBuilder, index: usize) {
-        let Some(entry) = self.one.asked.entries().get(index) else {
+        let Some(entry) = self.participant.asked.entries().get(index) else {
             return;
         };
-        let place = entry_place(self.one.stated, index);
+        let place = entry_place(self.participant.stated, index);
         let part = if place.pairs > 1 { "a pair of " } else { "" };
         let shown = place.item.saturating_add(1);
         text.put(part).put("entry ").put_number(shown).put(" (");

@@ -118,8 +118,8 @@ fn ended_by(
     if story.milestone(node, Milestone::End) != Some(call) {
         return None;
     }
-    for one in participants {
-        if one.node == node {
+    for participant in participants {
+        if participant.node == node {
             return Some(node);
         }
     }

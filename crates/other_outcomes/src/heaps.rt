@@ -23,8 +23,8 @@ impl Trait {
     }
 
     /// Whether a participant needs memory to be so.
-    fn is_needed(self, one: &NamedParticipant<'_>) -> bool {
-        let memory = one.asked.memory();
+    fn is_needed(self, participant: &NamedParticipant<'_>) -> bool {
+        let memory = participant.asked.memory();
         match self {
             Trait::Contiguous => memory.physically_contiguous_required,
             Trait::Secure => memory.secure_required,
@@ -33,8 +33,8 @@ impl Trait {
 
     /// Whether one of some participants needs memory to be so.
     fn is_needed_by_one(self, participants: &[NamedParticipant<'_>]) -> bool {
-        for one in participants {
-            if self.is_needed(one) {
+        for participant in participants {
+            if self.is_needed(participant) {
                 return true;
             }
         }

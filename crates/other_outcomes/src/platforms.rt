@@ -60,8 +60,8 @@ fn lacked_pairs(
     participants: &[NamedParticipant<'_>],
 ) -> Result<Vec<Pair>, AllocError> {
     let mut lacked: Vec<Pair> = Vec::new(alloc);
-    for one in participants {
-        for entry in one.asked.entries() {
+    for participant in participants {
+        for entry in participant.asked.entries() {
             let Some(format) = entry.format else {
                 continue;
             };

@@ -1,1 +1,1 @@
-pub mod People
+pub mod Participants

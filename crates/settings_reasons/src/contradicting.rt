@@ -36,16 +36,16 @@ pub(crate) fn add_contradictions(
     participants: &[NamedParticipant<'_>],
 ) {
     let most = items.len().saturating_add(MOST);
-    for one in participants {
-        if let Some(clash) = whole_clash(one.asked) {
-            add_clash(items, depth, *one, clash, None);
+    for participant in participants {
+        if let Some(clash) = whole_clash(participant.asked) {
+            add_clash(items, depth, *participant, clash, None);
         }
-        for entry in one.asked.entries() {
+        for entry in participant.asked.entries() {
             if items.len() >= most {
                 return;
             }
             if let Some(clash) = entry_clash(&entry.bounds.asked) {
-                add_clash(items, depth, *one, clash, Some(entry));
+                add_clash(items, depth, *participant, clash, Some(entry));
             }
         }
     }
@@ -54,11 +54,11 @@ pub(crate) fn add_contradictions(
 fn add_clash(
     items: &mut Items,
     depth: usize,
-    one: NamedParticipant<'_>,
+    participant: NamedParticipant<'_>,
     clash: Clash,
     entry: Option<&Entry>,
 ) {
-    let mut text = TextBuilder::of_name(items.alloc(), one.called());
+    let mut text = TextBuilder::of_name(items.alloc(), participant.called());
     text.put(" contradicts itself: ")
         .field(clash.least)
         .put(" ");

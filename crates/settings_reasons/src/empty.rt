@@ -154,8 +154,8 @@ pub fn is_unmet(
         return Ok(false);
     }
     let mut asked = Aggregate::new(alloc, platform)?;
-    for one in participants {
-        asked.add(one.asked)?;
+    for participant in participants {
+        asked.add(participant.asked)?;
     }
     Ok(asked.best_settings(false).is_err())
 }
@@ -174,8 +174,8 @@ pub fn in_the_way<'a>(
         return Ok(None);
     }
     let mut kept = Vec::from_slice(alloc, participants)?;
-    for one in participants {
-        let rest = all_but(alloc, &kept, one.node)?;
+    for participant in participants {
+        let rest = all_but(alloc, &kept, participant.node)?;
         if is_unmet(alloc, platform, &rest)? {
             kept = rest;
         }
@@ -311,6 +311,6 @@ fn all_but<'a>(
     participants
         .iter()
         .copied()
-        .filter(|one| one.node != node)
+        .filter(|participant| participant.node != node)
         .collect(alloc)
 }

@@ -44,8 +44,8 @@ pub fn list_misfits(
     settings: &Settings,
 ) -> Result<(), AllocError> {
     let start = items.len();
-    for one in participants {
-        add_misfit(items, platform, one, before, settings)?;
+    for participant in participants {
+        add_misfit(items, platform, participant, before, settings)?;
     }
     if items.len() == start {
         let mut words = TextBuilder::new(items.alloc());
@@ -61,16 +61,16 @@ pub fn list_misfits(
 fn add_misfit(
     items: &mut Items,
     platform: &Platform,
-    one: &NamedParticipant<'_>,
+    participant: &NamedParticipant<'_>,
     before: &[NamedParticipant<'_>],
     settings: &Settings,
 ) -> Result<(), AllocError> {
-    let fields = failing(items.alloc(), platform, settings, one.asked)?;
+    let fields = failing(items.alloc(), platform, settings, participant.asked)?;
     for field in &fields {
-        let text = misfit_text(items.alloc(), platform, settings, one, *field);
+        let text = misfit_text(items.alloc(), platform, settings, participant, *field);
         items.say(1, "misfit", text);
         if matches!(field, Field::PixelFormat | Field::ColorSpaces) {
-            add_refused_images(items, platform, one, before)?;
+            add_refused_images(items, platform, participant, before)?;
         }
     }
     Ok(())
@@ -81,11 +81,11 @@ fn misfit_text(
     alloc: Global,
     platform: &Platform,
     settings: &Settings,
-    one: &NamedParticipant<'_>,
+    participant: &NamedParticipant<'_>,
     field: Field,
 ) -> TextBuilder {
     let mut text = TextBuilder::new(alloc);
-    put_misfit(&mut text, platform, settings, one, field);
+    put_misfit(&mut text, platform, settings, participant, field);
     text
 }
 
@@ -94,10 +94,10 @@ fn misfit_text(
 fn add_refused_images(
     items: &mut Items,
     platform: &Platform,
-    one: &NamedParticipant<'_>,
+    participant: &NamedParticipant<'_>,
     before: &[NamedParticipant<'_>],
 ) -> Result<(), AllocError> {
-    let offers = taken(items.alloc(), platform, one.asked)?;
+    let offers = taken(items.alloc(), platform, participant.asked)?;
     for offer in &offers {
         if !are_refused(&[*offer], before, true) {
             add_unrefused(items, offer);
@@ -170,25 +170,31 @@ fn put_misfit(
     text: &mut TextBuilder,
     platform: &Platform,
     settings: &Settings,
-    one: &NamedParticipant<'_>,
+    participant: &NamedParticipant<'_>,
     field: Field,
 ) {
     match field {
-        Field::PixelFormat | Field::ColorSpaces => put_offer(text, settings, one, field),
-        Field::MinSizeBytes => put_size(text, settings, one, field),
-        Field::MaxSizeBytes => put_size(text, settings, one, field),
-        _ if PLACE_FIELDS.contains(&field) => put_heap(text, platform, settings, one, field),
-        _ => put_bound(text, settings, one, field),
+        Field::PixelFormat | Field::ColorSpaces => put_offer(text, settings, participant, field),
+        Field::MinSizeBytes => put_size(text, settings, participant, field),
+        Field::MaxSizeBytes => put_size(text, settings, participant, field),
+        _ if PLACE_FIELDS.contains(&field) => put_heap(
+            text,
+            platform,
+            settings,
+            participant,
+            field,
+        ),
+        _ => put_bound(text, settings, participant, field),
     }
 }
 
 fn put_offer(
     text: &mut TextBuilder,
     settings: &Settings,
-    one: &NamedParticipant<'_>,
+    participant: &NamedParticipant<'_>,
     field: Field,
 ) {
-    put_offer_reason(text, &settings.offer, field, &[*one]);
+    put_offer_reason(text, &settings.offer, field, &[*participant]);
     let holds = offer_name(text.alloc(), &settings.offer);
     text.put("; the buffers are ").put_words(&holds);
 }
@@ -197,21 +203,26 @@ fn put_heap(
     text: &mut TextBuilder,
     platform: &Platform,
     settings: &Settings,
-    one: &NamedParticipant<'_>,
+    participant: &NamedParticipant<'_>,
     field: Field,
 ) {
-    put_place_reason(text, field, &[*one]);
+    put_place_reason(text, field, &[*participant]);
     text.put(": the buffers lie in ");
     put_place(text, platform, settings.place)
 }
 
-fn put_size(text: &mut TextBuilder, settings: &Settings, one: &NamedParticipant<'_>, field: Field) {
-    let memory = one.asked.memory();
+fn put_size(
+    text: &mut TextBuilder,
+    settings: &Settings,
+    participant: &NamedParticipant<'_>,
+    field: Field,
+) {
+    let memory = participant.asked.memory();
     let mine = match field {
         Field::MinSizeBytes => memory.min_size_bytes,
         _ => memory.max_size_bytes,
     };
-    text.name(one.called())
+    text.name(participant.called())
         .put(" says ")
         .field(field)
         .put(" ")
@@ -224,11 +235,14 @@ fn put_size(text: &mut TextBuilder, settings: &Settings, one: &NamedParticipant<
 fn put_bound(
     text: &mut TextBuilder,
     settings: &Settings,
-    one: &NamedParticipant<'_>,
+    participant: &NamedParticipant<'_>,
     field: Field,
 ) {
-    text.name(one.called()).put(" says ").field(field).put(" ");
-    if let Some(entry) = entry_for(one.asked.entries(), &settings.offer) {
+    text.name(participant.called())
+        .put(" says ")
+        .field(field)
+        .put(" ");
+    if let Some(entry) = entry_for(participant.asked.entries(), &settings.offer) {
         put_amount(text, amount_at(&entry.bounds.asked, field));
     }
     text.put(", but ").put(how(field));

@@ -26,9 +26,9 @@ pub(crate) fn add_no_images(
     participants: &[NamedParticipant<'_>],
 ) -> Result<(), AllocError> {
     let mut lacked: Vec<LackedName<'_>> = Vec::new(items.alloc());
-    for one in participants {
-        for entry in one.asked.entries() {
-            add_lacked(&mut lacked, platform, entry, one)?;
+    for participant in participants {
+        for entry in participant.asked.entries() {
+            add_lacked(&mut lacked, platform, entry, participant)?;
         }
     }
     add_lacked_rows(
@@ -46,7 +46,7 @@ fn add_lacked<'a>(
     lacked: &mut Vec<LackedName<'a>>,
     platform: &Platform,
     entry: &Entry,
-    one: &NamedParticipant<'a>,
+    participant: &NamedParticipant<'a>,
 ) -> Result<(), AllocError> {
     let has_pair = has_pair(platform, entry);
     if has_pair && has_colour(platform, entry.colours) {
@@ -56,7 +56,7 @@ fn add_lacked<'a>(
     if has_pair {
         name.put(" in any of its colour spaces");
     }
-    add_named(lacked, name.into_text()?, one)
+    add_named(lacked, name.into_text()?, participant)
 }
 
 /// Tells which heaps participants permit and the platform lacks, those that most permit first.
@@ -68,12 +68,12 @@ pub(crate) fn add_no_heaps(
 ) -> Result<(), AllocError> {
     let alloc = items.alloc();
     let mut lacked: Vec<LackedName<'_>> = Vec::new(alloc);
-    for one in participants {
-        for heap in &one.asked.memory().permitted_heaps {
+    for participant in participants {
+        for heap in &participant.asked.memory().permitted_heaps {
             if !has_heap(platform, heap) {
                 let mut name = TextBuilder::of(alloc, &heap.heap_type);
                 name.put("#").put_number(heap.id);
-                add_named(&mut lacked, name.into_text()?, one)?;
+                add_named(&mut lacked, name.into_text()?, participant)?;
             }
         }
     }
@@ -120,18 +120,18 @@ fn has_heap(platform: &Platform, heap: &Heap) -> bool {
 fn add_named<'a>(
     lacked: &mut Vec<LackedName<'a>>,
     name: Text,
-    one: &NamedParticipant<'a>,
+    participant: &NamedParticipant<'a>,
 ) -> Result<(), AllocError> {
     let alloc = name.alloc();
     for known in lacked.iter_mut() {
         if known.name == name {
-            known.participants.push(*one)?;
+            known.participants.push(*participant)?;
             return Ok(());
         }
     }
     lacked.push(LackedName {
         name,
-        participants: vec![in alloc; *one]?,
+        participants: vec![in alloc; *participant]?,
     })?;
     Ok(())
 }

@@ -13,9 +13,9 @@ pub(crate) fn put_later(
     participants: &[NamedParticipant<'_>],
 ) {
     let mut those = ListBuilder::new(text.alloc());
-    for one in participants {
-        if takes_later(one, offer, None) {
-            those.add(*one);
+    for participant in participants {
+        if takes_later(participant, offer, None) {
+            those.add(*participant);
         }
     }
     match those.done() {
@@ -45,8 +45,10 @@ pub(crate) fn put_later_size(
     side: Side,
     least: u128,
 ) {
-    for one in wishes.participants {
-        if one.node == who.node && takes_later(one, &wishes.offer, Some((side, least))) {
+    for participant in wishes.participants {
+        if participant.node == who.node
+            && takes_later(participant, &wishes.offer, Some((side, least)))
+        {
             text.put(", though a later entry of ")
                 .name(who.called())
                 .put(" takes more");
@@ -57,8 +59,12 @@ pub(crate) fn put_later_size(
 
 /// Whether an entry of a participant takes an offer, though others before it take its format and
 /// modifier; and at least so much in a side, if that is asked for.
-fn takes_later(one: &NamedParticipant<'_>, offer: &Offer, least: Option<(Side, u128)>) -> bool {
-    let entries = one.asked.entries();
+fn takes_later(
+    participant: &NamedParticipant<'_>,
+    offer: &Offer,
+    least: Option<(Side, u128)>,
+) -> bool {
+    let entries = participant.asked.entries();
     for index in 0..entries.len() {
         match entry_for(&entries[index..], offer) {
             Some(entry) if takes_colour(entry, offer) && takes_size(entry, least) => return true,

@@ -27,8 +27,8 @@ pub fn listed_before(
 
 /// Whether a participant names a pair in an entry before its first that takes another.
 fn is_listed(participants: &[NamedParticipant<'_>], pair: Pair, other: Pair) -> bool {
-    for one in participants {
-        if lists_before(one.asked.entries(), pair, other) {
+    for participant in participants {
+        if lists_before(participant.asked.entries(), pair, other) {
             return true;
         }
     }

@@ -77,10 +77,10 @@ fn put_no_entry(text: &mut TextBuilder, offer: &Offer, participants: &[NamedPart
         return put_has(text, participants, "takes images only", "take images only");
     };
     let mut none = ListBuilder::new(text.alloc());
-    for one in participants {
-        match modifiers_of(text.alloc(), one, pair.format) {
-            Ok(modifiers) if modifiers.is_empty() => none.add(*one),
-            Ok(modifiers) => put_only_as(text, one, pair.format, &modifiers),
+    for participant in participants {
+        match modifiers_of(text.alloc(), participant, pair.format) {
+            Ok(modifiers) if modifiers.is_empty() => none.add(*participant),
+            Ok(modifiers) => put_only_as(text, participant, pair.format, &modifiers),
             Err(AllocError) => text.refuse(),
         }
     }
@@ -93,13 +93,13 @@ fn put_no_entry(text: &mut TextBuilder, offer: &Offer, participants: &[NamedPart
 /// Puts with which modifiers alone a participant takes a format after a text.
 fn put_only_as(
     text: &mut TextBuilder,
-    one: &NamedParticipant<'_>,
+    participant: &NamedParticipant<'_>,
     format: PixelFormat,
     modifiers: &[Text],
 ) {
     let mark = mark_after(text.as_str());
     text.put(mark)
-        .name(one.called())
+        .name(participant.called())
         .put(" takes ")
         .format(format)
         .put(" only as ");
@@ -109,11 +109,11 @@ fn put_only_as(
 /// The modifiers that a participant takes a format with.
 fn modifiers_of(
     alloc: Global,
-    one: &NamedParticipant<'_>,
+    participant: &NamedParticipant<'_>,
     format: PixelFormat,
 ) -> Result<Vec<Text>, AllocError> {
     let mut names = ListBuilder::new(alloc);
-    for entry in one.asked.entries() {
+    for entry in participant.asked.entries() {
         if has_format(entry, format) {
             names.add_text(modifier_words(alloc, entry.modifier));
         }
@@ -134,8 +134,8 @@ fn modifier_words(alloc: Global, modifier: Option<Modifier>) -> TextBuilder {
 /// Puts in which colour spaces participants take an offer after a text.
 fn put_colours(text: &mut TextBuilder, offer: &Offer, participants: &[NamedParticipant<'_>]) {
     let mut done: Vec<ColourSet> = Vec::new(text.alloc());
-    for one in participants {
-        match entry_for(one.asked.entries(), offer) {
+    for participant in participants {
+        match entry_for(participant.asked.entries(), offer) {
             Some(entry) if !done.contains(&entry.colours) => {
                 put_only_in(text, offer, participants, entry.colours);
                 if done.push(entry.colours).is_err() {
@@ -171,9 +171,9 @@ fn with_colours<'a>(
     colours: ColourSet,
 ) -> Result<Vec<NamedParticipant<'a>>, AllocError> {
     let mut those = Vec::new(alloc);
-    for one in participants {
-        match entry_for(one.asked.entries(), offer) {
-            Some(entry) if entry.colours == colours => those.push(*one)?,
+    for participant in participants {
+        match entry_for(participant.asked.entries(), offer) {
+            Some(entry) if entry.colours == colours => those.push(*participant)?,
             _ => {}
         }
     }
@@ -370,9 +370,9 @@ fn amounts_of(
     field: Field,
 ) -> Result<Vec<Text>, AllocError> {
     let mut amounts: ListBuilder<Text> = ListBuilder::new(alloc);
-    for one in wishes.participants {
-        if let Some(entry) = entry_for(one.asked.entries(), &wishes.offer) {
-            let mut words = TextBuilder::of_name(alloc, one.called());
+    for participant in wishes.participants {
+        if let Some(entry) = entry_for(participant.asked.entries(), &wishes.offer) {
+            let mut words = TextBuilder::of_name(alloc, participant.called());
             words.put(" ");
             put_amount(&mut words, amount_at(&entry.bounds.asked, field));
             amounts.add_text(words);

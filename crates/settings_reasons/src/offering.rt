@@ -53,8 +53,8 @@ fn read_of(offer: &Offer, participants: &[NamedParticipant<'_>]) -> OfferRead
     ensures { IsOfferRead offer.now (offer_demands (all_asked participants.now)) result }
 {
     let mut read = OfferRead::new(offer);
-    for one in participants {
-        read.add(one.asked);
+    for participant in participants {
+        read.add(participant.asked);
     }
     read
 }
@@ -91,10 +91,10 @@ fn without_entry<'a>(
     ensures { IfOk result (λ those. All (LacksEntry offer.now) those.items) }
 {
     let mut those = Vec::new(alloc);
-    for one in participants {
-        let entries = one.asked.entries();
+    for participant in participants {
+        let entries = participant.asked.entries();
         if !entries.is_empty() && entry_for(entries, offer).is_none() {
-            those.push(*one)?;
+            those.push(*participant)?;
         }
     }
     Ok(those)
@@ -109,10 +109,10 @@ fn without_colour<'a>(
     ensures { IfOk result (λ those. All (LacksColour offer.now) those.items) }
 {
     let mut those = Vec::new(alloc);
-    for one in participants {
-        if let Some(entry) = entry_for(one.asked.entries(), offer) {
+    for participant in participants {
+        if let Some(entry) = entry_for(participant.asked.entries(), offer) {
             if !takes_colour(entry, offer) {
-                those.push(*one)?;
+                those.push(*participant)?;
             }
         }
     }

@@ -49,10 +49,16 @@ fn refusing<'a>(
     ensures { IfOk result (λ those. All (Refuses field heap.now place.coherency) those.items) }
 {
     let mut those = Vec::new(alloc);
-    for one in participants {
-        let memory = one.asked.memory();
-        if refuses_in(field, memory, one.asked.usage(), heap, place.coherency) {
-            those.push(*one)?;
+    for participant in participants {
+        let memory = participant.asked.memory();
+        if refuses_in(
+            field,
+            memory,
+            participant.asked.usage(),
+            heap,
+            place.coherency,
+        ) {
+            those.push(*participant)?;
         }
     }
     Ok(those)
@@ -118,8 +124,8 @@ pub(crate) fn has_no_place(platform: &Platform, participants: &[NamedParticipant
 {
     let heaps = platform.heaps();
     let mut bounds = MemoryBounds::new(heaps);
-    for one in participants {
-        bounds.add(heaps, one.asked.memory(), one.asked.usage());
+    for participant in participants {
+        bounds.add(heaps, participant.asked.memory(), participant.asked.usage());
     }
     bounds.first_place(heaps).is_none()
 }
@@ -207,8 +213,8 @@ fn put_heaps(text: &mut TextBuilder, heaps: &[Heap]) {
 }
 
 /// Whether a participant states a field of its memory.
-fn states(one: &NamedParticipant<'_>, field: &str) -> bool {
-    match one.stated {
+fn states(participant: &NamedParticipant<'_>, field: &str) -> bool {
+    match participant.stated {
         Some(value) => match value.get("buffer_memory_constraints") {
             Some(memory) => memory.get(field).is_some(),
             None => false,
@@ -232,9 +238,9 @@ fn put_stating(
     is_stated: bool,
 ) {
     let mut those = ListBuilder::new(text.alloc());
-    for one in participants {
-        if states(one, field.name()) == is_stated {
-            those.add(*one);
+    for participant in participants {
+        if states(participant, field.name()) == is_stated {
+            those.add(*participant);
         }
     }
     match those.done() {

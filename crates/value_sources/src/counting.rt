@@ -26,10 +26,10 @@ enum CountPart {
     Minimum,
 }
 
-fn value_of(one: &NamedParticipant<'_>, part: CountPart) -> u32
-    ensures { result ≡ part_of part one.now }
+fn value_of(participant: &NamedParticipant<'_>, part: CountPart) -> u32
+    ensures { result ≡ part_of part participant.now }
 {
-    let counts = one.asked.counts();
+    let counts = participant.asked.counts();
     match part {
         CountPart::Camping => counts.min_buffer_count_for_camping,
         CountPart::Dedicated => counts.min_buffer_count_for_dedicated_slack,
@@ -53,8 +53,8 @@ fn bounds_of(participants: &[NamedParticipant<'_>]) -> CountBounds
 
 fn total(participants: &[NamedParticipant<'_>], part: CountPart) -> u64 {
     let mut sum = 0u64;
-    for one in participants {
-        sum = sum.saturating_add(u64::from(value_of(one, part)));
+    for participant in participants {
+        sum = sum.saturating_add(u64::from(value_of(participant, part)));
     }
     sum
 }
@@ -70,15 +70,15 @@ fn greatest<'a>(
     ensures some { IfSome result (λ r. 0 < r.1) }
     ensures none { IfNone result (All (λ one. part_of part one ≡ 0) participants.now) }
 {
-    let one = participants
+    let participant = participants
         .iter()
         .rev()
-        .max_by_key(|one| value_of(one, part))?;
-    let most = value_of(one, part);
+        .max_by_key(|participant| value_of(participant, part))?;
+    let most = value_of(participant, part);
     if most == 0 {
         return None;
     }
-    Some((*one, most))
+    Some((*participant, most))
 }
 
 /// What participants hold together.
@@ -139,10 +139,10 @@ fn parts_of(
     part: CountPart,
 ) -> Result<Vec<Text>, AllocError> {
     let mut parts: ListBuilder<Text> = ListBuilder::new(alloc);
-    for one in participants {
-        let value = value_of(one, part);
+    for participant in participants {
+        let value = value_of(participant, part);
         if value > 0 {
-            let mut words = TextBuilder::of_name(alloc, one.called());
+            let mut words = TextBuilder::of_name(alloc, participant.called());
             words.put(" ").put_number(value);
             parts.add_text(words);
         }
@@ -250,8 +250,8 @@ fn least_maximum<'a>(participants: &[NamedParticipant<'a>]) -> Option<(NamedPart
     ensures least { IfSome result (λ r.
         All (λ one. r.1 ≤ one.asked.now.counts.max_buffer_count) participants.now) }
 {
-    let one = participants
+    let participant = participants
         .iter()
-        .min_by_key(|one| one.asked.counts().max_buffer_count)?;
-    Some((*one, one.asked.counts().max_buffer_count))
+        .min_by_key(|participant| participant.asked.counts().max_buffer_count)?;
+    Some((*participant, participant.asked.counts().max_buffer_count))
 }

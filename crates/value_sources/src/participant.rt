@@ -43,8 +43,8 @@ pub fn put_has(
 /// Puts the names of participants after a text.
 pub fn put_participants(text: &mut TextBuilder, participants: &[NamedParticipant<'_>]) {
     let mut names: ListBuilder<Name<'_>> = ListBuilder::new(text.alloc());
-    for one in participants {
-        names.add(one.called());
+    for participant in participants {
+        names.add(participant.called());
     }
     match names.done() {
         Ok(names) => put_few(text, &names, MOST_NAMES),

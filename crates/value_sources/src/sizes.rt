@@ -68,10 +68,10 @@ impl<'a> Wishes<'a, '_> {
         field: Option<Field>,
         wish: Wish,
     ) -> Result<(), AllocError> {
-        for one in self.participants {
-            if let Some(entry) = entry_for(one.asked.entries(), &self.offer) {
+        for participant in self.participants {
+            if let Some(entry) = entry_for(participant.asked.entries(), &self.offer) {
                 let value = u128::from(wish.of(entry));
-                let mut words = TextBuilder::of_name(parts.alloc(), one.called());
+                let mut words = TextBuilder::of_name(parts.alloc(), participant.called());
                 words.put(" ");
                 match field {
                     Some(field) => words.field(field),

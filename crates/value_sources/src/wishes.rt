@@ -90,10 +90,10 @@ pub struct Wishes<'a, 'b> {
 }
 
 /// What a participant's entry for an offer asks for; this number where it has none.
-fn asked_or(one: &NamedParticipant<'_>, offer: &Offer, wish: Wish, absent: u64) -> u64
-    ensures { result ≡ wish_or absent offer.now wish one.now }
+fn asked_or(participant: &NamedParticipant<'_>, offer: &Offer, wish: Wish, absent: u64) -> u64
+    ensures { result ≡ wish_or absent offer.now wish participant.now }
 {
-    match entry_for(one.asked.entries(), offer) {
+    match entry_for(participant.asked.entries(), offer) {
         Some(entry) => wish.of(entry),
         None => absent,
     }
@@ -113,15 +113,15 @@ impl<'a> Wishes<'a, '_> {
     {
         let offer = self.offer;
         let participants = self.participants;
-        let one = participants
+        let participant = participants
             .iter()
             .rev()
-            .max_by_key(|one| asked_or(one, &offer, wish, 0))?;
-        let most = asked_or(one, &offer, wish, 0);
+            .max_by_key(|each| asked_or(each, &offer, wish, 0))?;
+        let most = asked_or(participant, &offer, wish, 0);
         if most == 0 {
             return None;
         }
-        Some((*one, most))
+        Some((*participant, most))
     }
 
     /// The first who asks for the least of some numbers, with that, if anybody asks for less than
@@ -138,14 +138,14 @@ impl<'a> Wishes<'a, '_> {
     {
         let offer = self.offer;
         let participants = self.participants;
-        let one = participants
+        let participant = participants
             .iter()
-            .min_by_key(|one| asked_or(one, &offer, wish, u64::MAX))?;
-        let least = asked_or(one, &offer, wish, u64::MAX);
+            .min_by_key(|each| asked_or(each, &offer, wish, u64::MAX))?;
+        let least = asked_or(participant, &offer, wish, u64::MAX);
         if least == u64::MAX {
             return None;
         }
-        Some((*one, least))
+        Some((*participant, least))
     }
 
     /// The first who states the greatest least size of a buffer, in bytes, with that, if anybody
@@ -159,15 +159,15 @@ impl<'a> Wishes<'a, '_> {
             (All (λ one. one.asked.now.memory.min_size_bytes ≤ 1) self.now.participants.now) }
     {
         let participants = self.participants;
-        let one = participants
+        let participant = participants
             .iter()
             .rev()
-            .max_by_key(|one| one.asked.memory().min_size_bytes)?;
-        let most = one.asked.memory().min_size_bytes;
+            .max_by_key(|participant| participant.asked.memory().min_size_bytes)?;
+        let most = participant.asked.memory().min_size_bytes;
         if most < 2 {
             return None;
         }
-        Some((*one, most))
+        Some((*participant, most))
     }
 
     /// The first who takes the fewest bytes of a buffer at most, with that, if anybody says so.
@@ -178,9 +178,9 @@ impl<'a> Wishes<'a, '_> {
             All (λ one. r.1 ≤ one.asked.now.memory.max_size_bytes) self.now.participants.now) }
     {
         let participants = self.participants;
-        let one = participants
+        let participant = participants
             .iter()
-            .min_by_key(|one| one.asked.memory().max_size_bytes)?;
-        Some((*one, one.asked.memory().max_size_bytes))
+            .min_by_key(|participant| participant.asked.memory().max_size_bytes)?;
+        Some((*participant, participant.asked.memory().max_size_bytes))
     }
 }

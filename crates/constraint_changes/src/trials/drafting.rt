@@ -24,10 +24,10 @@ pub struct Change {
 /// something else, or a record might have a fault then.
 pub fn asked_after(
     alloc: Global,
-    one: &NamedParticipant<'_>,
+    participant: &NamedParticipant<'_>,
     changes: &[Change],
 ) -> Result<Option<Constraints>, AllocError> {
-    let mut draft = Draft::of(alloc, one)?;
+    let mut draft = Draft::of(alloc, participant)?;
     for change in changes {
         if !draft.take(*change) {
             return Ok(None);
@@ -48,13 +48,13 @@ struct Draft<'a> {
 }
 
 impl<'a> Draft<'a> {
-    fn of(alloc: Global, one: &NamedParticipant<'a>) -> Result<Draft<'a>, AllocError> {
+    fn of(alloc: Global, participant: &NamedParticipant<'a>) -> Result<Draft<'a>, AllocError> {
         Ok(Draft {
-            stated: one.stated,
-            usage: one.asked.usage(),
-            counts: *one.asked.counts(),
-            memory: copied_memory(alloc, one.asked.memory())?,
-            entries: Vec::from_slice(alloc, one.asked.entries())?,
+            stated: participant.stated,
+            usage: participant.asked.usage(),
+            counts: *participant.asked.counts(),
+            memory: copied_memory(alloc, participant.asked.memory())?,
+            entries: Vec::from_slice(alloc, participant.asked.entries())?,
         })
     }
 

@@ -71,10 +71,10 @@ fn pairs_of(entry: &Value) -> usize {
 pub fn entries_behind(
     alloc: Global,
     platform: &Platform,
-    one: &NamedParticipant<'_>,
+    participant: &NamedParticipant<'_>,
 ) -> Result<Vec<usize>, AllocError> {
-    let entries = one.asked.entries();
-    let items = items_of(alloc, one)?;
+    let entries = participant.asked.entries();
+    let items = items_of(alloc, participant)?;
     let mut behind: Vec<usize> = Vec::new(alloc);
     for (index, item) in items.iter().enumerate() {
         if !behind.contains(item) && is_behind(platform.pairs(), entries, &items, index) {
@@ -85,10 +85,10 @@ pub fn entries_behind(
 }
 
 /// The entry of the record to which each pair of a participant belongs.
-fn items_of(alloc: Global, one: &NamedParticipant<'_>) -> Result<Vec<usize>, AllocError> {
+fn items_of(alloc: Global, participant: &NamedParticipant<'_>) -> Result<Vec<usize>, AllocError> {
     let mut items = Vec::new(alloc);
-    for index in 0..one.asked.entries().len() {
-        items.push(entry_place(one.stated, index).item)?;
+    for index in 0..participant.asked.entries().len() {
+        items.push(entry_place(participant.stated, index).item)?;
     }
     Ok(items)
 }

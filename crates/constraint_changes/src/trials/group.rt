@@ -44,9 +44,13 @@ impl Group<'_, '_> {
     /// The same participant.
     pub(crate) fn one_stating(&self, place: usize) -> Option<&NamedParticipant<'_>> {
         let number = Some(place.saturating_add(1));
-        for one in self.participants {
-            if self.story.milestone(one.node, Milestone::SetConstraints) == number {
-                return Some(one);
+        for participant in self.participants {
+            if self
+                .story
+                .milestone(participant.node, Milestone::SetConstraints)
+                == number
+            {
+                return Some(participant);
             }
         }
         None
@@ -54,10 +58,14 @@ impl Group<'_, '_> {
 
     /// A participant, with the call that states its constraints and its line: `camera (call 5, line
     /// 14)`.
-    pub fn who(&self, alloc: Global, one: &NamedParticipant<'_>) -> Result<Text, AllocError> {
+    pub fn who(
+        &self,
+        alloc: Global,
+        participant: &NamedParticipant<'_>,
+    ) -> Result<Text, AllocError> {
         let number = self
             .story
-            .milestone(one.node, Milestone::SetConstraints)
+            .milestone(participant.node, Milestone::SetConstraints)
             .unwrap_or(0);
         let path = [
             Step::Key("calls"),
@@ -65,7 +73,7 @@ impl Group<'_, '_> {
             Step::Key("constraints"),
         ];
         let line = line_at(alloc, self.document, &path, RecordPart::Key)?;
-        let mut words = TextBuilder::of_name(alloc, one.called());
+        let mut words = TextBuilder::of_name(alloc, participant.called());
         words.put(" (call ").call(number);
         if let Some(line) = line {
             words.put(", line ").put_number(line);
@@ -79,21 +87,21 @@ impl Group<'_, '_> {
     pub fn who_changes(
         &self,
         alloc: Global,
-        one: &NamedParticipant<'_>,
+        participant: &NamedParticipant<'_>,
         edit: Edit,
         changed: &Value,
     ) -> Result<Text, AllocError> {
         let number = self
             .story
-            .milestone(one.node, Milestone::SetConstraints)
+            .milestone(participant.node, Milestone::SetConstraints)
             .unwrap_or(0);
         let place = number.saturating_sub(1);
-        let lines = match (edit, one.stated) {
+        let lines = match (edit, participant.stated) {
             (Edit::EntryFirst(index), _) => entry_lines(alloc, self.document, place, index)?,
             (_, Some(stated)) => changed_lines(alloc, self.document, place, stated, changed)?,
             _ => Vec::new(alloc),
         };
-        let mut words = TextBuilder::of_name(alloc, one.called());
+        let mut words = TextBuilder::of_name(alloc, participant.called());
         words.put(" (call ").call(number);
         put_lines(&mut words, &lines);
         words.put(")");

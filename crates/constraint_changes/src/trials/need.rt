@@ -30,13 +30,13 @@ impl Need {
     }
 
     /// That of a participant, in a place if one is given: without end where it refuses that.
-    fn of(one: &NamedParticipant<'_>, place: Option<(&HeapInfo, CoherencyDomain)>) -> Need {
-        let (memory, usage) = (one.asked.memory(), one.asked.usage());
+    fn of(participant: &NamedParticipant<'_>, place: Option<(&HeapInfo, CoherencyDomain)>) -> Need {
+        let (memory, usage) = (participant.asked.memory(), participant.asked.usage());
         let is_refused = match place {
             Some((heap, coherency)) => refuses(memory, usage, heap, coherency).is_some(),
             None => false,
         };
-        let counts = one.asked.counts();
+        let counts = participant.asked.counts();
         let camping = u64::from(counts.min_buffer_count_for_camping);
         let dedicated = u64::from(counts.min_buffer_count_for_dedicated_slack);
         Need {
@@ -104,8 +104,8 @@ pub(crate) fn need_too_many(
 /// Whether participants who are all asked need more buffers than they take or than there can be.
 pub(crate) fn together_need_too_many(participants: &[NamedParticipant<'_>]) -> bool {
     let mut total = Need::none();
-    for one in participants {
-        total = total.with(Need::of(one, None));
+    for participant in participants {
+        total = total.with(Need::of(participant, None));
     }
     total.is_too_great()
 }
@@ -122,9 +122,9 @@ pub(crate) fn need_in(
     for _node in 0..group.story.nodes.len() {
         needs.push(None)?;
     }
-    for one in participants {
-        if let Some(need) = needs.get_mut(one.node) {
-            *need = Some(Need::of(one, place));
+    for participant in participants {
+        if let Some(need) = needs.get_mut(participant.node) {
+            *need = Some(Need::of(participant, place));
         }
     }
     let mut total = Need::none();

@@ -202,9 +202,9 @@ fn asked_with<'a>(
     chosen: &[usize],
 ) -> Result<Vec<NamedParticipant<'a>>, AllocError> {
     let mut participants = Vec::new(alloc);
-    for one in group.participants {
-        if is_asked(group, chosen, one.node) {
-            participants.push(*one)?;
+    for participant in group.participants {
+        if is_asked(group, chosen, participant.node) {
+            participants.push(*participant)?;
         }
     }
     Ok(participants)

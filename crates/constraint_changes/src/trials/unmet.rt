@@ -132,10 +132,10 @@ fn all_with<'a>(
     read: &[ReadRecord<'a>],
 ) -> Result<Vec<NamedParticipant<'a>>, AllocError> {
     let mut others = Vec::new(alloc);
-    for one in participants {
-        let mut other = *one;
+    for participant in participants {
+        let mut other = *participant;
         for known in read {
-            if known.node == one.node {
+            if known.node == participant.node {
                 other.asked = known.asked;
             }
         }
@@ -150,13 +150,13 @@ pub fn change_leaves_none(
     alloc: Global,
     group: Group<'_, '_>,
     parties: &[Party<'_>],
-    one: &NamedParticipant<'_>,
+    participant: &NamedParticipant<'_>,
     change: Change,
 ) -> Result<Option<bool>, AllocError> {
-    match asked_after(alloc, one, &[change])? {
+    match asked_after(alloc, participant, &[change])? {
         Some(asked) => {
             let read = ReadRecord {
-                node: one.node,
+                node: participant.node,
                 asked: &asked,
             };
             Ok(Some(leave_none(alloc, group, parties, &[read])?))

@@ -10,18 +10,18 @@ use value_sources::NamedParticipant;
 /// a colour space that it doesn't take, and that few others lack; or one that nobody names.
 pub fn is_worth(
     edit: Edit,
-    one: &NamedParticipant<'_>,
+    participant: &NamedParticipant<'_>,
     participants: &[NamedParticipant<'_>],
     few: usize,
 ) -> bool {
     match edit {
         Edit::TakesPair(pair) => match lacking_pair(participants, pair) {
             0 => !is_named(participants, pair),
-            lacking => lacking <= few && lacks_pair(one, pair),
+            lacking => lacking <= few && lacks_pair(participant, pair),
         },
         Edit::TakesColour(colour) => match lacking_colour(participants, colour) {
             0 => !is_colour_named(participants, colour),
-            lacking => lacking <= few && lacks_colour(one, colour),
+            lacking => lacking <= few && lacks_colour(participant, colour),
         },
         Edit::NoCpu => is_secure_required(participants),
         _ => true,
@@ -31,8 +31,8 @@ pub fn is_worth(
 /// How many participants have entries, and none for a pair.
 fn lacking_pair(participants: &[NamedParticipant<'_>], pair: Pair) -> usize {
     let mut lacking = 0usize;
-    for one in participants {
-        lacking = lacking.saturating_add(usize::from(lacks_pair(one, pair)));
+    for participant in participants {
+        lacking = lacking.saturating_add(usize::from(lacks_pair(participant, pair)));
     }
     lacking
 }
@@ -40,16 +40,16 @@ fn lacking_pair(participants: &[NamedParticipant<'_>], pair: Pair) -> usize {
 /// How many participants have entries, none of which takes a colour space.
 fn lacking_colour(participants: &[NamedParticipant<'_>], colour: ColourSpace) -> usize {
     let mut lacking = 0usize;
-    for one in participants {
-        lacking = lacking.saturating_add(usize::from(lacks_colour(one, colour)));
+    for participant in participants {
+        lacking = lacking.saturating_add(usize::from(lacks_colour(participant, colour)));
     }
     lacking
 }
 
 /// Whether somebody needs secure memory.
 fn is_secure_required(participants: &[NamedParticipant<'_>]) -> bool {
-    for one in participants {
-        if one.asked.memory().secure_required {
+    for participant in participants {
+        if participant.asked.memory().secure_required {
             return true;
         }
     }
@@ -61,8 +61,8 @@ const SIZED: u32 = 16;
 
 /// Whether somebody asks for images of some size.
 pub fn are_sized(participants: &[NamedParticipant<'_>]) -> bool {
-    for one in participants {
-        for entry in one.asked.entries() {
+    for participant in participants {
+        for entry in participant.asked.entries() {
             if is_sized(entry) {
                 return true;
             }
@@ -79,8 +79,8 @@ fn is_sized(entry: &Entry) -> bool {
 }
 
 /// Whether a participant has entries, and none for a pair.
-fn lacks_pair(one: &NamedParticipant<'_>, pair: Pair) -> bool {
-    let entries = one.asked.entries();
+fn lacks_pair(participant: &NamedParticipant<'_>, pair: Pair) -> bool {
+    let entries = participant.asked.entries();
     for entry in entries {
         if is_taken(entry, pair) {
             return false;
@@ -90,8 +90,8 @@ fn lacks_pair(one: &NamedParticipant<'_>, pair: Pair) -> bool {
 }
 
 /// Whether a participant has entries, and none of them takes a colour space.
-fn lacks_colour(one: &NamedParticipant<'_>, colour: ColourSpace) -> bool {
-    let entries = one.asked.entries();
+fn lacks_colour(participant: &NamedParticipant<'_>, colour: ColourSpace) -> bool {
+    let entries = participant.asked.entries();
     for entry in entries {
         if entry.colours.accepts(colour) {
             return false;
@@ -102,8 +102,8 @@ fn lacks_colour(one: &NamedParticipant<'_>, colour: ColourSpace) -> bool {
 
 /// Whether somebody names a pair, and takes it not only as any.
 fn is_named(participants: &[NamedParticipant<'_>], pair: Pair) -> bool {
-    for one in participants {
-        for entry in one.asked.entries() {
+    for participant in participants {
+        for entry in participant.asked.entries() {
             if entry.format == Some(pair.format) && entry.modifier == Some(pair.modifier) {
                 return true;
             }
@@ -113,8 +113,8 @@ fn is_named(participants: &[NamedParticipant<'_>], pair: Pair) -> bool {
 }
 
 fn is_colour_named(participants: &[NamedParticipant<'_>], colour: ColourSpace) -> bool {
-    for one in participants {
-        for entry in one.asked.entries() {
+    for participant in participants {
+        for entry in participant.asked.entries() {
             if entry.colours.lists(colour) {
                 return true;
             }

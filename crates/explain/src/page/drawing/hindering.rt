@@ -51,9 +51,9 @@ fn add_misfits(
     settings: &Settings,
 ) -> Result<(), AllocError> {
     let alloc = nodes.alloc();
-    for one in participants {
-        if !failing(alloc, platform, settings, one.asked)?.is_empty() {
-            nodes.add(one.node);
+    for participant in participants {
+        if !failing(alloc, platform, settings, participant.asked)?.is_empty() {
+            nodes.add(participant.node);
         }
     }
     Ok(())

@@ -2,5 +2,5 @@
 use Rattle.settings_reasons.specs.True.{AreInTheWay}
 use Rattle.settings_reasons.proofs.empty.in_the_way.Given as goal
 
-abbrev pub invariant-loop-one : goal.invariant-loop-one
-invariant-loop-one l = AreInTheWay l.platform l.participants l.kept.items
+abbrev pub invariant-loop-participant : goal.invariant-loop-participant
+invariant-loop-participant l = AreInTheWay l.platform l.participants l.kept.items

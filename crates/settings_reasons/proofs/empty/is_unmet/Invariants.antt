@@ -4,8 +4,8 @@ use Rattle.sysmem_merge.specs.Aggregate.{StandsFor}
 use Rattle.value_sources.specs.Sources.{all_asked}
 use Rattle.settings_reasons.proofs.empty.is_unmet.Given as goal
 
-abbrev pub invariant-loop-one : goal.invariant-loop-one
-invariant-loop-one l = record {
-  stands : StandsFor l.asked l.platform (all_asked (take l.one-index l.participants));
-  few : l.asked.added ≤ l.one-index;
+abbrev pub invariant-loop-participant : goal.invariant-loop-participant
+invariant-loop-participant l = record {
+  stands : StandsFor l.asked l.platform (all_asked (take l.participant-index l.participants));
+  few : l.asked.added ≤ l.participant-index;
 }

@@ -1,5 +1,5 @@
 -- The line is true of all, so it is of those who are named.
-use Rattle.settings_reasons.proofs.People.{line_more}
+use Rattle.settings_reasons.proofs.Participants.{line_more}
 use Rattle.settings_reasons.proofs.offering.add_line.Goals as goal
 
 pub returns : goal.returns

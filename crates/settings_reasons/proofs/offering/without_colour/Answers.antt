@@ -5,13 +5,13 @@ use Rattle.settings_reasons.specs.True.{LacksColour}
 use Rattle.settings_reasons.proofs.offering.without_colour.Goals as goal
 use Rattle.settings_reasons.proofs.offering.without_colour.Goals.{in-Some+then-not-takes_colour+in_ok-push, in-Some+else-not-takes_colour, in_default}
 
-pub loop-one-preserved : goal.loop-one-preserved
-loop-one-preserved c = elim c.match-entry_for.branch [
+pub loop-participant-preserved : goal.loop-participant-preserved
+loop-participant-preserved c = elim c.match-entry_for.branch [
   | in-Some+then-not-takes_colour+in_ok-push w ↦ (
       let matched = rw c.entries.ensures.entries at w.in-Some.ensures in
-      let one : LacksColour c.args.offer.now c.one-item.result = rw (sym matched) (sym w.takes_colour.ensures ∙ w.if-not-takes_colour.true) in
-      let all = All-push (LacksColour c.args.offer.now) c.loop-one.those.items c.one-item.result c.loop-one.invariant one in
+      let lacks : LacksColour c.args.offer.now c.participant-item.result = rw (sym matched) (sym w.takes_colour.ensures ∙ w.if-not-takes_colour.true) in
+      let all = All-push (LacksColour c.args.offer.now) c.loop-participant.those.items c.participant-item.result c.loop-participant.invariant lacks in
       rw w.those-is (rw w.in_ok-push.ensures.items all))
-  | in-Some+else-not-takes_colour w ↦ rw w.those-is c.loop-one.invariant
-  | in_default w ↦ rw w.those-is c.loop-one.invariant
+  | in-Some+else-not-takes_colour w ↦ rw w.those-is c.loop-participant.invariant
+  | in_default w ↦ rw w.those-is c.loop-participant.invariant
 ]

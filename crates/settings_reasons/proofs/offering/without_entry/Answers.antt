@@ -5,11 +5,11 @@ use Rattle.settings_reasons.specs.True.{LacksEntry}
 use Rattle.settings_reasons.proofs.offering.without_entry.Goals as goal
 use Rattle.settings_reasons.proofs.offering.without_entry.Goals.{then-not-is_empty+then-is_none+in_ok-push, else-not-is_empty}
 
-pub loop-one-preserved : goal.loop-one-preserved
-loop-one-preserved c = elim c.if-not-is_empty.branch [
+pub loop-participant-preserved : goal.loop-participant-preserved
+loop-participant-preserved c = elim c.if-not-is_empty.branch [
   | then-not-is_empty+then-is_none+in_ok-push w ↦ (
-      let one : LacksEntry c.args.offer.now c.one-item.result = grind (arith, w.entry_for.ensures, w.is_none.ensures, w.if-is_none.true, w.if-not-is_empty.true) in
-      let all = All-push (LacksEntry c.args.offer.now) c.loop-one.those.items c.one-item.result c.loop-one.invariant one in
+      let lacks : LacksEntry c.args.offer.now c.participant-item.result = grind (arith, w.entry_for.ensures, w.is_none.ensures, w.if-is_none.true, w.if-not-is_empty.true) in
+      let all = All-push (LacksEntry c.args.offer.now) c.loop-participant.those.items c.participant-item.result c.loop-participant.invariant lacks in
       rw w.those-is (rw w.in_ok-push.ensures.items all))
-  | else-not-is_empty w ↦ rw w.those-is c.loop-one.invariant
+  | else-not-is_empty w ↦ rw w.those-is c.loop-participant.invariant
 ]

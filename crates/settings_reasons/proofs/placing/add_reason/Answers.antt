@@ -1,5 +1,5 @@
 -- The field refuses the place to each who is named.
-use Rattle.settings_reasons.proofs.People.{place_more}
+use Rattle.settings_reasons.proofs.Participants.{place_more}
 use Rattle.settings_reasons.proofs.placing.add_reason.Goals as goal
 
 pub returns : goal.returns
