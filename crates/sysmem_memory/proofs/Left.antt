@@ -1,22 +1,26 @@
 -- The domains that are left, and the places that are refused.
-use Rattle.std.proofs.Common.{◌≡◌, ℕ, ◌+◌, ◌<◌, ◌≤◌, Bool, true, false, ◌&&◌, List, [], ◌∷◌, ◌++◌, length, Option, Some, None, IfSome, All, is_none, is_some, slice_get, slice_set, get_or, refl, sym, ◌∙◌, ap, arith, subst, inl, inr, below_more}
+use Rattle.std.proofs.Common.{◌≡◌, ℕ, ◌+◌, ◌<◌, ◌≤◌, Bool, true, false, ◌&&◌, List, [], ◌∷◌, ◌++◌, length, Option, Some, None, IfSome, IfNone, All, is_none, is_some, slice_get, refl, sym, ◌∙◌, ap, arith, subst, inl, inr, below_more, ◌||◌, ◌≢◌, true≢false}
 use Rattle.std.specs.List.{list_all, find}
-use Rattle.std.proofs.Math.Bool.{and-true, and_assoc}
+use Rattle.std.proofs.Math.Bool.{and-true, and_assoc, or-false}
 use Rattle.std.proofs.lemmas.List.Folds.{list_all-append}
 use Rattle.std.proofs.lemmas.List.Sums.{AllPass-from_list_all}
-use Rattle.std.proofs.lemmas.Option.{slice_get_within, slice_get-get_or, get_or_from_slice_get, same_Some}
+use Rattle.std.proofs.lemmas.Option.{slice_get_within, same_Some}
 use Rattle.sysmem_counts.specs.declared.field.Field.{Field}
 use Rattle.sysmem_counts.specs.declared.usage.Usage as usage
 use Rattle.sysmem_memory.specs.declared.domain.CoherencyDomain.{CoherencyDomain}
 use Rattle.sysmem_memory.specs.declared.domain.CoherencyDomain.TheVariants.{Cpu, Ram, Inaccessible}
 use Rattle.sysmem_memory.specs.declared.domain.CoherencyDomains.{CoherencyDomains}
+use Rattle.sysmem_memory.specs.declared.bounds.MemoryBounds.{MemoryBounds}
+use Rattle.sysmem_memory.specs.declared.heap_set.HeapSet.{HeapSet}
 use Rattle.sysmem_memory.specs.declared.place.Place.{Place}
 use Rattle.sysmem_memory.specs.Domain.{has_domain, IsFirstDomain}
 use Rattle.sysmem_memory.specs.Heap.{HeapFacts}
+use Rattle.sysmem_memory.specs.HeapSet.{has_heap}
+use Rattle.sysmem_memory.specs.Left.{has_left}
 use Rattle.sysmem_memory.specs.Wishes.{MemoryWishes}
 use Rattle.sysmem_memory.specs.PlaceTable.{refuses_by, heap_fields, domain_fields, place_fields, first_refusing, AllowsPlace, PlaceDemand}
 use Rattle.sysmem_memory.specs.Place.{IsPlace, IsRefused, IsFirstPlace, HasNoPlace, is_left, AreDomainsLeft}
-use Rattle.list_lemmas.proofs.CallerLemmas.{find_front, find_rest, find_passes, slice_get_some, slice_get-set_same, slice_get-set_other, any_fails, and_parts}
+use Rattle.list_lemmas.proofs.CallerLemmas.{find_front, find_rest, find_passes, slice_get_some, any_fails, and_parts}
 
 -- somebody for whom some field is the first that refuses is refused by a field
 refused_by_one : (p : PlaceDemand) (h : HeapFacts) (d : CoherencyDomain) → is_none (first_refusing p.memory p.usage h d) ≡ false → (f : Field) × (refuses_by f p.memory p.usage h d ≡ true)
@@ -51,70 +55,88 @@ left_more h ps p d =
     let allow : PlaceDemand → Bool = λ p. is_none (first_refusing p.memory p.usage h d) in
     and_assoc (has_domain h.domains d) (list_all allow ps) (allow p) ∙ ap (λ b. has_domain h.domains d && b) (ap (λ b. list_all allow ps && b) (sym (and-true (allow p))) ∙ sym (list_all-append allow ps (p ∷ [])))
 
--- bounds to which nobody was added leave each domain of each heap
-pub left_by_none : (left : List CoherencyDomains) (heaps : List HeapFacts) → length heaps ≤ 64 → ((k : ℕ) (h : HeapFacts) (s : CoherencyDomains) → k < length heaps → slice_get heaps k ≡ Some h → slice_get left k ≡ Some s → h.domains ≡ s) → AreDomainsLeft left heaps []
-left_by_none left heaps limit kept = record {
-  limit = limit;
-  exactly = λ k h s d at_heap at_left. ap (λ t. has_domain t d) (sym (kept k h s (slice_get_within heaps k h at_heap) at_heap at_left)) ∙ sym (and-true (has_domain h.domains d));
+-- the bounds leave a domain of each of the first n heaps exactly where `test` holds of it, and nothing of the others
+pub record IsLeftOf (test : ℕ → HeapFacts → CoherencyDomain → Bool) (heaps : List HeapFacts) (n : ℕ) (left : MemoryBounds) : Type 0 where
+  pub done : (k : ℕ) (h : HeapFacts) (d : CoherencyDomain) → k < n → slice_get heaps k ≡ Some h → has_left left k d ≡ test k h d
+  pub rest : (k : ℕ) (d : CoherencyDomain) → n ≤ k → has_left left k d ≡ false
+
+-- one more heap is put there
+pub left_of_more : (test : ℕ → HeapFacts → CoherencyDomain → Bool) (heaps : List HeapFacts) (n : ℕ) (left new : MemoryBounds) (h : HeapFacts) (s : CoherencyDomains) → slice_get heaps n ≡ Some h → IsLeftOf test heaps n left
+    → ((d : CoherencyDomain) → has_left new n d ≡ (has_domain s d || has_left left n d)) → ((k : ℕ) (d : CoherencyDomain) → k ≢ n → has_left new k d ≡ has_left left k d)
+    → ((d : CoherencyDomain) → has_domain s d ≡ test n h d) → IsLeftOf test heaps (n + 1) new
+left_of_more test heaps n left new h s here before put others told = record {
+  done = λ k g d below is. below_more (λ k. (g : HeapFacts) (d : CoherencyDomain) → slice_get heaps k ≡ Some g → has_left new k d ≡ test k g d) n
+      (λ k below g d is. others k d (λ e. omega (arith, e, below)) ∙ before.done k g d below is)
+      (λ g d is. put d ∙ ap (λ b. has_domain s d || b) (before.rest n d (omega arith)) ∙ or-false (has_domain s d) ∙ told d ∙ ap (λ g. test n g d) (same_Some h g (sym here ∙ is))) k below g d is;
+  rest = λ k d above. others k d (λ e. omega (arith, e, above)) ∙ before.rest k d (omega (arith, above));
 }
 
--- the heap at an index lost what a participant refuses, and nothing else
-abbrev pub LostAt : MemoryWishes → usage.Usage → List HeapFacts → List CoherencyDomains → List CoherencyDomains → ℕ → Type 0
-LostAt m u heaps old left k =
-    (h : HeapFacts) (t s : CoherencyDomains) → slice_get heaps k ≡ Some h → slice_get old k ≡ Some t → slice_get left k ≡ Some s → (d : CoherencyDomain) → has_domain s d ≡ (has_domain t d && is_none (first_refusing m u h d))
-
--- one more heap lost what a participant refuses
-pub lost_more : (m : MemoryWishes) (u : usage.Usage) (heaps : List HeapFacts) (old left : List CoherencyDomains) (i : ℕ) (h : HeapFacts) (d y : CoherencyDomains) → i < length left → h ≡ get_or heaps i h → ((e : CoherencyDomain) → has_domain y e ≡ (has_domain (get_or left i d) e && is_none (first_refusing m u h e))) → ((k : ℕ) → k < i → LostAt m u heaps old left k) → ((k : ℕ) (s : CoherencyDomains) → i ≤ k → slice_get left k ≡ Some s → slice_get old k ≡ Some s) → (k : ℕ) → k < i + 1 → LostAt m u heaps old (slice_set left i y) k
-lost_more m u heaps old left i h d y within read lost done rest =
-    below_more (LostAt m u heaps old (slice_set left i y)) i (λ k below g t s at_heap at_old at_left. done k below g t s at_heap at_old (slice_get-set_other left i k y s (λ e. omega (arith, e, below)) at_left)) (λ g t s at_heap at_old at_left e.
-    let heap : h ≡ g = read ∙ get_or_from_slice_get heaps i g h at_heap in
-    let was : get_or left i d ≡ t = same_Some (get_or left i d) t (sym (rest i (get_or left i d) (omega arith) (slice_get-get_or left i d within)) ∙ at_old) in
-    ap (λ s. has_domain s e) (sym (slice_get-set_same left i y s within at_left)) ∙ lost e ∙ ap (λ t. has_domain t e && is_none (first_refusing m u h e)) was ∙ ap (λ h. has_domain t e && is_none (first_refusing m u h e)) heap)
-
--- the heaps after one more are as they were
-pub rest_less : (old left : List CoherencyDomains) (i : ℕ) (y : CoherencyDomains) → ((k : ℕ) (s : CoherencyDomains) → i ≤ k → slice_get left k ≡ Some s → slice_get old k ≡ Some s) → (k : ℕ) (s : CoherencyDomains) → i + 1 ≤ k → slice_get (slice_set left i y) k ≡ Some s → slice_get old k ≡ Some s
-rest_less old left i y rest k s above at_left =
-    rest k s (omega (arith, above)) (slice_get-set_other left i k y s (λ e. omega (arith, e, above)) at_left)
+-- what was left of a heap, and a participant doesn't refuse
+abbrev pub still_left_of : MemoryWishes → usage.Usage → MemoryBounds → ℕ → HeapFacts → CoherencyDomain → Bool
+still_left_of m u old k h d = has_left old k d && is_none (first_refusing m u h d)
 
 -- bounds in which each heap lost what a participant refuses stand for one participant more
-pub left_by_more : (old left : List CoherencyDomains) (heaps : List HeapFacts) (ps : List PlaceDemand) (p : PlaceDemand) → length heaps ≤ length old → ((k : ℕ) → k < length heaps → LostAt p.memory p.usage heaps old left k) → AreDomainsLeft old heaps ps → AreDomainsLeft left heaps (ps ++ p ∷ [])
-left_by_more old left heaps ps p room lost stands = record {
+pub left_by_more : (old left : MemoryBounds) (heaps : List HeapFacts) (ps : List PlaceDemand) (p : PlaceDemand) (n : ℕ) → length heaps ≤ n → IsLeftOf (still_left_of p.memory p.usage old) heaps n left → AreDomainsLeft old heaps ps → AreDomainsLeft left heaps (ps ++ p ∷ [])
+left_by_more old left heaps ps p n end all stands = record {
   limit = stands.limit;
-  exactly = λ k h s d at_heap at_left.
-      let within = slice_get_within heaps k h at_heap in
-      let was = slice_get_some old k (omega (arith, within, room)) in
-      lost k within h was.0 s at_heap was.1 at_left d ∙ ap (λ b. b && is_none (first_refusing p.memory p.usage h d)) (stands.exactly k h was.0 d at_heap was.1) ∙ left_more h ps p d;
+  exactly = λ k h d is.
+      all.done k h d (omega (arith, slice_get_within heaps k h is, end)) is ∙ ap (λ b. b && is_none (first_refusing p.memory p.usage h d)) (stands.exactly k h d is) ∙ left_more h ps p d;
 }
 
 -- a place whose domain isn't left is refused
-refused_at : (left : List CoherencyDomains) (heaps : List HeapFacts) (ps : List PlaceDemand) (q : Place) (h : HeapFacts) (t : CoherencyDomains) → AreDomainsLeft left heaps ps → IsPlace heaps q h → slice_get left q.heap ≡ Some t → has_domain t q.coherency ≡ false → IsRefused h q.coherency ps
-refused_at left heaps ps q h t stands place at_left gone =
-    refused_when_gone h q.coherency ps place.domain (sym (stands.exactly q.heap h t q.coherency place.heap at_left) ∙ gone)
+refused_at : (left : MemoryBounds) (heaps : List HeapFacts) (ps : List PlaceDemand) (q : Place) (h : HeapFacts) → AreDomainsLeft left heaps ps → IsPlace heaps q h → has_left left q.heap q.coherency ≡ false → IsRefused h q.coherency ps
+refused_at left heaps ps q h stands place gone =
+    refused_when_gone h q.coherency ps place.domain (sym (stands.exactly q.heap h q.coherency place.heap) ∙ gone)
 
 -- where no heap has a domain left, no place is left
-pub no_place_left : (left : List CoherencyDomains) (heaps : List HeapFacts) (ps : List PlaceDemand) → length heaps ≤ length left → ((k : ℕ) (t : CoherencyDomains) → k < length heaps → slice_get left k ≡ Some t → (e : CoherencyDomain) → has_domain t e ≡ false) → AreDomainsLeft left heaps ps → HasNoPlace heaps ps
-no_place_left left heaps ps room passed stands q h place =
-    let within = slice_get_within heaps q.heap h place.heap in
-    let kept = slice_get_some left q.heap (omega (arith, within, room)) in
-    refused_at left heaps ps q h kept.0 stands place kept.1 (passed q.heap kept.0 within kept.1 q.coherency)
+pub no_place_left : (left : MemoryBounds) (heaps : List HeapFacts) (ps : List PlaceDemand) → ((k : ℕ) → k < length heaps → (d : CoherencyDomain) → has_left left k d ≡ false) → AreDomainsLeft left heaps ps → HasNoPlace heaps ps
+no_place_left left heaps ps passed stands q h place =
+    refused_at left heaps ps q h stands place (passed q.heap (slice_get_within heaps q.heap h place.heap) q.coherency)
 
 -- the first domain of the first heap that has one left is the first place
-pub first_place_left : (left : List CoherencyDomains) (heaps : List HeapFacts) (ps : List PlaceDemand) (n : ℕ) (s : CoherencyDomains) (d : CoherencyDomain) → length heaps ≤ length left → n < length heaps → slice_get left n ≡ Some s → IsFirstDomain s d → ((k : ℕ) (t : CoherencyDomains) → k < n → slice_get left k ≡ Some t → (e : CoherencyDomain) → has_domain t e ≡ false) → AreDomainsLeft left heaps ps → IsFirstPlace heaps ps (record { heap = n; coherency = d })
-first_place_left left heaps ps n s d room within at_left first passed stands =
+pub first_place_left : (left : MemoryBounds) (heaps : List HeapFacts) (ps : List PlaceDemand) (n : ℕ) (s : CoherencyDomains) (d : CoherencyDomain) → n < length heaps → ((e : CoherencyDomain) → has_domain s e ≡ has_left left n e) → IsFirstDomain s d → ((k : ℕ) → k < n → (e : CoherencyDomain) → has_left left k e ≡ false) → AreDomainsLeft left heaps ps → IsFirstPlace heaps ps (record { heap = n; coherency = d })
+first_place_left left heaps ps n s d within read first passed stands =
     let info = slice_get_some heaps n within in
-    let allowed = allowed_when_left info.0 d ps (sym (stands.exactly n info.0 s d info.1 at_left) ∙ first.has) in
+    let allowed = allowed_when_left info.0 d ps (sym (stands.exactly n info.0 d info.1) ∙ sym (read d) ∙ first.has) in
     record {
       info = info.0;
       place = record { heap = info.1; domain = allowed.0 };
       allowed = allowed.1;
       earlier = λ q h place before. elim before [
-        | inl lower ↦
-            let kept = slice_get_some left q.heap (omega (arith, slice_get_within heaps q.heap h place.heap, room)) in
-            refused_at left heaps ps q h kept.0 stands place kept.1 (passed q.heap kept.0 lower kept.1 q.coherency)
+        | inl lower ↦ refused_at left heaps ps q h stands place (passed q.heap lower q.coherency)
         | inr same ↦
-            refused_at left heaps ps q h s stands place (ap (λ k. slice_get left k) same.0 ∙ at_left) (first.before q.coherency same.1)
+            refused_at left heaps ps q h stands place (ap (λ k. has_left left k q.coherency) same.0 ∙ sym (read q.coherency) ∙ first.before q.coherency same.1)
       ];
     }
+
+-- what holds is there for an answer that isn't there
+pub if_none : {X : Type 0} (o : Option X) (P : Type 0) → P → IfNone o P
+if_none None P p = p
+if_none (Some x) P p = tt
+
+-- the set has the heaps of which some domain is left
+abbrev pub IsUnion : MemoryBounds → HeapSet → Type 0
+IsUnion left any = (k : ℕ) → has_heap any k ≡ ((has_heap left.cpu k || has_heap left.ram k) || has_heap left.inaccessible k)
+
+pub union_is : (left : MemoryBounds) (some any : HeapSet) → ((k : ℕ) → has_heap some k ≡ (has_heap left.cpu k || has_heap left.ram k)) → ((k : ℕ) → has_heap any k ≡ (has_heap some k || has_heap left.inaccessible k)) → IsUnion left any
+union_is left some any first all k = all k ∙ ap (λ b. b || has_heap left.inaccessible k) (first k)
+
+none_of_three : (a b c : Bool) → false ≡ ((a || b) || c) → (a ≡ false) × (b ≡ false) × (c ≡ false)
+none_of_three false false c e = (refl, refl, sym e)
+none_of_three false true c e = cc
+none_of_three true b c e = cc
+
+-- of a heap that isn't in the union no domain is left
+pub none_outside : (left : MemoryBounds) (any : HeapSet) → IsUnion left any → (k : ℕ) → has_heap any k ≡ false → (d : CoherencyDomain) → has_left left k d ≡ false
+none_outside left any union k out d =
+    let three = none_of_three (has_heap left.cpu k) (has_heap left.ram k) (has_heap left.inaccessible k) (sym out ∙ union k) in
+    elim d as (λ d. has_left left k d ≡ false) [ Cpu ↦ three.0 | Ram ↦ three.1 | Inaccessible ↦ three.2 ]
+
+-- of a heap that is in the union some domain is left
+pub some_inside : (left : MemoryBounds) (any : HeapSet) → IsUnion left any → (k : ℕ) → has_heap any k ≡ true → ((d : CoherencyDomain) → has_left left k d ≡ false) → ⊥
+some_inside left any union k inside none =
+    let out : has_heap any k ≡ false = union k ∙ ap (λ b. (b || has_heap left.ram k) || has_heap left.inaccessible k) (none Cpu) ∙ ap (λ b. b || has_heap left.inaccessible k) (none Ram) ∙ none Inaccessible in
+    true≢false (sym inside ∙ out)
 
 -- a heap that some field refuses has no domain left
 pub nothing_left : (left : CoherencyDomains) (m : MemoryWishes) (u : usage.Usage) (h : HeapFacts) (r : Option Field) → ((u : usage.Usage) (d : CoherencyDomain) → r ≡ find (λ f. refuses_by f m u h d) heap_fields) → true ≡ is_some r → (d : CoherencyDomain) → has_domain (record { cpu = false; ram = false; inaccessible = false }) d ≡ (has_domain left d && is_none (first_refusing m u h d))

@@ -1,5 +1,6 @@
 pub mod Domains
 pub mod FirstRefusing
+pub mod HeapSets
 pub mod LawProofs
 pub mod Joined
 pub mod Left

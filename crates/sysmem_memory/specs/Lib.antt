@@ -1,6 +1,8 @@
 pub mod Domain
 pub mod Heap
+pub mod HeapSet
 pub mod Laws
+pub mod Left
 pub mod Listed
 pub mod Place
 pub mod PlaceTable

@@ -4,11 +4,12 @@ use Rattle.std.specs.Prelude.{All, is_none, slice_get}
 use Rattle.std.specs.List.{list_all}
 use Rattle.sysmem_counts.specs.declared.field.Field.{Field}
 use Rattle.sysmem_memory.specs.declared.bounds.TheConstants.{MOST_HEAPS}
+use Rattle.sysmem_memory.specs.declared.bounds.MemoryBounds.{MemoryBounds}
 use Rattle.sysmem_memory.specs.declared.domain.CoherencyDomain.{CoherencyDomain}
-use Rattle.sysmem_memory.specs.declared.domain.CoherencyDomains.{CoherencyDomains}
 use Rattle.sysmem_memory.specs.declared.place.Place.{Place}
 use Rattle.sysmem_memory.specs.Domain.{has_domain, rank}
 use Rattle.sysmem_memory.specs.Heap.{HeapFacts}
+use Rattle.sysmem_memory.specs.Left.{has_left}
 use Rattle.sysmem_memory.specs.PlaceTable.{AllowsPlace, IsPlaceLine, PlaceDemand, first_refusing}
 
 -- the place is one of the platform's: its heap is h, which has its coherency domain
@@ -42,8 +43,8 @@ is_left h ps d =
     has_domain h.domains d && list_all (λ p. is_none (first_refusing p.memory p.usage h d)) ps
 
 -- what is kept of each heap is the domains that nobody of the list refuses
-pub record AreDomainsLeft (kept : List CoherencyDomains) (heaps : List HeapFacts)
+pub record AreDomainsLeft (kept : MemoryBounds) (heaps : List HeapFacts)
     (ps : List PlaceDemand) : Type 0 where
   pub limit : length heaps ≤ MOST_HEAPS
-  pub exactly : (k : ℕ) (h : HeapFacts) (s : CoherencyDomains) (d : CoherencyDomain)
-      → slice_get heaps k ≡ Some h → slice_get kept k ≡ Some s → has_domain s d ≡ is_left h ps d
+  pub exactly : (k : ℕ) (h : HeapFacts) (d : CoherencyDomain) → slice_get heaps k ≡ Some h
+      → has_left kept k d ≡ is_left h ps d

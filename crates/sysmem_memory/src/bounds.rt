@@ -9,49 +9,46 @@ ghost use Rattle.sysmem_memory.specs.PlaceTable.{refuses_by, first_refusing, dom
 use crate::constraints::MemoryConstraints;
 use crate::domain::{CoherencyDomain, CoherencyDomains};
 use crate::heap::HeapInfo;
+use crate::heap_set::HeapSet;
 use crate::place::Place;
 use crate::refusal::{domain_refuses, heap_refuses};
-use std::marker::Model;
 use sysmem_counts::Usage;
 
 /// How many heaps a platform has at most.
 pub const MOST_HEAPS: usize = 64;
 
-/// The coherency domains of each heap that nobody who was added refuses.
+/// The coherency domains of each heap that nobody who was added refuses: for
+/// each domain, the heaps of which it is left.
 #[derive(Clone, Copy, Debug)]
 pub struct MemoryBounds {
-    left: [CoherencyDomains; MOST_HEAPS],
-}
-
-impl Model for MemoryBounds {
-    ghost use Rattle.std.specs.Prelude.{◌≡◌, List, length};
-    ghost use Rattle.sysmem_memory.specs.declared.bounds.TheConstants.{MOST_HEAPS};
-    ghost use Rattle.sysmem_memory.specs.declared.domain.CoherencyDomains.{CoherencyDomains as Domains};
-
-    ghost Value = { List Domains };
-
-    ghost view = { λ b. b.left };
-
-    ghost invariant = { λ b. length b.left ≡ MOST_HEAPS };
-
-    ghost inverse = { λ left. record { left = left } };
+    cpu: HeapSet,
+    ram: HeapSet,
+    inaccessible: HeapSet,
 }
 
 impl MemoryBounds {
-    ghost use Rattle.std.specs.Prelude.{◌≤◌, List, [], ◌∷◌, ◌++◌, length, IfSome, IfNone};
+    ghost use Rattle.std.specs.Prelude.{◌≢◌, ◌<◌, ◌≤◌, ℕ, ◌||◌, List, [], ◌∷◌, ◌++◌, length, IfSome, IfNone};
     ghost use Rattle.sysmem_memory.specs.PlaceTable.{PlaceDemand};
+    ghost use Rattle.sysmem_memory.specs.Left.{has_left};
     ghost use Rattle.sysmem_memory.specs.Place.{AreDomainsLeft, IsFirstPlace, HasNoPlace};
+
+    /// No domain of any heap.
+    const NONE: MemoryBounds = MemoryBounds {
+        cpu: HeapSet::NONE,
+        ram: HeapSet::NONE,
+        inaccessible: HeapSet::NONE,
+    };
 
     /// The bounds to which nobody was added: each domain of each heap is left.
     pub fn new(heaps: &[HeapInfo]) -> MemoryBounds
         requires { length heaps.now ≤ MOST_HEAPS }
         ensures { AreDomainsLeft result heaps.now [] }
     {
-        let mut left = [CoherencyDomains::NONE; MOST_HEAPS];
+        let mut left = MemoryBounds::NONE;
         for (index, heap) in heaps.iter().enumerate() {
-            left[index] = heap.domains;
+            left = left.with(index, heap.domains);
         }
-        MemoryBounds { left }
+        left
     }
 
     /// Adds a participant: what it refuses is no longer left. The
@@ -62,9 +59,11 @@ impl MemoryBounds {
             → AreDomainsLeft self.new heaps.now
             (ps ++ record { memory = memory.now; usage = usage } ∷ []) }
     {
+        let mut left = MemoryBounds::NONE;
         for (index, heap) in heaps.iter().enumerate() {
-            self.left[index] = still_left(self.left[index], heap, memory, usage);
+            left = left.with(index, still_left(self.at(index), heap, memory, usage));
         }
+        *self = left;
     }
 
     /// Joins the bounds of more participants: what any of both refuses is no longer left. The heaps
@@ -74,9 +73,9 @@ impl MemoryBounds {
         ensures { (ps qs : List PlaceDemand) → AreDomainsLeft self.old heaps.now ps
             → AreDomainsLeft more.now heaps.now qs → AreDomainsLeft self.new heaps.now (ps ++ qs) }
     {
-        for index in 0..heaps.len() {
-            self.left[index] = left_by_both(self.left[index], more.left[index]);
-        }
+        self.cpu = self.cpu.both(more.cpu);
+        self.ram = self.ram.both(more.ram);
+        self.inaccessible = self.inaccessible.both(more.inaccessible);
     }
 
     /// The first place that nobody who was added refuses, or `None` where each place is refused by
@@ -88,23 +87,42 @@ impl MemoryBounds {
         ensures none { (ps : List PlaceDemand) → AreDomainsLeft self.now heaps.now ps
             → IfNone result (HasNoPlace heaps.now ps) }
     {
-        for heap in 0..heaps.len() {
-            if let Some(coherency) = self.left[heap].first() {
-                return Some(Place { heap, coherency });
-            }
+        let heap = self
+            .cpu
+            .either(self.ram)
+            .either(self.inaccessible)
+            .lowest()?;
+        if heap >= heaps.len() {
+            return None;
         }
-        None
+        let coherency = self.at(heap).first()?;
+        Some(Place { heap, coherency })
     }
-}
 
-/// The domains that are in both sets.
-fn left_by_both(left: CoherencyDomains, more: CoherencyDomains) -> CoherencyDomains
-    ensures { (d : Domain) → has_domain result d ≡ (has_domain left d && has_domain more d) }
-{
-    CoherencyDomains {
-        cpu: left.cpu & more.cpu,
-        ram: left.ram & more.ram,
-        inaccessible: left.inaccessible & more.inaccessible,
+    /// The domains that are left of the heap.
+    fn at(&self, heap: usize) -> CoherencyDomains
+        requires { heap < 64 }
+        ensures { (d : Domain) → has_domain result d ≡ has_left self.now heap d }
+    {
+        CoherencyDomains {
+            cpu: self.cpu.has(heap),
+            ram: self.ram.has(heap),
+            inaccessible: self.inaccessible.has(heap),
+        }
+    }
+
+    /// The bounds in which these domains of the heap are left too.
+    fn with(self, heap: usize, domains: CoherencyDomains) -> MemoryBounds
+        requires { heap < 64 }
+        ensures heap { (d : Domain) → has_left result heap d
+            ≡ (has_domain domains d || has_left self heap d) }
+        ensures others { (k : ℕ) (d : Domain) → k ≢ heap → has_left result k d ≡ has_left self k d }
+    {
+        MemoryBounds {
+            cpu: self.cpu.with_if(domains.cpu, heap),
+            ram: self.ram.with_if(domains.ram, heap),
+            inaccessible: self.inaccessible.with_if(domains.inaccessible, heap),
+        }
     }
 }
 

@@ -12,6 +12,7 @@ mod bounds;
 mod constraints;
 mod domain;
 mod heap;
+mod heap_set;
 pub mod laws;
 mod place;
 mod refusal;

@@ -19,7 +19,7 @@ use Rattle.sysmem_image.specs.Fields as bound
 use Rattle.sysmem_image.specs.Fields.{Bound, Keeps, rule_of, value, own_value}
 use Rattle.sysmem_image.specs.Lines.{MeetsIn}
 use Rattle.sysmem_image.specs.Merged.{IsMergeOf, MergedOf}
-use Rattle.sysmem_memory.specs.declared.domain.CoherencyDomains.{CoherencyDomains}
+use Rattle.sysmem_memory.specs.declared.bounds.MemoryBounds.{MemoryBounds}
 use Rattle.sysmem_memory.specs.declared.domain.CoherencyDomain.{CoherencyDomain}
 use Rattle.sysmem_memory.specs.declared.place.Place.{Place}
 use Rattle.sysmem_memory.specs.Domain.{has_domain}
@@ -141,11 +141,11 @@ counts_in_order kept ps qs order is =
     }
 
 -- and of places
-places_in_order : (kept : List CoherencyDomains) (platform : PlatformFacts) (ps qs : List Participant) → IsPermutation ps qs
+places_in_order : (kept : MemoryBounds) (platform : PlatformFacts) (ps qs : List Participant) → IsPermutation ps qs
     → places.AreDomainsLeft kept platform.heaps (place_demands ps) → places.AreDomainsLeft kept platform.heaps (place_demands qs)
 places_in_order kept platform ps qs order is = record {
   limit = is.limit;
-  exactly = λ k h s d here got. is.exactly k h s d here got
+  exactly = λ k h d here. is.exactly k h d here
       ∙ ap (λ b. has_domain h.domains d && b) (all_in_order _ (place_demands ps) (place_demands qs) (IsPermutation-map place_demand ps qs order));
 }
 

@@ -4,6 +4,7 @@ pub mod AnyColour
 pub mod AnyOrder
 pub mod CallerLemmas
 pub mod ColourBits
+pub mod Covering
 pub mod FirstFits
 pub mod Joining
 pub mod Keeping

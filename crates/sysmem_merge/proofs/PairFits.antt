@@ -14,18 +14,22 @@ use Rattle.sysmem_formats.specs.declared.offer.Offer.TheVariants.{NoImage, Image
 use Rattle.sysmem_formats.specs.declared.offer.Pair.{Pair}
 use Rattle.sysmem_formats.specs.Offers.{images, offers}
 use Rattle.sysmem_counts.specs.declared.field.Field.{Field}
+use Rattle.sysmem_counts.specs.declared.field.Field.TheVariants.{ColorSpaces}
 use Rattle.offer_fits.specs.declared.fit.Fit.{Fit}
-use Rattle.sysmem_merge.specs.declared.kept.KeptBounds.TheVariants.{Refused}
+use Rattle.sysmem_merge.specs.declared.kept.KeptBounds.{KeptBounds}
+use Rattle.sysmem_merge.specs.declared.kept.KeptBounds.TheVariants.{Merged, Refused}
 use Rattle.sysmem_merge.specs.declared.pair.KeptPair.{KeptPair}
 use Rattle.sysmem_merge.specs.Pairs.{IsPairKept}
 use Rattle.sysmem_merge.specs.Pairs as pairs
+use Rattle.sysmem_merge.proofs.AnyColour.{line_any}
 use Rattle.sysmem_merge.proofs.PairKeeping.{refused_offer}
+use Rattle.sysmem_merge.specs.Aggregate.{AreKeptBounds}
 use Rattle.sysmem_merge.specs.Best.{IsEarlierOffer}
 use Rattle.sysmem_merge.specs.Demands.{OfferDemand}
 use Rattle.sysmem_merge.specs.FirstFit.{IsFirstFit}
 use Rattle.sysmem_merge.specs.Fit.{IsBestFit}
 use Rattle.sysmem_merge.specs.Offers.{is_named, is_format_named, is_modifier_named, is_colour_named}
-use Rattle.sysmem_merge.specs.Reasons.{IsOfferRefused, AreOffersRefused}
+use Rattle.sysmem_merge.specs.Reasons.{IsOfferLine, IsOfferRefused, AreOffersRefused}
 use Rattle.sysmem_merge.proofs.FirstFits.{place_of, contained_at, unnamed_line}
 
 -- two lists of refused offers
@@ -176,3 +180,21 @@ unnamed_pair whole pair colours ds kept is missing keeps o has =
       unnamed_line offer ds
           (two_false (is_format_named offer ds) (is_modifier_named offer ds) (is_colour_named offer ds) (rw one.format at (rw one.modifier at missing))),
     ))
+
+-- a line in a colour space that everybody takes refuses the offer in each that they take
+alike_refused : (pair : Pair) (ds : List OfferDemand) (c c' : ColourSpace) (taken taken' : Bool) (bounds : KeptBounds) (f : Field) → taken ≡ true
+    → AreKeptBounds (Image pair c) ds (pairs.bounds_where taken bounds) → AreKeptBounds (Image pair c') ds (pairs.bounds_where taken' bounds)
+    → IsOfferLine f (Image pair c) ds → (field : Field) × IsOfferLine field (Image pair c') ds
+alike_refused pair ds c c' false taken' bounds f is one other line = cc is
+alike_refused pair ds c c' true false bounds f is one other line = (ColorSpaces, other.1)
+alike_refused pair ds c c' true true (Merged b) f is one other line = (f, line_any pair c c' f ds one.1 line)
+alike_refused pair ds c c' true true (Refused g) f is one other line = (g, other.1)
+
+-- so it refuses each of the pair's offers
+pub line_refuses : (whole : Bool) (pair : Pair) (colours : List ColourSpace) (ds : List OfferDemand) (kept : KeptPair) (c : ColourSpace) (f : Field)
+    → pairs.has kept.taken c ≡ true → IsPairKept pair ds kept → IsOfferLine f (Image pair c) ds → AreOffersRefused whole (map (Image pair) colours) ds
+line_refuses whole pair colours ds kept c f is keeps line o has =
+    let at = place_of (map (Image pair) colours) o has in
+    let other = slice_get_some colours at.0 (omega (arith, at.1, length-map colours (Image pair))) in
+    subst (λ p. IsOfferRefused whole p ds) (offer_in pair colours at.0 other.0 o other.1 at.2)
+    (inl (alike_refused pair ds c other.0 (pairs.has kept.taken c) (pairs.has kept.taken other.0) kept.bounds f is (keeps.each c).bounds (keeps.each other.0).bounds line))

@@ -1,7 +1,7 @@
 -- What is kept of the participants that were added.
 use Rattle.std.specs.Prelude.{ℕ, List}
 use Rattle.sysmem_counts.specs.Tally.{Tally}
-use Rattle.sysmem_memory.specs.declared.domain.CoherencyDomains.{CoherencyDomains}
+use Rattle.sysmem_memory.specs.declared.bounds.MemoryBounds.{MemoryBounds}
 use Rattle.sysmem_merge.specs.declared.kept.KeptOffer.{KeptOffer}
 use Rattle.negotiation_inputs.specs.Platform.{PlatformFacts}
 
@@ -10,7 +10,7 @@ use Rattle.negotiation_inputs.specs.Platform.{PlatformFacts}
 pub record Kept : Type 0 where
   pub platform : PlatformFacts
   pub counts : Tally
-  pub places : List CoherencyDomains
+  pub places : MemoryBounds
   pub offers : List KeptOffer
   pub least_size : ℕ
   pub greatest_size : ℕ

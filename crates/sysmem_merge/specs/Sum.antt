@@ -5,7 +5,7 @@ use Rattle.std.specs.Prelude.{IsPermutation}
 use Rattle.sysmem_counts.specs.Bounds as counts
 use Rattle.sysmem_counts.specs.Counts.{IsCounted}
 use Rattle.sysmem_counts.specs.Tally.{Tally}
-use Rattle.sysmem_memory.specs.declared.domain.CoherencyDomains.{CoherencyDomains}
+use Rattle.sysmem_memory.specs.declared.bounds.MemoryBounds.{MemoryBounds}
 use Rattle.sysmem_formats.specs.declared.offer.Offer.TheVariants.{NoImage}
 use Rattle.sysmem_memory.specs.declared.place.Place.{Place}
 use Rattle.sysmem_memory.specs.Heap.{HeapFacts}
@@ -25,7 +25,7 @@ use Rattle.negotiation_inputs.specs.Platform.{PlatformFacts}
 -- sizes; the first place that is left; how many participants they are
 pub record SumFacts : Type 0 where
   pub counts : Tally
-  pub places : List CoherencyDomains
+  pub places : MemoryBounds
   pub place : Option Place
   pub no_image : KeptOffer
   pub pairs : List KeptPair

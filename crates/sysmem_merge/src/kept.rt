@@ -1,6 +1,6 @@
 //! What is kept of an offer for the participants that were added.
 
-ghost use Rattle.std.specs.Prelude.{◌≡◌, ◌||◌, [], ◌++◌, ◌∷◌, List, Some};
+ghost use Rattle.std.specs.Prelude.{◌≡◌, ◌||◌, [], ◌++◌, ◌∷◌, List, Some, IsTrue};
 ghost use Rattle.sysmem_counts.specs.declared.field.Field.{Field};
 ghost use Rattle.sysmem_formats.specs.declared.offer.Offer.{Offer};
 ghost use Rattle.sysmem_image.specs.declared.bounds.ImageBounds.{ImageBounds};
@@ -11,6 +11,7 @@ ghost use Rattle.sysmem_merge.specs.Demands.{OfferDemand};
 ghost use Rattle.sysmem_merge.specs.Pairs.{IsMergedWith};
 ghost use Rattle.sysmem_merge.specs.Offers.{names_format, names_modifier, names_colour, is_named};
 
+use crate::tighter::is_tighter;
 use sysmem_counts::Field;
 use sysmem_formats::Offer;
 use sysmem_image::{Entry, FirstMatches, ImageBounds, merge_bounds, merge_into, takes_colour};
@@ -166,7 +167,26 @@ impl KeptBounds {
             return self.become_refused(*field);
         }
         *self = *above;
+        if above.covers(more) {
+            return;
+        }
         self.join(more);
+    }
+
+    /// `true` only where those for more participants add nothing, as those for participants of one
+    /// kind.
+    fn covers(&self, more: &KeptBounds) -> bool
+        ensures { (o : Offer) (ds es : List OfferDemand) → IsTrue result
+            → AreKeptBounds o ds self.now → AreKeptBounds o es more.now
+            → AreKeptBounds o (ds ++ es) self.now }
+    {
+        let KeptBounds::Merged(bounds) = self else {
+            return false;
+        };
+        let KeptBounds::Merged(more) = more else {
+            return false;
+        };
+        is_tighter(bounds, more)
     }
 
     /// Becomes the bounds above, whatever it was. Of a refusal only the field is written.

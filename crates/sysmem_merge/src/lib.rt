@@ -27,6 +27,7 @@ mod settings;
 mod share;
 mod sound;
 mod sum;
+mod tighter;
 mod walk;
 
 pub use aggregate::Aggregate;

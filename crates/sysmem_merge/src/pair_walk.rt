@@ -1,6 +1,7 @@
 //! The first offer of a platform that participants can share, by what is kept of its pairs.
 
-ghost use Rattle.std.specs.Prelude.{◌≡◌, true, List, map, Some, slice_get, IfSome, IfNone};
+ghost use Rattle.std.specs.Prelude.{◌≡◌, Bool, true, false, List, map, Some, slice_get, IfSome, IfNone};
+ghost use Rattle.sysmem_formats.specs.declared.colour_space.ColourSpace.{ColourSpace as Colour};
 ghost use Rattle.sysmem_formats.specs.declared.offer.Offer.TheVariants.{NoImage, Image};
 ghost use Rattle.sysmem_formats.specs.declared.offer.Pair.{Pair as APair};
 ghost use Rattle.sysmem_merge.specs.Aggregate.{AreSizes, IsKept};
@@ -8,7 +9,7 @@ ghost use Rattle.sysmem_merge.specs.Demands.{OfferDemand};
 ghost use Rattle.sysmem_merge.specs.FirstFit.{IsFirstFit};
 ghost use Rattle.sysmem_merge.specs.Fit.{IsBestFit};
 ghost use Rattle.sysmem_merge.specs.Offers.{is_named};
-ghost use Rattle.sysmem_merge.specs.Pairs.{ArePairsKept, IsPairKept};
+ghost use Rattle.sysmem_merge.specs.Pairs.{ArePairsKept, IsPairKept, has};
 ghost use Rattle.sysmem_merge.specs.Reasons.{IsOfferRefused, AreOffersRefused};
 ghost use Rattle.negotiation_inputs.specs.Platform.{offers_of};
 
@@ -101,38 +102,51 @@ fn fit_of_pair(
         return None;
     }
     for colour in colours {
-        if let Some(fit) = fit_in_colour(kept, pair, *colour, least_size, greatest_size, whole) {
-            return Some(fit);
+        if is_shared(kept, *colour, whole) {
+            return fit_in_colour(kept, pair, *colour, least_size, greatest_size);
         }
     }
     None
 }
 
-/// The least size and bounds of the pair's offer in a colour space that suit the participants, if
-/// it is named where that is asked for.
+/// Whether everybody takes the pair's offer in a colour space and, if that is asked for, each part
+/// of its name is named.
+fn is_shared(kept: &KeptPair, colour: ColourSpace, whole: bool) -> bool
+    ensures taken { result ≡ true → has kept.now.taken colour ≡ true }
+    ensures named { (pair : APair) (ds : List OfferDemand) → IsPairKept pair ds kept.now
+        → result ≡ true → whole ≡ true → is_named (Image pair colour) ds ≡ true }
+    ensures none { (pair : APair) (ds : List OfferDemand) → IsPairKept pair ds kept.now
+        → result ≡ false → IsOfferRefused whole (Image pair colour) ds }
+{
+    if !kept.taken.has(colour) {
+        return false;
+    }
+    if whole && !kept.is_named(colour) {
+        return false;
+    }
+    true
+}
+
+/// The least size and bounds of the pair's offer in a colour space that everybody takes. Where
+/// there are none, none of its offers suits the participants.
 fn fit_in_colour(
     kept: &KeptPair,
     pair: Pair,
     colour: ColourSpace,
     least_size: u64,
     greatest_size: u64,
-    whole: bool,
 ) -> Option<Fit>
+    requires { has kept.now.taken colour ≡ true }
     ensures best { (ds : List OfferDemand) → IsPairKept pair ds kept.now
         → AreSizes ds least_size greatest_size
         → IfSome result (IsBestFit (Image pair colour) ds) }
-    ensures named { (ds : List OfferDemand) → IsPairKept pair ds kept.now
-        → IfSome result (λ _. whole ≡ true → is_named (Image pair colour) ds ≡ true) }
-    ensures none { (ds : List OfferDemand) → IsPairKept pair ds kept.now
-        → AreSizes ds least_size greatest_size
-        → IfNone result (IsOfferRefused whole (Image pair colour) ds) }
+    ensures none { (whole : Bool) (cs : List Colour) (ds : List OfferDemand)
+        → IsPairKept pair ds kept.now → AreSizes ds least_size greatest_size
+        → IfNone result (AreOffersRefused whole (map (Image pair) cs) ds) }
 {
-    if !kept.taken.has(colour) {
-        return None;
-    }
-    if whole && !kept.is_named(colour) {
-        return None;
-    }
     let offer = Offer::Image(pair, colour);
-    best_fit(&kept.bounds, &offer, least_size, greatest_size).ok()
+    match best_fit(&kept.bounds, &offer, least_size, greatest_size) {
+        Ok(fit) => Some(fit),
+        Err(_) => None,
+    }
 }

@@ -1,14 +1,9 @@
-use Rattle.std.proofs.Common.{inl, inr, sym, ◌∙◌}
-use Rattle.sysmem_formats.specs.declared.offer.Offer.TheVariants.{Image}
-use Rattle.sysmem_merge.specs.Pairs.{has}
-use Rattle.sysmem_merge.proofs.FirstFits.{unnamed_line}
-use Rattle.sysmem_merge.proofs.PairKeeping.{untaken_offer}
+use Rattle.sysmem_merge.proofs.PairFits.{line_refuses}
 use Rattle.sysmem_merge.proofs.pair_walk.fit_in_colour.Goals as goal
 
-pub returns-then-not-has-clause-none : goal.returns-then-not-has-clause-none
-returns-then-not-has-clause-none c ds kept sizes =
-    inl (untaken_offer (Image c.args.pair c.args.colour) ds c.args.kept.now.bounds (has c.args.kept.now.taken c.args.colour) (sym c.has.ensures ∙ c.if-not-has.true) (kept.each c.args.colour).bounds)
+pub returns-in-Ok-clause-best : goal.returns-in-Ok-clause-best
+returns-in-Ok-clause-best c ds kept sizes = c.in-Ok.ensures.best ds (rw c.requires at (kept.each c.args.colour).bounds) sizes
 
-pub returns-then-not-is_named-clause-none : goal.returns-then-not-is_named-clause-none
-returns-then-not-is_named-clause-none c ds kept sizes =
-    inr (c.if-whole.true, unnamed_line (Image c.args.pair c.args.colour) ds (sym (c.is_named.ensures c.args.pair ds kept) ∙ c.if-not-is_named.true))
+pub returns-in-Err-clause-none : goal.returns-in-Err-clause-none
+returns-in-Err-clause-none c whole cs ds kept sizes =
+    line_refuses whole c.args.pair cs ds c.args.kept.now c.args.colour c.in-Err.field-0 c.requires kept (c.in-Err.ensures.line ds (rw c.requires at (kept.each c.args.colour).bounds) sizes)

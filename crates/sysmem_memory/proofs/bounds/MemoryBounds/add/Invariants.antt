@@ -1,12 +1,6 @@
-use Rattle.std.proofs.Common.{◌≡◌, ℕ, ◌<◌, ◌≤◌, slice_get, Some, length}
-use Rattle.sysmem_memory.specs.declared.domain.CoherencyDomains.{CoherencyDomains}
-use Rattle.sysmem_memory.proofs.Left.{LostAt}
+use Rattle.sysmem_memory.proofs.Left.{IsLeftOf, still_left_of}
 use Rattle.sysmem_memory.proofs.bounds.MemoryBounds.add.Given as goal
 
--- each heap so far has lost what the participant refuses, and the others are as they were
+-- each heap so far has left what it had and the participant doesn't refuse
 abbrev pub invariant-loop-index : goal.invariant-loop-index
-invariant-loop-index l = record {
-  room : length l.self-inside.left ≡ 64;
-  done : (k : ℕ) → k < l.index → LostAt l.memory l.usage l.heaps l.initial.self-inside.left l.self-inside.left k;
-  rest : (k : ℕ) (s : CoherencyDomains) → l.index ≤ k → slice_get l.self-inside.left k ≡ Some s → slice_get l.initial.self-inside.left k ≡ Some s;
-}
+invariant-loop-index l = IsLeftOf (still_left_of l.memory l.usage l.self) l.heaps l.index l.left

@@ -1,13 +1,24 @@
-use Rattle.std.proofs.Common.{sym, subst, arith}
-use Rattle.std.proofs.lemmas.Option.{slice_get-get_or}
-use Rattle.sysmem_memory.specs.Place.{AreDomainsLeft}
-use Rattle.sysmem_memory.proofs.Left.{first_place_left, no_place_left}
+use Rattle.std.proofs.Common.{arith, sym, ◌∙◌}
+use Rattle.sysmem_memory.proofs.Left.{union_is, if_none, none_outside, some_inside, no_place_left, first_place_left}
 use Rattle.sysmem_memory.proofs.bounds.MemoryBounds.first_place.Goals as goal
 
-pub returns-in-Some-clause-first : goal.returns-in-Some-clause-first
-returns-in-Some-clause-first c ps stands =
-    first_place_left c.self.inside.left c.args.heaps.now ps c.loop-heap.heap _ c.in-Some.coherency (omega arith) c.loop-heap-test.true (slice_get-get_or c.self.inside.left c.loop-heap.heap _ (omega arith)) c.in-Some.ensures.first (λ k t below at_left. c.loop-heap.invariant k t below at_left) (subst (λ left. AreDomainsLeft left c.args.heaps.now ps) (sym c.self.view_is) stands)
+pub returns-in_err-heap-clause-none : goal.returns-in_err-heap-clause-none
+returns-in_err-heap-clause-none c ps stands =
+    let union = union_is c.args.self.now c.either.result c.either-2.result c.either.ensures c.either-2.ensures in
+    if_none c.from_residual.result _ (no_place_left c.args.self.now c.args.heaps.now ps (λ k within. none_outside c.args.self.now c.either-2.result union k (c.in_err-heap.ensures.none k)) stands)
 
-pub returns-clause-none : goal.returns-clause-none
-returns-clause-none c ps stands =
-    no_place_left c.self.inside.left c.args.heaps.now ps (omega (arith, c.self.invariant)) (λ k t within at_left. c.loop-heap.invariant k t (omega (arith, within)) at_left) (subst (λ left. AreDomainsLeft left c.args.heaps.now ps) (sym c.self.view_is) stands)
+pub returns-then-heap-heaps-clause-none : goal.returns-then-heap-heaps-clause-none
+returns-then-heap-heaps-clause-none c ps stands =
+    let union = union_is c.args.self.now c.either.result c.either-2.result c.either.ensures c.either-2.ensures in
+    no_place_left c.args.self.now c.args.heaps.now ps (λ k within. none_outside c.args.self.now c.either-2.result union k (c.in_ok-heap.ensures.lowest.before k (omega (arith, within, c.if-heap-heaps.true)))) stands
+
+pub returns-in_err-coherency-clause-none : goal.returns-in_err-coherency-clause-none
+returns-in_err-coherency-clause-none c ps stands =
+    let union = union_is c.args.self.now c.either.result c.either-2.result c.either.ensures c.either-2.ensures in
+    absurd (some_inside c.args.self.now c.either-2.result union c.in_ok-heap.heap c.in_ok-heap.ensures.lowest.has (λ d. sym (c.at.ensures d) ∙ c.in_err-coherency.ensures.none d))
+
+pub returns-clause-first : goal.returns-clause-first
+returns-clause-first c ps stands =
+    let union = union_is c.args.self.now c.either.result c.either-2.result c.either.ensures c.either-2.ensures in
+    first_place_left c.args.self.now c.args.heaps.now ps c.in_ok-heap.heap c.at.result c.in_ok-coherency.coherency (omega (arith, c.if-heap-heaps.false)) c.at.ensures c.in_ok-coherency.ensures.first
+    (λ k below. none_outside c.args.self.now c.either-2.result union k (c.in_ok-heap.ensures.lowest.before k below)) stands
