@@ -1,7 +1,7 @@
 //! The texts of lines that come again.
 
-ghost use Rattle.std.specs.Prelude.{◌≡◌, IsTrue};
-ghost use Rattle.certificate_pieces.specs.KeptText.{kept_text};
+ghost use Rattle.std.specs.Prelude.{◌≡◌, ℕ, IsTrue, None, Some};
+ghost use Rattle.certificate_pieces.specs.KeptText.{GoesOn, IsKnown, kept_text};
 ghost use Rattle.certificate_text.specs.Told.{line_data};
 ghost use Rattle.serde_json.specs.Written.{compact_text};
 
@@ -9,12 +9,25 @@ use crate::kept_line::KeptLine;
 use std::alloc::{AllocError, Global};
 use verdict_claims::Line;
 
+/// What is known of a line of a list before it is told.
+#[derive(Clone, Copy)]
+pub(crate) struct NextLine {
+    /// Its place in the list.
+    pub(crate) place: usize,
+    /// The place of an earlier line that has its paths.
+    pub(crate) earlier: Option<usize>,
+    /// The next line is this one once more.
+    pub(crate) comes_again: bool,
+}
+
 /// The text of the last line with few paths that comes again, and of the last with many: a line
 /// that names one participant stands between lines that name all.
 #[derive(Drop)]
 pub(crate) struct LineCache {
     few: KeptLine,
     many: KeptLine,
+    /// Where the last line with many stands in the list that is told.
+    place: Option<usize>,
 }
 
 impl LineCache {
@@ -23,21 +36,38 @@ impl LineCache {
         Ok(LineCache {
             few: KeptLine::new(alloc)?,
             many: KeptLine::new(alloc)?,
+            place: None,
         })
+    }
+
+    /// Begins another list: none of its lines is kept.
+    pub(crate) fn begin(&mut self)
+        ensures { self.new.place ≡ None }
+    {
+        self.place = None;
     }
 
     /// Whether the line's text is kept now. It isn't if it is too long; nor if the line has few
     /// paths and isn't known to come again: to tell such a line takes no longer than to compare it.
-    pub(crate) fn keeps(&mut self, line: &Line, comes_again: bool) -> bool
-        ensures { IsTrue result → kept_text self.new line.now ≡ compact_text (line_data line.now) }
+    pub(crate) fn keeps(&mut self, line: &Line, known: NextLine) -> bool
+        requires { IsKnown self.old line.now known }
+        ensures text { IsTrue result
+            → kept_text self.new line.now ≡ compact_text (line_data line.now) }
+        ensures paths { GoesOn self.old self.new line.now known.place }
     {
         if line.nodes().is_small() {
-            if !comes_again {
+            if !known.comes_again {
                 return false;
             }
-            return self.few.keeps(line);
+            return self.few.keeps(line, false);
         }
-        self.many.keeps(line)
+        let has_paths = is_at(known.earlier, self.place);
+        if !self.many.keeps(line, has_paths) {
+            self.place = None;
+            return false;
+        }
+        self.place = Some(known.place);
+        true
     }
 
     /// The text that is kept of a line with so many paths.
@@ -48,5 +78,15 @@ impl LineCache {
             return self.few.text();
         }
         self.many.text()
+    }
+}
+
+/// Whether the place of an earlier line, if there is one, is this.
+fn is_at(earlier: Option<usize>, place: Option<usize>) -> bool
+    ensures { IsTrue result → (at : ℕ) × (earlier ≡ Some at) × (place ≡ Some at) }
+{
+    match earlier {
+        Some(at) => place == Some(at),
+        None => false,
     }
 }

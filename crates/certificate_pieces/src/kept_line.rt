@@ -42,15 +42,18 @@ impl KeptLine {
         })
     }
 
-    /// Whether the line's text is kept now. It isn't if it is too long.
-    pub(crate) fn keeps(&mut self, line: &Line) -> bool
-        ensures { IsTrue result → self.new.text ≡ compact_text (line_data line.now) }
+    /// Whether the line's text is kept now. It isn't if it is too long. Where the text of its paths is
+    /// known to be kept, these aren't compared.
+    pub(crate) fn keeps(&mut self, line: &Line, has_paths: bool) -> bool
+        requires { IsTrue has_paths → self.old.paths ≡ compact_text (paths_data line.now.nodes) }
+        ensures text { IsTrue result → self.new.text ≡ compact_text (line_data line.now) }
+        ensures paths { IsTrue result → self.new.paths ≡ compact_text (paths_data line.now.nodes) }
     {
-        if self.has(line) {
-            return true;
-        }
-        if !self.keeps_paths(line) {
+        if !has_paths && !self.keeps_paths(line) {
             return false;
+        }
+        if self.has_field(line) {
+            return true;
         }
         self.line = None;
         self.text.clear();
@@ -62,12 +65,14 @@ impl KeptLine {
         true
     }
 
-    /// Whether the line's text is kept.
-    fn has(&self, line: &Line) -> bool
-        ensures { IsTrue result → self.now.text ≡ compact_text (line_data line.now) }
+    /// Whether the text that is kept is of a line with this field: where the text of the paths is
+    /// this line's, so is that.
+    fn has_field(&self, line: &Line) -> bool
+        ensures { IsTrue result → self.now.paths ≡ compact_text (paths_data line.now.nodes)
+            → self.now.text ≡ compact_text (line_data line.now) }
     {
         match &self.line {
-            Some(kept) => kept.field() == line.field() && kept.nodes().is_same(line.nodes()),
+            Some(kept) => kept.field() == line.field(),
             None => false,
         }
     }

@@ -18,3 +18,4 @@ pub mod PutAsText
 pub mod Plain
 pub mod LineText
 mod LinesPut
+pub mod EachPath

@@ -8,10 +8,10 @@ use Rattle.sysmem_memory.specs.declared.place.Place.{Place}
 use Rattle.sysmem_memory.specs.Heap.{HeapFacts}
 use Rattle.negotiation_inputs.specs.Participant.{Participant}
 use Rattle.sysmem_tree.specs.Node.{NodeFacts}
-use Rattle.conflict_finding.specs.declared.places_asked.Asked.{Asked}
+use Rattle.conflict_finding.specs.declared.places_asked.KeptAnswer.{KeptAnswer}
 use Rattle.conflict_finding.specs.PlacesAsked.{IsAsked, IsPlaceAnswer}
 
-module _ (nodes : List NodeFacts) (heaps : List HeapFacts) (o : Option Participant) (node : ℕ) (place : Place) (heap : HeapFacts) (one : Asked) (number : one.number ≡ node) (at : one.place ≡ place)
+module _ (nodes : List NodeFacts) (heaps : List HeapFacts) (o : Option Participant) (node : ℕ) (place : Place) (heap : HeapFacts) (one : KeptAnswer) (number : one.number ≡ node) (at : one.place ≡ place)
     (here : slice_get heaps place.heap ≡ Some heap) (asks : IfSome (slice_get nodes node) (λ n. o ≡ n.constraints)) where
   -- of the node and the place that are asked for
   same : (i j : ℕ) (p q : Place) → i ≡ j → p ≡ q → IfSome (slice_get nodes i) (λ n. IfSome (slice_get heaps p.heap) (λ h. IsPlaceAnswer n.constraints h p.coherency one.refused))

@@ -1,4 +1,5 @@
 pub mod NamedLines
+pub mod NamingLines
 pub mod Sofar
 pub mod AskedNodes
 pub mod FirstOnes

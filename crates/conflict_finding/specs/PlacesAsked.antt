@@ -8,7 +8,7 @@ use Rattle.sysmem_memory.specs.Heap.{HeapFacts}
 use Rattle.sysmem_memory.specs.PlaceTable.{AllowsPlace, first_refusing, refuses_by}
 use Rattle.negotiation_inputs.specs.Participant.{Participant}
 use Rattle.sysmem_tree.specs.Node.{NodeFacts}
-use Rattle.conflict_finding.specs.declared.places_asked.Asked.{Asked}
+use Rattle.conflict_finding.specs.declared.places_asked.KeptAnswer.{KeptAnswer}
 use Rattle.conflict_finding.specs.declared.places_asked.PlacesAsked.{PlacesAsked}
 
 -- what a participant, if there is one, says of a coherency domain of a heap: the first field
@@ -23,13 +23,13 @@ pub record IsPlaceAnswer (asked : Option Participant) (heap : HeapFacts) (domain
       (λ field. IsSomeAnd asked (λ p. first_refusing p.memory p.usage heap domain ≡ Some field))
 
 -- it is what the participant at its node says of its place
-abbrev pub IsAsked : List NodeFacts → List HeapFacts → Asked → Type 0
+abbrev pub IsAsked : List NodeFacts → List HeapFacts → KeptAnswer → Type 0
 IsAsked nodes heaps one = IfSome (slice_get nodes one.number)
     (λ n. IfSome (slice_get heaps one.place.heap)
     (λ heap. IsPlaceAnswer n.constraints heap one.place.coherency one.refused))
 
 -- whatever stands in the slots is
-abbrev pub AreSlots : List NodeFacts → List HeapFacts → List (Option Asked) → Type 0
+abbrev pub AreSlots : List NodeFacts → List HeapFacts → List (Option KeptAnswer) → Type 0
 AreSlots nodes heaps slots = All (λ slot. IfSome slot (IsAsked nodes heaps)) slots
 
 -- whatever is kept is

@@ -1,12 +1,12 @@
 -- Whom of some participants a line names.
-use Rattle.std.specs.Prelude.{◌≡◌, ◌==◌, ℕ, Bool, true, false, not, List, filter, length, map}
+use Rattle.std.specs.Prelude.{◌≡◌, ◌==◌, ℕ, Bool, true, false, not, List, Some, filter, length, map, slice_get}
 use Rattle.std.specs.Option.{option_map_or}
 use Rattle.sysmem_counts.specs.declared.field.Field.{Field}
 use Rattle.offer_fits.specs.Demands.{OfferDemand, offer_demand}
 use Rattle.negotiation_inputs.specs.Participant.{Participant}
 use Rattle.sysmem_tree.specs.Node.{NodeFacts}
 use Rattle.sysmem_tree.specs.Shape.{Member}
-use Rattle.conflict_finding.specs.declared.whom.Named.{Named}
+use Rattle.conflict_finding.specs.declared.whom.NamingLine.{NamingLine}
 use Rattle.conflict_finding.specs.declared.whom.Whom.{Whom}
 use Rattle.conflict_finding.specs.declared.whom.Whom.TheVariants.{All, WithCount}
 use Rattle.conflict_finding.specs.declared.whom.Whom.TheVariants.{WithEntries, Nobody}
@@ -34,6 +34,9 @@ abbrev pub line_on : List NodeFacts → List ℕ → Field → Whom → LineFact
 line_on nodes ns field whom =
     record { field = field; nodes = map (λ m. m.path) (members_named whom (members_at nodes ns)) }
 
--- the line is one that names them among these nodes
-abbrev pub NamesThose : List NodeFacts → List ℕ → Named → Type 0
-NamesThose nodes ns named = named.line ≡ line_on nodes ns named.line.field named.whom
+-- the line at the place is one that names them among these nodes
+pub record NamesThose (nodes : List NodeFacts) (ns : List ℕ) (lines : List LineFacts)
+    (named : NamingLine) : Type 0 where
+  pub line : LineFacts
+  pub there : slice_get lines named.place ≡ Some line
+  pub is : line ≡ line_on nodes ns line.field named.whom

@@ -85,8 +85,7 @@ fn line_at(alloc: Global, tree: &Tree, node: NodeId, field: Field) -> Result<Lin
         return Line::new(alloc, field, PathList::new(alloc));
     }
     let path = tree.path_of(node)?;
-    let paths = PathList::new(alloc).with(path.ordinals())?;
-    Line::new(alloc, field, paths.fitted()?)
+    Line::new(alloc, field, PathList::alone(alloc, path.ordinals())?)
 }
 
 /// The line of this field that names the participant at a node of the tree. Where a line is kept

@@ -25,6 +25,7 @@ ghost use Rattle.sysmem_tree.specs.Shape.{Member, by_number, forest_of, shape_of
 use crate::count_lines::{counts_at, fixed_line};
 use crate::first_refusing::first_failing;
 use crate::learnt::Learnt;
+use crate::participants::Participants;
 use crate::refusals::{Refusals, refused_offers, refused_places};
 use crate::subject::Subject;
 use crate::whom::{Whom, line_of};
@@ -111,19 +112,23 @@ fn find_initial(
         → whole ≡ is_none (choices d)
         → IfOk result (λ found. IfNone found ((t : Settled) × MeetsSettled platform.now None d t)) }
 {
+    let those = Participants {
+        alloc,
+        platform,
+        tree,
+        nodes,
+        whole,
+    };
     if let Err(field) = counts_at(tree, nodes).least_count() {
-        let alone = &mut learnt.alone;
-        let line = line_of(alloc, tree, nodes, field, Whom::WithCount, &[], alone)?;
+        let line = line_of(&those, field, Whom::WithCount, &[], &mut learnt.alone)?;
         return Ok(Some(Conflict::Count(line)));
     }
     learnt.asked.begin(platform)?;
-    let (asked, alone) = (&mut learnt.asked, &mut learnt.alone);
-    let places = refused_places(alloc, platform, tree, nodes, None, asked, alone)?;
+    let places = refused_places(&those, None, learnt)?;
     if let Refusals::Whole(lines) = places {
         return Ok(Some(Conflict::Places(lines)));
     }
-    let (asked, alone) = (&mut learnt.offers, &mut learnt.alone);
-    match refused_offers(alloc, platform, tree, nodes, whole, None, asked, alone)? {
+    match refused_offers(&those, None, learnt)? {
         Refusals::Whole(lines) => Ok(Some(Conflict::Offers(lines))),
         Refusals::UpTo(_) => Ok(None),
     }
@@ -169,8 +174,14 @@ fn find_on_base(
     let settings = base.settings();
     let everyone = joined(alloc, base.accepted(), nodes)?;
     if let Some(field) = fixed_line(&counts_at(tree, &everyone), settings.count) {
-        let alone = &mut learnt.alone;
-        let line = line_of(alloc, tree, &everyone, field, Whom::WithCount, &[], alone)?;
+        let those = Participants {
+            alloc,
+            platform,
+            tree,
+            nodes: &everyone,
+            whole: false,
+        };
+        let line = line_of(&those, field, Whom::WithCount, &[], &mut learnt.alone)?;
         return Ok(Some(Conflict::Count(line)));
     }
     match first_failing(platform, &settings, tree, nodes) {
@@ -290,20 +301,16 @@ pub fn lines_before(
     let layout = tree.layout(domain);
     let nodes = settled_at(tree, domain, &layout, selection)?;
     let (offer, place) = (settings.offer, settings.place);
-    let mut learnt = Learnt::new(alloc);
-    let (asked, alone) = (&mut learnt.offers, &mut learnt.alone);
-    let offers = refused_offers(
+    let those = Participants {
         alloc,
         platform,
         tree,
-        &nodes,
-        true,
-        Some(offer),
-        asked,
-        alone,
-    )?;
-    let (asked, alone) = (&mut learnt.asked, &mut learnt.alone);
-    let places = refused_places(alloc, platform, tree, &nodes, Some(place), asked, alone)?;
+        nodes: &nodes,
+        whole: true,
+    };
+    let mut learnt = Learnt::new(alloc);
+    let offers = refused_offers(&those, Some(offer), &mut learnt)?;
+    let places = refused_places(&those, Some(place), &mut learnt)?;
     Ok(LinesBefore {
         offers: offers.into_lines(),
         places: places.into_lines(),

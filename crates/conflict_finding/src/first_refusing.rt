@@ -19,6 +19,7 @@ ghost use Rattle.sysmem_tree.specs.Nodes.{HasNode};
 ghost use Rattle.sysmem_tree.specs.Path.{path_of};
 
 use crate::offers_asked::OffersAsked;
+use crate::participants::Participants;
 use crate::places_asked::PlacesAsked;
 use negotiation_inputs::{Constraints, Platform};
 use std::alloc::AllocError;
@@ -166,35 +167,33 @@ pub(crate) fn read_offer(
     Ok(Reading::Read(read_all(tree, nodes, offer)))
 }
 
-/// The first of the participants at these nodes to whom the place is refused,
-/// with the first field that does it.
+/// The first of these participants to whom the place is refused, with the first field that does it.
 pub(crate) fn first_refused(
-    platform: &Platform,
-    tree: &Tree,
-    nodes: &[NodeId],
+    those: &Participants<'_>,
     place: Place,
     heap: &HeapInfo,
     asked: &mut PlacesAsked,
 ) -> Option<Refuser>
-    requires there { All (HasNode tree.now.nodes) nodes.now }
-    requires heap { slice_get platform.now.heaps place.heap ≡ Some heap.now }
-    requires asked { AreAsked tree.now.nodes platform.now.heaps asked.old }
-    ensures asked { AreAsked tree.now.nodes platform.now.heaps asked.new }
-    ensures there { IfSome result (λ first. Contains nodes.now first.node) }
+    requires heap { slice_get those.now.platform.now.heaps place.heap ≡ Some heap.now }
+    requires asked { AreAsked those.now.tree.now.nodes those.now.platform.now.heaps asked.old }
+    ensures asked { AreAsked those.now.tree.now.nodes those.now.platform.now.heaps asked.new }
+    ensures there { IfSome result (λ first. Contains those.now.nodes.now first.node) }
     ensures refused { IfSome result (λ first.
         Any (λ p. refuses_by first.field p.memory p.usage heap.now place.coherency ≡ true)
-        (participants (members_at tree.now.nodes (first.node ∷ [])))) }
+        (participants (members_at those.now.tree.now.nodes (first.node ∷ [])))) }
     ensures allowed { IfNone result
         (All (λ p. AllowsPlace p.memory p.usage heap.now place.coherency)
-        (participants (members_at tree.now.nodes nodes.now))) }
+        (participants (members_at those.now.tree.now.nodes those.now.nodes.now))) }
     ensures first { IfSome result (λ first. IsFirstWithout
         (λ p. AllowsPlace p.memory p.usage heap.now place.coherency)
         (λ p. first_refusing p.memory p.usage heap.now place.coherency ≡ Some first.field)
-        (members_at tree.now.nodes nodes.now) (path_of tree.now.nodes first.node)) }
+        (members_at those.now.tree.now.nodes those.now.nodes.now)
+        (path_of those.now.tree.now.nodes first.node)) }
 {
+    let (tree, nodes) = (those.tree, those.nodes);
     for node in nodes {
         let constraints = tree.constraints_of(*node);
-        if let Some(field) = asked.answer(platform, tree, *node, constraints, place, heap) {
+        if let Some(field) = asked.answer(those, *node, constraints, place, heap) {
             let node = *node;
             return Some(Refuser { field, node });
         }

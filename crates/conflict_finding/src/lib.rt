@@ -13,6 +13,7 @@ mod first_refusing;
 mod learnt;
 mod offer_asked;
 mod offers_asked;
+mod participants;
 mod places_asked;
 mod refusals;
 mod settled_row;

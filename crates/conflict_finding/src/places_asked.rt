@@ -8,11 +8,12 @@ ghost use Rattle.conflict_finding.specs.PlacesAsked.{AreAsked, AreSlots, IsAsked
 ghost use Rattle.sysmem_tree.specs.Node.{NodeFacts};
 ghost use Rattle.sysmem_tree.specs.Nodes.{HasNode};
 
+use crate::participants::Participants;
 use negotiation_inputs::{Constraints, Platform};
 use std::alloc::{AllocError, Global};
 use sysmem_counts::Field;
 use sysmem_memory::{CoherencyDomain, HeapInfo, MOST_HEAPS, Place, refuses};
-use sysmem_tree::{NodeId, Tree};
+use sysmem_tree::NodeId;
 
 /// For how many participants there are slots.
 const MANY: usize = 64;
@@ -20,7 +21,7 @@ const MANY: usize = 64;
 /// What the participant at the node of this number said of a place: the first
 /// field that refuses it, if one does.
 #[derive(Clone, Copy)]
-pub(crate) struct Asked {
+pub(crate) struct KeptAnswer {
     number: u32,
     place: Place,
     refused: Option<Field>,
@@ -32,7 +33,7 @@ pub(crate) struct Asked {
 pub(crate) struct PlacesAsked {
     /// Whether a conflict was looked for before.
     is_used: bool,
-    slots: Vec<Option<Asked>>,
+    slots: Vec<Option<KeptAnswer>>,
 }
 
 impl PlacesAsked {
@@ -64,31 +65,30 @@ impl PlacesAsked {
     /// constraints are, if there is one.
     pub(crate) fn answer(
         &mut self,
-        platform: &Platform,
-        tree: &Tree,
+        those: &Participants<'_>,
         node: NodeId,
         constraints: Option<&Constraints>,
         place: Place,
         heap: &HeapInfo,
     ) -> Option<Field>
-        requires there { HasNode tree.now.nodes node }
-        requires constraints { IfSome (slice_get tree.now.nodes node)
+        requires there { HasNode those.now.tree.now.nodes node }
+        requires constraints { IfSome (slice_get those.now.tree.now.nodes node)
             (λ n. option_map (λ one. one.now) constraints ≡ n.constraints) }
-        requires heap { slice_get platform.now.heaps place.heap ≡ Some heap.now }
-        requires asked { AreAsked tree.now.nodes platform.now.heaps self.old }
-        ensures asked { AreAsked tree.now.nodes platform.now.heaps self.new }
+        requires heap { slice_get those.now.platform.now.heaps place.heap ≡ Some heap.now }
+        requires asked { AreAsked those.now.tree.now.nodes those.now.platform.now.heaps self.old }
+        ensures asked { AreAsked those.now.tree.now.nodes those.now.platform.now.heaps self.new }
         ensures answer { IsPlaceAnswer (option_map (λ one. one.now) constraints.entry) heap.now
             place.coherency result }
     {
-        let number = tree.number_of(node);
-        let slot = slot_of(platform, number, place);
+        let number = those.tree.number_of(node);
+        let slot = slot_of(those.platform, number, place);
         if let Some(asked) = self.kept(slot, number, place) {
             return asked.refused;
         }
         let refused = refused_place(constraints, heap, place.coherency);
         self.keep(
             slot,
-            Asked {
+            KeptAnswer {
                 number,
                 place,
                 refused,
@@ -98,7 +98,7 @@ impl PlacesAsked {
     }
 
     /// What is kept in this slot, if it is of this participant and place.
-    fn kept(&self, slot: usize, number: u32, place: Place) -> Option<Asked>
+    fn kept(&self, slot: usize, number: u32, place: Place) -> Option<KeptAnswer>
         ensures number { IfSome result (λ asked. asked.number ≡ number) }
         ensures place { IfSome result (λ asked. asked.place ≡ place) }
         ensures asked { (nodes : List NodeFacts) (heaps : List HeapFacts)
@@ -112,7 +112,7 @@ impl PlacesAsked {
     }
 
     /// Keeps this in the slot, if it is there.
-    fn keep(&mut self, slot: usize, asked: Asked)
+    fn keep(&mut self, slot: usize, asked: KeptAnswer)
         ensures { (nodes : List NodeFacts) (heaps : List HeapFacts) → IsAsked nodes heaps asked
             → AreAsked nodes heaps self.old → AreAsked nodes heaps self.new }
     {
@@ -165,7 +165,7 @@ fn slot_of(platform: &Platform, number: u32, place: Place) -> usize {
 }
 
 /// Slots in which nothing is.
-fn empty_slots(alloc: Global, many: usize) -> Result<Vec<Option<Asked>>, AllocError>
+fn empty_slots(alloc: Global, many: usize) -> Result<Vec<Option<KeptAnswer>>, AllocError>
     ensures { (nodes : List NodeFacts) (heaps : List HeapFacts)
         → IfOk result (λ slots. AreSlots nodes heaps slots.items) }
 {

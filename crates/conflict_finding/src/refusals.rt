@@ -1,6 +1,6 @@
 //! Lines that refuse the offers of a platform, or its places, one after another.
 
-ghost use Rattle.std.specs.Prelude.{◌≡◌, ◌<◌, ◌⊎◌, ◌+◌, true, false, List, ◌∷◌, All, Some, IfOk, IfSome, IfNone, IsTrue, filter, length, slice_get};
+ghost use Rattle.std.specs.Prelude.{◌≡◌, [], ◌<◌, ◌⊎◌, ◌+◌, true, false, List, ◌∷◌, All, Some, IfOk, IfSome, IfNone, IsTrue, filter, length, slice_get};
 ghost use Rattle.sysmem_counts.specs.declared.field.Field.TheVariants.{ColorSpaces, PixelFormat};
 ghost use Rattle.sysmem_formats.specs.declared.offer.Offer.{Offer as Offered};
 ghost use Rattle.sysmem_memory.specs.Domain.{has_domain};
@@ -10,11 +10,10 @@ ghost use Rattle.offer_fits.specs.Demands.{offer_demand, offer_demands};
 ghost use Rattle.sysmem_merge.specs.OfferRead.{IsRefusingLine};
 ghost use Rattle.offer_fits.specs.OfferLines.{IsOfferLine};
 ghost use Rattle.sysmem_merge.specs.Reasons.{IsUnnamedLine};
-ghost use Rattle.conflict_finding.specs.AloneLines.{AreAlone};
+ghost use Rattle.conflict_finding.specs.Learnt.{IsLearnt};
 ghost use Rattle.verdict_claims.specs.FirstConflict.{IsOfferLineGiven, IsPlaceLineGiven};
 ghost use Rattle.verdict_claims.specs.Members.{members_at, participants, StandFor};
-ghost use Rattle.conflict_finding.specs.OffersAsked.{AreAskedOf, AreOffersAsked};
-ghost use Rattle.conflict_finding.specs.PlacesAsked.{AreAsked};
+ghost use Rattle.conflict_finding.specs.OffersAsked.{AreAskedOf};
 ghost use Rattle.conflict_finding.specs.Reading.{TakesIn};
 ghost use Rattle.conflict_finding.specs.Refusals.{AreRefusals, AreSoFar, Ends, GoOn, HasLast, HasOneMore, RefusesLast, ShareOffer, SharePlace};
 ghost use Rattle.conflict_finding.specs.Whom.{NamesThose, names};
@@ -23,12 +22,13 @@ ghost use Rattle.negotiation_inputs.specs.Platform.{offers_of};
 ghost use Rattle.sysmem_tree.specs.Nodes.{HasNode};
 ghost use Rattle.sysmem_tree.specs.Shape.{Member};
 
-use crate::alone_lines::{AloneLines, line_alone};
+use crate::alone_lines::line_alone;
 use crate::askers::those_asking;
 use crate::first_refusing::{Reading, first_refused, read_offer};
+use crate::learnt::Learnt;
 use crate::offers_asked::OffersAsked;
-use crate::places_asked::PlacesAsked;
-use crate::whom::{Named, Whom, next_line_of};
+use crate::participants::Participants;
+use crate::whom::{NamingLine, Whom, push_line_of};
 use negotiation_inputs::Platform;
 use std::alloc::{AllocError, Global};
 use sysmem_counts::Field;
@@ -127,136 +127,152 @@ fn is_before_colour(
     }
 }
 
-/// The first line of the table that is true for the offer of the participants at these
-/// nodes, `None` where they share it.
-fn offer_line(
-    alloc: Global,
-    tree: &Tree,
-    nodes: &[NodeId],
+/// Puts the first line of the table that is true for the offer of these participants behind the
+/// lines so far. False where they share the offer.
+fn push_offer_line(
+    those: &Participants<'_>,
     offer: &Offer,
-    whole: bool,
-    before: &[Line],
-    kept: &mut Option<Named>,
-    asked: &mut OffersAsked,
-    alone: &mut AloneLines,
-) -> Result<Option<Line>, AllocError>
-    requires there { All (HasNode tree.now.nodes) nodes.now }
-    requires named { IfSome kept.old (NamesThose tree.now.nodes nodes.now) }
-    requires asked { AreAskedOf tree.now.nodes nodes.now asked.old }
-    requires alone { AreAlone tree.now.nodes alone.old }
-    ensures named { IfSome kept.new (NamesThose tree.now.nodes nodes.now) }
-    ensures asked { AreAskedOf tree.now.nodes nodes.now asked.new }
-    ensures alone { AreAlone tree.now.nodes alone.new }
-    ensures line { (ms : List Member) → StandFor (members_at tree.now.nodes nodes.now) ms
-        → IfOk result (λ line. IfSome line (IsOfferLineGiven whole ms offer.now)) }
-    ensures share { (ms : List Member) → StandFor (members_at tree.now.nodes nodes.now) ms
-        → IfOk result (λ line. IfNone line (ShareOffer whole ms offer.now)) }
-{
-    match read_offer(tree, nodes, before.len(), offer, asked)? {
-        Reading::Refused(field, node) => {
-            let line = line_alone(alloc, tree, node, field, alone)?;
-            Ok(Some(line))
-        }
-        Reading::Read(read) => {
-            let Some(field) = read.first_line(whole) else {
-                return Ok(None);
-            };
-            let whom = whom_for(field);
-            let line = next_line_of(alloc, tree, nodes, field, whom, before, kept, alone)?;
-            Ok(Some(line))
-        }
-    }
-}
-
-/// Puts the line for an offer behind the lines so far, of which the last is that of an earlier offer:
-/// it is put once more where it is the offer's own. False where the participants share the offer.
-fn push_offer(
-    alloc: Global,
-    tree: &Tree,
-    nodes: &[NodeId],
-    earlier: &Offer,
-    offer: &Offer,
-    whole: bool,
     lines: &mut Lines,
-    kept: &mut Option<Named>,
-    asked: &mut OffersAsked,
-    alone: &mut AloneLines,
+    kept: &mut Option<NamingLine>,
+    learnt: &mut Learnt,
 ) -> Result<bool, AllocError>
-    requires there { All (HasNode tree.now.nodes) nodes.now }
-    requires named { IfSome kept.old (NamesThose tree.now.nodes nodes.now) }
-    requires asked { AreAskedOf tree.now.nodes nodes.now asked.old }
-    requires last { (ms : List Member) → StandFor (members_at tree.now.nodes nodes.now) ms
-        → RefusesLast (IsOfferLineGiven whole ms) earlier.now lines.old }
-    requires alone { AreAlone tree.now.nodes alone.old }
-    ensures named { IfSome kept.new (NamesThose tree.now.nodes nodes.now) }
-    ensures asked { AreAskedOf tree.now.nodes nodes.now asked.new }
-    ensures alone { AreAlone tree.now.nodes alone.new }
+    requires named { IfSome kept.old
+        (NamesThose those.now.tree.now.nodes those.now.nodes.now lines.old) }
+    requires asked { AreAskedOf those.now.tree.now.nodes
+        those.now.nodes.now learnt.old.offers }
+    requires learnt { IsLearnt those.now.tree.now.nodes
+        those.now.platform.now.heaps learnt.old }
+    ensures named { IfOk result (λ _. IfSome kept.new
+        (NamesThose those.now.tree.now.nodes those.now.nodes.now lines.new)) }
+    ensures asked { AreAskedOf those.now.tree.now.nodes
+        those.now.nodes.now learnt.new.offers }
+    ensures learnt { IsLearnt those.now.tree.now.nodes
+        those.now.platform.now.heaps learnt.new }
+    ensures more { (ms : List Member)
+        → StandFor (members_at those.now.tree.now.nodes those.now.nodes.now) ms
+        → IfOk result (λ more. IsTrue more
+        → HasOneMore (IsOfferLineGiven those.now.whole ms offer.now) lines.old lines.new) }
     ensures longer { IfOk result (λ more. IsTrue more
         → length lines.new ≡ length lines.old + 1) }
-    ensures more { (ms : List Member) → StandFor (members_at tree.now.nodes nodes.now) ms
-        → IfOk result (λ more. IsTrue more
-        → HasOneMore (IsOfferLineGiven whole ms offer.now) lines.old lines.new) }
-    ensures share { (ms : List Member) → StandFor (members_at tree.now.nodes nodes.now) ms
+    ensures share { (ms : List Member)
+        → StandFor (members_at those.now.tree.now.nodes those.now.nodes.now) ms
         → IfOk result (λ more. more ≡ false
-        → (lines.new ≡ lines.old) × ShareOffer whole ms offer.now) }
+        → (lines.new ≡ lines.old) × ShareOffer those.now.whole ms offer.now) }
 {
+    let (tree, nodes) = (those.tree, those.nodes);
+    let number = lines.as_slice().len();
+    match read_offer(tree, nodes, number, offer, &mut learnt.offers)? {
+        Reading::Refused(field, node) => {
+            lines.push(line_alone(those.alloc, tree, node, field, &mut learnt.alone)?)?;
+        }
+        Reading::Read(read) => {
+            let Some(field) = read.first_line(those.whole) else {
+                return Ok(false);
+            };
+            push_line_of(
+                those,
+                field,
+                whom_for(field),
+                lines,
+                kept,
+                &mut learnt.alone,
+            )?;
+        }
+    }
+    Ok(true)
+}
+
+/// Puts the line for an offer behind the lines so far, of which the last is that of an earlier
+/// offer: it is put once more where it is the offer's own. False where the participants share the
+/// offer.
+fn push_offer(
+    those: &Participants<'_>,
+    earlier: &Offer,
+    offer: &Offer,
+    lines: &mut Lines,
+    kept: &mut Option<NamingLine>,
+    learnt: &mut Learnt,
+) -> Result<bool, AllocError>
+    requires named { IfSome kept.old
+        (NamesThose those.now.tree.now.nodes those.now.nodes.now lines.old) }
+    requires asked { AreAskedOf those.now.tree.now.nodes
+        those.now.nodes.now learnt.old.offers }
+    requires learnt { IsLearnt those.now.tree.now.nodes
+        those.now.platform.now.heaps learnt.old }
+    requires last { (ms : List Member)
+        → StandFor (members_at those.now.tree.now.nodes those.now.nodes.now) ms
+        → RefusesLast (IsOfferLineGiven those.now.whole ms) earlier.now lines.old }
+    ensures named { IfOk result (λ _. IfSome kept.new
+        (NamesThose those.now.tree.now.nodes those.now.nodes.now lines.new)) }
+    ensures asked { AreAskedOf those.now.tree.now.nodes
+        those.now.nodes.now learnt.new.offers }
+    ensures learnt { IsLearnt those.now.tree.now.nodes
+        those.now.platform.now.heaps learnt.new }
+    ensures longer { IfOk result (λ more. IsTrue more
+        → length lines.new ≡ length lines.old + 1) }
+    ensures more { (ms : List Member)
+        → StandFor (members_at those.now.tree.now.nodes those.now.nodes.now) ms
+        → IfOk result (λ more. IsTrue more
+        → HasOneMore (IsOfferLineGiven those.now.whole ms offer.now) lines.old lines.new) }
+    ensures share { (ms : List Member)
+        → StandFor (members_at those.now.tree.now.nodes those.now.nodes.now) ms
+        → IfOk result (λ more. more ≡ false
+        → (lines.new ≡ lines.old) × ShareOffer those.now.whole ms offer.now) }
+{
+    let (tree, nodes) = (those.tree, those.nodes);
+    let asked = &mut learnt.offers;
     let again = is_line_again(tree, nodes, earlier, offer, lines.as_slice(), asked)?;
     if again {
         lines.push_again()?;
         return Ok(true);
     }
-    let Some(line) = offer_line(
-        alloc,
-        tree,
-        nodes,
-        offer,
-        whole,
-        lines.as_slice(),
-        kept,
-        asked,
-        alone,
-    )?
-    else {
-        return Ok(false);
-    };
-    lines.push(line)?;
-    Ok(true)
+    push_offer_line(those, offer, lines, kept, learnt)
 }
 
-/// Lines that refuse each offer of the platform to the participants at these nodes, or each before
-/// the first that they share; where it is given, at most those before `until`. `whole` says that
-/// they are all that a decision has.
-pub(crate) fn refused_offers(
-    alloc: Global,
-    platform: &Platform,
-    tree: &Tree,
-    nodes: &[NodeId],
-    whole: bool,
-    until: Option<Offer>,
-    asked: &mut OffersAsked,
-    alone: &mut AloneLines,
-) -> Result<Refusals, AllocError>
-    requires there { All (HasNode tree.now.nodes) nodes.now }
-    requires asked { AreOffersAsked tree.now.nodes asked.old }
-    requires alone { AreAlone tree.now.nodes alone.old }
-    ensures asked { AreOffersAsked tree.now.nodes asked.new }
-    ensures alone { AreAlone tree.now.nodes alone.new }
-    ensures lines { (ms : List Member) → StandFor (members_at tree.now.nodes nodes.now) ms
-        → IfOk result (AreRefusals (IsOfferLineGiven whole ms)
-        (Ends until (λ (o : Offered). o) (ShareOffer whole ms)) (offers_of platform.now)) }
+/// How many offers the platform has: without an image, and each colour space under each pair.
+fn offers_at_most(platform: &Platform) -> usize {
+    let with_image = platform
+        .pairs()
+        .len()
+        .saturating_mul(platform.colours().len());
+    with_image.saturating_add(1)
+}
+
+/// No lines, with room for so many.
+fn no_lines(alloc: Global, many: usize) -> Result<Vec<Line>, AllocError>
+    ensures { IfOk result (λ lines. lines.items ≡ []) }
 {
-    let asking = those_asking(alloc, tree, nodes)?;
-    asked.settle(tree, nodes, &asking)?;
-    let mut lines = Lines::new(Vec::new(alloc));
+    Vec::with_capacity(alloc, many)
+}
+
+/// Lines that refuse each offer of the platform to these participants, or each before the first
+/// that they share; where it is given, at most those before `until`.
+pub(crate) fn refused_offers(
+    those: &Participants<'_>,
+    until: Option<Offer>,
+    learnt: &mut Learnt,
+) -> Result<Refusals, AllocError>
+    requires learnt { IsLearnt those.now.tree.now.nodes
+        those.now.platform.now.heaps learnt.old }
+    ensures learnt { IsLearnt those.now.tree.now.nodes
+        those.now.platform.now.heaps learnt.new }
+    ensures lines { (ms : List Member)
+        → StandFor (members_at those.now.tree.now.nodes those.now.nodes.now) ms
+        → IfOk result (AreRefusals (IsOfferLineGiven those.now.whole ms)
+        (Ends until (λ (o : Offered). o) (ShareOffer those.now.whole ms))
+        (offers_of those.now.platform.now)) }
+{
+    let (alloc, platform) = (those.alloc, those.platform);
+    let asking = those_asking(alloc, those.tree, those.nodes)?;
+    learnt.offers.settle(those.tree, those.nodes, &asking)?;
+    let mut lines = Lines::new(no_lines(alloc, offers_at_most(platform))?);
     let mut earlier = Offer::NoImage;
     let mut kept = None;
     while let Some(offer) = offer_at(platform.pairs(), platform.colours(), lines.as_slice().len()) {
         if until == Some(offer) {
             return Ok(Refusals::UpTo(lines));
         }
-        if !push_offer(
-            alloc, tree, nodes, &earlier, &offer, whole, &mut lines, &mut kept, asked, alone,
-        )? {
+        if !push_offer(those, &earlier, &offer, &mut lines, &mut kept, learnt)? {
             return Ok(Refusals::UpTo(lines));
         }
         earlier = offer;
@@ -264,63 +280,57 @@ pub(crate) fn refused_offers(
     Ok(Refusals::Whole(lines.fitted()?))
 }
 
-/// The line of the first of the participants at these nodes to whom the place is refused, `None`
-/// where they share it or it is `until`.
+/// The line of the first of these participants to whom the place is refused, `None` where they
+/// share it or it is `until`.
 fn place_line(
-    alloc: Global,
-    platform: &Platform,
-    tree: &Tree,
-    nodes: &[NodeId],
+    those: &Participants<'_>,
     place: Place,
     heap: &HeapInfo,
     until: Option<Place>,
-    asked: &mut PlacesAsked,
-    alone: &mut AloneLines,
+    learnt: &mut Learnt,
 ) -> Result<Option<Line>, AllocError>
-    requires there { All (HasNode tree.now.nodes) nodes.now }
-    requires heap { slice_get platform.now.heaps place.heap ≡ Some heap.now }
-    requires asked { AreAsked tree.now.nodes platform.now.heaps asked.old }
-    requires alone { AreAlone tree.now.nodes alone.old }
-    ensures asked { AreAsked tree.now.nodes platform.now.heaps asked.new }
-    ensures alone { AreAlone tree.now.nodes alone.new }
-    ensures line { (ms : List Member) → StandFor (members_at tree.now.nodes nodes.now) ms
+    requires heap { slice_get those.now.platform.now.heaps place.heap ≡ Some heap.now }
+    requires learnt { IsLearnt those.now.tree.now.nodes
+        those.now.platform.now.heaps learnt.old }
+    ensures learnt { IsLearnt those.now.tree.now.nodes
+        those.now.platform.now.heaps learnt.new }
+    ensures line { (ms : List Member)
+        → StandFor (members_at those.now.tree.now.nodes those.now.nodes.now) ms
         → IfOk result (λ line. IfSome line
         (IsPlaceLineGiven ms (record { place = place; heap = heap.now }))) }
-    ensures end { (ms : List Member) → StandFor (members_at tree.now.nodes nodes.now) ms
+    ensures end { (ms : List Member)
+        → StandFor (members_at those.now.tree.now.nodes those.now.nodes.now) ms
         → IfOk result (λ line. IfNone line (Ends until (λ (p : HeapPlace). p.place) (SharePlace ms)
         (record { place = place; heap = heap.now }))) }
 {
     if until == Some(place) {
         return Ok(None);
     }
-    let Some(first) = first_refused(platform, tree, nodes, place, heap, asked) else {
+    let Some(first) = first_refused(those, place, heap, &mut learnt.asked) else {
         return Ok(None);
     };
-    let line = line_alone(alloc, tree, first.node, first.field, alone)?;
+    let (tree, alone) = (those.tree, &mut learnt.alone);
+    let line = line_alone(those.alloc, tree, first.node, first.field, alone)?;
     Ok(Some(line))
 }
 
 /// Puts the line for a place behind the lines so far, if the heap
 /// has it; false where they end at it.
 fn push_place(
-    alloc: Global,
-    platform: &Platform,
-    tree: &Tree,
-    nodes: &[NodeId],
+    those: &Participants<'_>,
     place: Place,
     heap: &HeapInfo,
     until: Option<Place>,
     lines: &mut Vec<Line>,
-    asked: &mut PlacesAsked,
-    alone: &mut AloneLines,
+    learnt: &mut Learnt,
 ) -> Result<bool, AllocError>
-    requires there { All (HasNode tree.now.nodes) nodes.now }
-    requires heap { slice_get platform.now.heaps place.heap ≡ Some heap.now }
-    requires asked { AreAsked tree.now.nodes platform.now.heaps asked.old }
-    requires alone { AreAlone tree.now.nodes alone.old }
-    ensures asked { AreAsked tree.now.nodes platform.now.heaps asked.new }
-    ensures alone { AreAlone tree.now.nodes alone.new }
-    ensures lines { (ms : List Member) → StandFor (members_at tree.now.nodes nodes.now) ms
+    requires heap { slice_get those.now.platform.now.heaps place.heap ≡ Some heap.now }
+    requires learnt { IsLearnt those.now.tree.now.nodes
+        those.now.platform.now.heaps learnt.old }
+    ensures learnt { IsLearnt those.now.tree.now.nodes
+        those.now.platform.now.heaps learnt.new }
+    ensures lines { (ms : List Member)
+        → StandFor (members_at those.now.tree.now.nodes those.now.nodes.now) ms
         → (xs left : List HeapPlace) → AreSoFar (IsPlaceLineGiven ms) xs lines.old.items
         (put_if (has_domain heap.now.domains place.coherency)
         (record { place = place; heap = heap.now }) left)
@@ -330,10 +340,7 @@ fn push_place(
     if !heap.domains.has(place.coherency) {
         return Ok(true);
     }
-    let Some(line) = place_line(
-        alloc, platform, tree, nodes, place, heap, until, asked, alone,
-    )?
-    else {
+    let Some(line) = place_line(those, place, heap, until, learnt)? else {
         return Ok(false);
     };
     lines.push(line)?;
@@ -343,24 +350,20 @@ fn push_place(
 /// Puts the lines for the places of a heap behind the lines so far;
 /// false where they end at one of them.
 fn push_heap(
-    alloc: Global,
-    platform: &Platform,
-    tree: &Tree,
-    nodes: &[NodeId],
+    those: &Participants<'_>,
     index: usize,
     heap: &HeapInfo,
     until: Option<Place>,
     lines: &mut Vec<Line>,
-    asked: &mut PlacesAsked,
-    alone: &mut AloneLines,
+    learnt: &mut Learnt,
 ) -> Result<bool, AllocError>
-    requires there { All (HasNode tree.now.nodes) nodes.now }
-    requires heap { slice_get platform.now.heaps index ≡ Some heap.now }
-    requires asked { AreAsked tree.now.nodes platform.now.heaps asked.old }
-    requires alone { AreAlone tree.now.nodes alone.old }
-    ensures asked { AreAsked tree.now.nodes platform.now.heaps asked.new }
-    ensures alone { AreAlone tree.now.nodes alone.new }
-    ensures lines { (ms : List Member) → StandFor (members_at tree.now.nodes nodes.now) ms
+    requires heap { slice_get those.now.platform.now.heaps index ≡ Some heap.now }
+    requires learnt { IsLearnt those.now.tree.now.nodes
+        those.now.platform.now.heaps learnt.old }
+    ensures learnt { IsLearnt those.now.tree.now.nodes
+        those.now.platform.now.heaps learnt.new }
+    ensures lines { (ms : List Member)
+        → StandFor (members_at those.now.tree.now.nodes those.now.nodes.now) ms
         → (xs : List HeapPlace) (heaps : List HeapFacts)
         → AreSoFar (IsPlaceLineGiven ms) xs lines.old.items
         (places_from index (heap.now ∷ heaps))
@@ -372,64 +375,43 @@ fn push_heap(
         heap: index,
         coherency: CoherencyDomain::Cpu,
     };
-    if !push_place(
-        alloc, platform, tree, nodes, cpu, heap, until, lines, asked, alone,
-    )? {
+    if !push_place(those, cpu, heap, until, lines, learnt)? {
         return Ok(false);
     }
     let ram = Place {
         heap: index,
         coherency: CoherencyDomain::Ram,
     };
-    if !push_place(
-        alloc, platform, tree, nodes, ram, heap, until, lines, asked, alone,
-    )? {
+    if !push_place(those, ram, heap, until, lines, learnt)? {
         return Ok(false);
     }
     let inaccessible = Place {
         heap: index,
         coherency: CoherencyDomain::Inaccessible,
     };
-    push_place(
-        alloc,
-        platform,
-        tree,
-        nodes,
-        inaccessible,
-        heap,
-        until,
-        lines,
-        asked,
-        alone,
-    )
+    push_place(those, inaccessible, heap, until, lines, learnt)
 }
 
-/// Lines that refuse each place of the platform to the participants at these nodes, or each before
-/// the first that they share; where it is given, at most those before `until`.
+/// Lines that refuse each place of the platform to these participants, or each before the first
+/// that they share; where it is given, at most those before `until`.
 pub(crate) fn refused_places(
-    alloc: Global,
-    platform: &Platform,
-    tree: &Tree,
-    nodes: &[NodeId],
+    those: &Participants<'_>,
     until: Option<Place>,
-    asked: &mut PlacesAsked,
-    alone: &mut AloneLines,
+    learnt: &mut Learnt,
 ) -> Result<Refusals, AllocError>
-    requires there { All (HasNode tree.now.nodes) nodes.now }
-    requires asked { AreAsked tree.now.nodes platform.now.heaps asked.old }
-    requires alone { AreAlone tree.now.nodes alone.old }
-    ensures asked { AreAsked tree.now.nodes platform.now.heaps asked.new }
-    ensures alone { AreAlone tree.now.nodes alone.new }
-    ensures lines { (ms : List Member) → StandFor (members_at tree.now.nodes nodes.now) ms
+    requires learnt { IsLearnt those.now.tree.now.nodes
+        those.now.platform.now.heaps learnt.old }
+    ensures learnt { IsLearnt those.now.tree.now.nodes
+        those.now.platform.now.heaps learnt.new }
+    ensures lines { (ms : List Member)
+        → StandFor (members_at those.now.tree.now.nodes those.now.nodes.now) ms
         → IfOk result (AreRefusals (IsPlaceLineGiven ms)
         (Ends until (λ (p : HeapPlace). p.place) (SharePlace ms))
-        (places_of platform.now.heaps)) }
+        (places_of those.now.platform.now.heaps)) }
 {
-    let mut lines = Vec::new(alloc);
-    for (index, heap) in platform.heaps().iter().enumerate() {
-        if !push_heap(
-            alloc, platform, tree, nodes, index, heap, until, &mut lines, asked, alone,
-        )? {
+    let mut lines = no_lines(those.alloc, those.platform.heaps().len().saturating_mul(3))?;
+    for (index, heap) in those.platform.heaps().iter().enumerate() {
+        if !push_heap(those, index, heap, until, &mut lines, learnt)? {
             return Ok(Refusals::UpTo(Lines::new(lines)));
         }
     }

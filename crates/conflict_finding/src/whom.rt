@@ -1,18 +1,17 @@
 //! Whom a line names, and the line.
 
-ghost use Rattle.std.specs.Prelude.{◌≡◌, All, IfOk, IfSome, option_map, false};
+ghost use Rattle.std.specs.Prelude.{◌≡◌, ◌++◌, [], ◌∷◌, IsTrue, OnOk, IfOk, IfSome, option_map, false};
 ghost use Rattle.std.specs.Option.{option_map_or};
 ghost use Rattle.conflict_finding.specs.AloneLines.{AreAlone};
 ghost use Rattle.verdict_claims.specs.Finder.{has_count};
 ghost use Rattle.conflict_finding.specs.Whom.{NamesThose, line_on, names};
-ghost use Rattle.sysmem_tree.specs.Nodes.{HasNode};
 
 use crate::alone_lines::{AloneLines, with_alone};
+use crate::participants::Participants;
 use negotiation_inputs::Constraints;
-use std::alloc::{AllocError, Global};
+use std::alloc::AllocError;
 use sysmem_counts::{CountConstraints, Field};
-use sysmem_tree::{NodeId, Tree};
-use verdict_claims::{Line, PathList};
+use verdict_claims::{Line, Lines, PathList};
 
 /// Whom of some participants a line names.
 #[derive(Clone, Copy, PartialEq, Eq)]
@@ -63,24 +62,22 @@ pub(crate) fn is_named(whom: Whom, asked: Option<&Constraints>) -> bool
     }
 }
 
-/// The line of this field that names them among the participants at these nodes of the
-/// tree, behind the lines before it.
+/// The line of this field that names them among these participants, behind the lines before it.
 pub(crate) fn line_of(
-    alloc: Global,
-    tree: &Tree,
-    nodes: &[NodeId],
+    those: &Participants<'_>,
     field: Field,
     whom: Whom,
     before: &[Line],
     alone: &mut AloneLines,
 ) -> Result<Line, AllocError>
-    requires there { All (HasNode tree.now.nodes) nodes.now }
-    requires alone { AreAlone tree.now.nodes alone.old }
-    ensures alone { AreAlone tree.now.nodes alone.new }
-    ensures line { IfOk result (λ line. line ≡ line_on tree.now.nodes nodes.now field whom) }
+    requires alone { AreAlone those.now.tree.now.nodes alone.old }
+    ensures alone { AreAlone those.now.tree.now.nodes alone.new }
+    ensures line { IfOk result (λ line.
+        line ≡ line_on those.now.tree.now.nodes those.now.nodes.now field whom) }
 {
-    let mut paths = PathList::with_room(alloc, nodes.len())?;
-    for node in nodes {
+    let (alloc, tree) = (those.alloc, those.tree);
+    let mut paths = PathList::with_room(alloc, those.nodes.len())?;
+    for node in those.nodes {
         if is_named(whom, tree.constraints_of(*node)) {
             paths = with_alone(alloc, tree, *node, field, paths, alone)?;
         }
@@ -88,39 +85,51 @@ pub(crate) fn line_of(
     Line::behind(alloc, before, field, paths)
 }
 
-/// The line that named several last, for which it made their paths.
-#[derive(Drop)]
-pub(crate) struct Named {
+/// The line that named several last, by its place among the lines so far.
+#[derive(Clone, Copy)]
+pub(crate) struct NamingLine {
     whom: Whom,
-    line: Line,
+    place: usize,
 }
 
-/// As `line_of`. Where the line that named several last names the
-/// same, it keeps their paths for both.
-pub(crate) fn next_line_of(
-    alloc: Global,
-    tree: &Tree,
-    nodes: &[NodeId],
+impl NamingLine {
+    /// Whether it names these.
+    fn is_for(self, whom: Whom) -> bool
+        ensures { IsTrue result → self.whom ≡ whom }
+    {
+        self.whom == whom
+    }
+}
+
+/// Puts the line of this field that names them among these participants behind the lines so far.
+/// Where the line that named several last names the same, their paths are kept once for both.
+pub(crate) fn push_line_of(
+    those: &Participants<'_>,
     field: Field,
     whom: Whom,
-    before: &[Line],
-    kept: &mut Option<Named>,
+    lines: &mut Lines,
+    kept: &mut Option<NamingLine>,
     alone: &mut AloneLines,
-) -> Result<Line, AllocError>
-    requires there { All (HasNode tree.now.nodes) nodes.now }
-    requires named { IfSome kept.old (NamesThose tree.now.nodes nodes.now) }
-    requires alone { AreAlone tree.now.nodes alone.old }
-    ensures line { IfOk result (λ line. line ≡ line_on tree.now.nodes nodes.now field whom) }
-    ensures named { IfSome kept.new (NamesThose tree.now.nodes nodes.now) }
-    ensures alone { AreAlone tree.now.nodes alone.new }
+) -> Result<(), AllocError>
+    requires named { IfSome kept.old
+        (NamesThose those.now.tree.now.nodes those.now.nodes.now lines.old) }
+    requires alone { AreAlone those.now.tree.now.nodes alone.old }
+    ensures line { OnOk result (lines.new
+        ≡ lines.old ++ line_on those.now.tree.now.nodes those.now.nodes.now field whom ∷ []) }
+    ensures named { OnOk result (IfSome kept.new
+        (NamesThose those.now.tree.now.nodes those.now.nodes.now lines.new)) }
+    ensures alone { AreAlone those.now.tree.now.nodes alone.new }
 {
-    if let Some(named) = kept {
-        if named.whom == whom {
-            return named.line.headed(field);
+    let place = lines.as_slice().len();
+    if let Some(named) = *kept {
+        if named.is_for(whom) {
+            lines.push_headed(named.place, field)?;
+            *kept = Some(NamingLine { whom, place });
+            return Ok(());
         }
     }
-    let line = line_of(alloc, tree, nodes, field, whom, before, alone)?;
-    let again = line.again()?;
-    *kept = Some(Named { whom, line: again });
-    Ok(line)
+    let line = line_of(those, field, whom, lines.as_slice(), alone)?;
+    lines.push(line)?;
+    *kept = Some(NamingLine { whom, place });
+    Ok(())
 }

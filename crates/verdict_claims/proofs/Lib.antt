@@ -32,3 +32,4 @@ pub mod Refutable
 pub mod Certifying
 pub mod Provable
 pub mod LinesAgain
+pub mod LinesShared

@@ -1,6 +1,8 @@
 -- Paths are read of the numbers that stand for them.
-use Rattle.std.proofs.Common.{◌≡◌, ℕ, ◌≤◌, ◌+◌, List, [], ◌∷◌, ◌++◌, length, take, drop, refl, sym, ◌∙◌, ap, arith, append-nil, length-append}
-use Rattle.std.proofs.lemmas.List.{append_assoc, take_at, drop_at}
+use Rattle.std.proofs.Common.{◌≡◌, ℕ, suc, ◌<◌, ◌≤◌, ◌+◌, ◌⊎◌, inl, inr, true, false, nat_le, get_or, List, [], ◌∷◌, ◌++◌, length, take, drop, refl, sym, ◌∙◌, ap, arith, append-nil, length-append}
+use Rattle.std.proofs.lemmas.List.{append_assoc, take_at, drop_at, drop_more, take_more, take-append-drop}
+use Rattle.std.proofs.lemmas.Bool.{le-leb, lt-leb}
+use Rattle.std.proofs.lemmas.Bool.Decides.{leb_tells}
 use Rattle.verdict_claims.specs.PathList.{numbers_of, with_step, paths_from, paths_in, AreOfPaths}
 
 -- the steps of the first path are read, and then the others
@@ -41,6 +43,11 @@ module _ (one two : List ℕ) (first : AreOfPaths one) (second : AreOfPaths two)
   pub joined_are : AreOfPaths (one ++ two)
   joined_are = together ∙ ap numbers_of (sym joined)
 
+-- the paths of a list without long ones
+pub short_alone : (numbers : List ℕ) (shared paths : List (List ℕ)) → length shared ≡ 0 → paths_in numbers ++ shared ≡ paths → paths_in numbers ≡ paths
+short_alone numbers [] paths e are = sym (append-nil (paths_in numbers)) ∙ are
+short_alone numbers (p ∷ ps) paths e are = absurd (omega (arith, e))
+
 -- what stands behind the first of some numbers of paths: that many
 -- steps, and numbers of the other paths
 pub record Begins (many : ℕ) (behind : List ℕ) : Type 0 where
@@ -75,3 +82,51 @@ module _ (many : ℕ) (behind : List ℕ) (are : AreOfPaths (many ∷ behind)) w
   first_and_others = ap paths_in (ap (λ n. n ∷ behind) b.many_is ∙ ap (λ xs. length b.path ∷ xs) b.behind_is) ∙ (read_back (b.path ∷ b.paths)
       ∙ (ap (λ p. p ∷ b.paths) (sym (ap (take many) b.behind_is ∙ take_at b.path (numbers_of b.paths) many (sym b.many_is)))
       ∙ ap (λ ps. take many behind ∷ ps) (sym (ap paths_in others_are ∙ read_back b.paths))))
+
+-- how many numbers there are, of paths that are shared and of others before them
+pub many_numbers : (numbers : List ℕ) (shared : List (List ℕ)) → AreOfPaths numbers → length (numbers_of (paths_in numbers ++ shared)) ≡ length numbers + length (numbers_of shared)
+many_numbers numbers shared are = ap length (numbers_behind (paths_in numbers) shared)
+    ∙ (length-append (numbers_of (paths_in numbers)) (numbers_of shared) ∙ ap (λ k. k + length (numbers_of shared)) (ap length (sym are)))
+
+-- a path more has its steps, and a number that says how many they are
+pub numbers_more : (paths : List (List ℕ)) (path : List ℕ) → length (numbers_of (paths ++ path ∷ [])) ≡ length (numbers_of paths) + suc (length path)
+numbers_more paths path =
+    let one : length (path ++ []) ≡ length path = ap length (append-nil path) in
+    let behind : length (numbers_of (paths ++ path ∷ [])) ≡ length (numbers_of paths ++ numbers_of (path ∷ [])) = ap length (numbers_behind paths (path ∷ [])) in
+    let both : length (numbers_of paths ++ numbers_of (path ∷ [])) ≡ length (numbers_of paths) + length (numbers_of (path ∷ [])) = length-append (numbers_of paths) (numbers_of (path ∷ [])) in
+    omega (arith, one, behind, both)
+
+-- the first of some paths have no more numbers than all
+pub numbers_front : (paths : List (List ℕ)) (k : ℕ) → length (numbers_of (take k paths)) ≤ length (numbers_of paths)
+numbers_front paths k =
+    let all : length (numbers_of (take k paths ++ drop k paths)) ≡ length (numbers_of paths) = ap (λ ps. length (numbers_of ps)) (take-append-drop k paths) in
+    let behind : length (numbers_of (take k paths ++ drop k paths)) ≡ length (numbers_of (take k paths) ++ numbers_of (drop k paths)) = ap length (numbers_behind (take k paths) (drop k paths)) in
+    let both : length (numbers_of (take k paths) ++ numbers_of (drop k paths)) ≡ length (numbers_of (take k paths)) + length (numbers_of (drop k paths)) = length-append (numbers_of (take k paths)) (numbers_of (drop k paths)) in
+    omega (arith, all, behind, both)
+
+-- a list that has no length
+pub none_left : {A : Type 0} (xs : List A) → length xs ≡ 0 → xs ≡ []
+none_left [] e = refl
+none_left (x ∷ xs) e = absurd (cc)
+
+-- two tests of what fits are the same
+pub same_test : (one room all most more : ℕ) → all ≡ one + more → more + room ≡ most → nat_le one room ≡ nat_le all most
+same_test one room all most more with_more is = by (leb_tells one room) where
+  by : ((nat_le one room ≡ true) × (one ≤ room)) ⊎ ((nat_le one room ≡ false) × (room < one)) → nat_le one room ≡ nat_le all most
+  by (inl (so, few)) = so ∙ sym (le-leb all most (omega (arith, few, with_more, is)))
+  by (inr (not_so, many)) = not_so ∙ sym (lt-leb all most (omega (arith, many, with_more, is)))
+
+-- one path more in front of what is the same
+pub one_same : (paths left behind all : List (List ℕ)) (i : ℕ) (path other : List ℕ) → i < length paths → path ≡ get_or paths i path → path ≡ other → left ≡ other ∷ behind
+    → (drop i paths ≡ left → paths ≡ all) → drop (i + 1) paths ≡ behind → paths ≡ all
+one_same paths left behind all i path other inside here same is so rest =
+    so (drop_more paths i path inside ∙ (ap (λ p. p ∷ drop (i + 1) paths) (sym here ∙ same) ∙ (ap (λ ps. other ∷ ps) rest ∙ sym is)))
+
+-- the numbers of the first paths and of one more
+pub numbers_next : (paths : List (List ℕ)) (i : ℕ) (path : List ℕ) → i < length paths → path ≡ get_or paths i path → length (numbers_of (take (i + 1) paths)) ≡ length (numbers_of (take i paths)) + suc (length path)
+numbers_next paths i path inside here = ap (λ ps. length (numbers_of ps)) (take_more paths i path inside ∙ ap (λ p. take i paths ++ p ∷ []) (sym here)) ∙ numbers_more (take i paths) path
+
+-- the first paths with one more, behind others
+pub one_behind : (front paths list : List (List ℕ)) (i : ℕ) (path : List ℕ) → i < length paths → path ≡ get_or paths i path → list ≡ front ++ take i paths → list ++ path ∷ [] ≡ front ++ take (i + 1) paths
+one_behind front paths list i path inside here is =
+    ap (λ ps. ps ++ path ∷ []) is ∙ (append_assoc front (take i paths) (path ∷ []) ∙ ap (λ ps. front ++ ps) (sym (take_more paths i path inside ∙ ap (λ p. take i paths ++ p ∷ []) (sym here))))

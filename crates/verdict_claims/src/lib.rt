@@ -17,13 +17,14 @@ mod no;
 mod pair_lines;
 mod path_list;
 mod refutation;
+mod shared_path;
 mod verdict;
 
 pub use asked::{add_count, add_read};
 pub use base::Base;
 pub use certificate::{Certificate, Claim, EarlierChoices, Proof};
 pub use conflict::Conflict;
-pub use line::{Line, Lines};
+pub use line::{Line, Lines, SharedPaths};
 pub use no::No;
 pub use pair_lines::{is_same_pair, is_shared};
 pub use path_list::{PathList, Paths};

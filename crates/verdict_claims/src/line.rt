@@ -1,7 +1,7 @@
 //! Lines of the conflict table: a field, and for whom it fails.
 
-ghost use Rattle.std.specs.Prelude.{◌≡◌, ◌-◌, ◌++◌, [], ◌∷◌, length, slice_get, All, Some, IfOk, IsOk, OnErr, OnOk};
-ghost use Rattle.verdict_claims.specs.Line.{IsAgain, LineFacts};
+ghost use Rattle.std.specs.Prelude.{◌≡◌, ◌-◌, ◌++◌, [], ◌∷◌, length, slice_get, All, None, Some, IfOk, IsOk, OnErr, OnOk};
+ghost use Rattle.verdict_claims.specs.Line.{IsAgain, LineFacts, SharePaths};
 
 use crate::path_list::PathList;
 use std::alloc::{AllocError, Global};
@@ -99,30 +99,46 @@ impl Line {
     }
 }
 
-/// Lines for some places or offers of a platform, one for each, in their order.
+/// The places of two lines that have the same paths.
+#[derive(Clone, Copy, Debug)]
+pub struct SharedPaths {
+    /// The place of the one that stands first.
+    pub earlier: u8,
+    /// The place of the other.
+    pub later: u8,
+}
+
+/// Lines for some places or offers of a platform, one for each, in their order. A reader of all
+/// lines compares no paths where they were put as the same.
 #[derive(Debug)]
 pub struct Lines {
     lines: Vec<Line>,
-    /// The places of lines that are the one before once more, as far as they were put so: a reader
-    /// of all lines compares no paths there.
+    /// The places of lines that are the one before once more, as far as they were put so.
     again: Vec<u8>,
+    /// The places of lines that have the paths of an earlier one, as far as they were put so.
+    shared: Vec<SharedPaths>,
 }
 
 impl Drop for Lines {
     fn drop(self) {
-        let Lines { lines: _, again: _ } = self;
+        let Lines {
+            lines: _,
+            again: _,
+            shared: _,
+        } = self;
     }
 }
 
 impl Model for Lines {
     ghost use Rattle.std.specs.Prelude.{All, List};
-    ghost use Rattle.verdict_claims.specs.Line.{IsAgain, LineFacts};
+    ghost use Rattle.verdict_claims.specs.Line.{IsAgain, LineFacts, SharePaths};
 
     ghost Value = { List LineFacts };
 
     ghost view = { λ l. l.lines.items };
 
-    ghost invariant = { λ l. All (IsAgain l.lines.items) l.again.items };
+    ghost invariant = { λ l. All (IsAgain l.lines.items) l.again.items
+        × All (SharePaths l.lines.items) l.shared.items };
 }
 
 impl Lines {
@@ -130,24 +146,38 @@ impl Lines {
     pub fn new(lines: Vec<Line>) -> Lines
         ensures { result ≡ lines.items }
     {
-        let again = Vec::new(*lines.allocator());
-        Lines { lines, again }
+        let alloc = *lines.allocator();
+        Lines {
+            lines,
+            again: Vec::new(alloc),
+            shared: Vec::new(alloc),
+        }
     }
 
-    /// The same lines, without room that isn't used. `AllocError` where the smaller room is refused.
+    /// The same lines, without room that isn't used. `AllocError`
+    /// where the smaller room is refused.
     pub fn fitted(self) -> Result<Lines, AllocError>
         ensures { IfOk result (λ fitted. fitted ≡ self) }
     {
         let Lines {
             mut lines,
             mut again,
+            mut shared,
         } = self;
         lines.shrink_to_fit();
         again.shrink_to_fit();
-        if lines.len() < lines.capacity() || again.len() < again.capacity() {
+        shared.shrink_to_fit();
+        if lines.len() < lines.capacity()
+            || again.len() < again.capacity()
+            || shared.len() < shared.capacity()
+        {
             return Err(AllocError);
         }
-        Ok(Lines { lines, again })
+        Ok(Lines {
+            lines,
+            again,
+            shared,
+        })
     }
 
     /// Puts a line behind them. `AllocError` where memory is refused: then they stay as they were.
@@ -180,6 +210,31 @@ impl Lines {
         Ok(())
     }
 
+    /// Puts the paths of the line at a place behind them under this field, if there is one.
+    /// `AllocError` where memory is refused: then they stay as they were.
+    pub fn push_headed(&mut self, earlier: usize, field: Field) -> Result<(), AllocError>
+        ensures more { (line : LineFacts) → slice_get self.old earlier ≡ Some line
+            → OnOk result (self.new
+            ≡ self.old ++ record { field = field; nodes = line.nodes } ∷ []) }
+        ensures none { slice_get self.old earlier ≡ None → (self.new ≡ self.old) × IsOk result }
+        ensures refused { OnErr result (self.new ≡ self.old) }
+    {
+        let Some(line) = self.lines.get(earlier) else {
+            return Ok(());
+        };
+        let line = line.headed(field)?;
+        self.shared.reserve(1)?;
+        let later = self.lines.len();
+        self.lines.push(line)?;
+        if later <= usize::from(u8::MAX) {
+            self.shared.push_reserved(SharedPaths {
+                earlier: earlier as u8,
+                later: later as u8,
+            });
+        }
+        Ok(())
+    }
+
     /// The lines, that for the first place or offer first.
     pub fn as_slice(&self) -> &[Line]
         ensures { result.now ≡ self.now }
@@ -193,5 +248,13 @@ impl Lines {
         ensures { All (IsAgain self.now) result.now }
     {
         &self.again
+    }
+
+    /// The places of some lines that have the paths of an earlier one. The later ones ascend, of
+    /// which nothing is promised.
+    pub fn shared(&self) -> &[SharedPaths]
+        ensures { All (SharePaths self.now) result.now }
+    {
+        &self.shared
     }
 }

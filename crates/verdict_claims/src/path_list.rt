@@ -1,26 +1,33 @@
 //! Lists of paths, as lines have them.
 
-ghost use Rattle.std.specs.Prelude.{◌≡◌, ◌++◌, [], ◌∷◌, length, nat_le, IfOk, IsTrue};
+ghost use Rattle.std.specs.Prelude.{◌≡◌, ◌<◌, ◌+◌, ◌++◌, [], ◌∷◌, length, nat_le, IfNone, IfOk, IfSome, IsTrue};
 ghost use Rattle.verdict_claims.specs.PathList.{numbers_of};
 
+use crate::shared_path::SharedPath;
 use smallvec::SmallVec;
 use std::alloc::{AllocError, Global};
 use std::marker::Model;
 
-/// Paths in one list of numbers: how many steps a path has, and behind that its ordinals. Up to 4
-/// numbers (one path of 3 steps) take no memory beside the list, and more take one block.
+/// So many steps a path has at the most that is kept in a list's own numbers: it takes no more
+/// memory there than a few pointers, and is compared and read faster.
+const SHORT: usize = 4;
+
+/// Paths: short ones in one list of numbers, which has of each how many steps it has, and behind
+/// that its ordinals; and from the first long one on those that it shares with other lists, each of
+/// which takes a pointer. Up to 4 numbers (one path of 3 steps) take no memory beside the list.
 #[derive(Debug, Drop)]
 pub struct PathList {
     numbers: SmallVec<u32, 4>,
+    shared: Vec<SharedPath>,
 }
 
 impl Model for PathList {
-    ghost use Rattle.std.specs.Prelude.{ℕ, List};
+    ghost use Rattle.std.specs.Prelude.{◌++◌, ℕ, List};
     ghost use Rattle.verdict_claims.specs.PathList.{AreOfPaths, paths_in};
 
     ghost Value = { List (List ℕ) };
 
-    ghost view = { λ l. paths_in l.numbers.items };
+    ghost view = { λ l. paths_in l.numbers.items ++ l.shared.items };
 
     ghost invariant = { λ l. AreOfPaths l.numbers.items };
 }
@@ -32,6 +39,7 @@ impl PathList {
     {
         PathList {
             numbers: SmallVec::new(alloc),
+            shared: Vec::new(alloc),
         }
     }
 
@@ -40,16 +48,96 @@ impl PathList {
         ensures { IfOk result (λ list. list ≡ []) }
     {
         let numbers = SmallVec::with_capacity(alloc, many.saturating_mul(4))?;
-        Ok(PathList { numbers })
+        let shared = Vec::new(alloc);
+        Ok(PathList { numbers, shared })
+    }
+
+    /// The path of these ordinals alone. A list to which it is joined shares it, unless it is
+    /// short. `AllocError` where memory is refused.
+    pub fn alone(alloc: Global, ordinals: &[u32]) -> Result<PathList, AllocError>
+        ensures { IfOk result (λ list. list ≡ ordinals.now ∷ []) }
+    {
+        if ordinals.len() <= SHORT {
+            return PathList::new(alloc).with(ordinals);
+        }
+        let path = SharedPath::new(alloc, ordinals)?;
+        let mut shared = Vec::with_capacity(alloc, 1)?;
+        shared.push(path)?;
+        let numbers = SmallVec::new(alloc);
+        Ok(PathList { numbers, shared })
     }
 
     /// These paths and behind them those of the other list. `AllocError` where memory is refused.
     pub fn joined(self, other: &PathList) -> Result<PathList, AllocError>
         ensures { IfOk result (λ list. list ≡ self ++ other.now) }
     {
-        let PathList { mut numbers } = self;
+        if self.shared.len() > 0 {
+            return self.joined_to_long(other);
+        }
+        if other.shared.len() > 0 {
+            return self.joined_to_long(other);
+        }
+        let PathList {
+            mut numbers,
+            shared,
+        } = self;
         numbers.extend_from_slice(other.numbers.as_slice())?;
-        Ok(PathList { numbers })
+        Ok(PathList { numbers, shared })
+    }
+
+    /// The same, where one of both may have long paths.
+    fn joined_to_long(self, other: &PathList) -> Result<PathList, AllocError>
+        ensures { IfOk result (λ list. list ≡ self ++ other.now) }
+    {
+        if other.numbers.len() > 0 {
+            return self.with_each(other);
+        }
+        let list = self.sharing_all(&other.shared)?;
+        Ok(list)
+    }
+
+    /// The same. Each path of the other list is copied.
+    fn with_each(self, other: &PathList) -> Result<PathList, AllocError>
+        ensures { IfOk result (λ list. list ≡ self ++ other.now) }
+    {
+        let mut list = self;
+        for path in other.iter() {
+            list = list.with(path)?;
+        }
+        Ok(list)
+    }
+
+    /// These paths and behind them others, which are shared where they are long.
+    fn sharing_all(self, paths: &[SharedPath]) -> Result<PathList, AllocError>
+        ensures { IfOk result (λ list. list ≡ self ++ paths.now) }
+    {
+        let mut list = self;
+        for path in paths {
+            list = list.sharing(path)?;
+        }
+        Ok(list)
+    }
+
+    /// These paths and behind them another: it is shared where it is long, or one before it is.
+    fn sharing(self, path: &SharedPath) -> Result<PathList, AllocError>
+        ensures { IfOk result (λ list. list ≡ self ++ path.now ∷ []) }
+    {
+        if self.shared.is_empty() && path.ordinals().len() <= SHORT {
+            return self.with(path.ordinals());
+        }
+        self.with_shared(path.again()?)
+    }
+
+    /// These paths and behind them one that other lists may have too.
+    fn with_shared(self, path: SharedPath) -> Result<PathList, AllocError>
+        ensures { IfOk result (λ list. list ≡ self ++ path ∷ []) }
+    {
+        let PathList {
+            numbers,
+            mut shared,
+        } = self;
+        shared.push(path)?;
+        Ok(PathList { numbers, shared })
     }
 
     /// These paths and behind them that of these ordinals. `AllocError` where memory is refused,
@@ -57,14 +145,21 @@ impl PathList {
     pub fn with(self, ordinals: &[u32]) -> Result<PathList, AllocError>
         ensures { IfOk result (λ list. list ≡ self ++ ordinals.now ∷ []) }
     {
-        let PathList { mut numbers } = self;
+        if self.shared.len() > 0 {
+            let path = SharedPath::new(*self.shared.allocator(), ordinals)?;
+            return self.with_shared(path);
+        }
+        let PathList {
+            mut numbers,
+            shared,
+        } = self;
         let many = ordinals.len();
         if many > u32::MAX as usize {
             return Err(AllocError);
         }
         numbers.push(many as u32)?;
         numbers.extend_from_slice(ordinals)?;
-        Ok(PathList { numbers })
+        Ok(PathList { numbers, shared })
     }
 
     /// The same paths, without room that isn't used. `AllocError`
@@ -72,27 +167,40 @@ impl PathList {
     pub fn fitted(self) -> Result<PathList, AllocError>
         ensures { IfOk result (λ list. list ≡ self) }
     {
-        let PathList { mut numbers } = self;
+        let PathList {
+            mut numbers,
+            mut shared,
+        } = self;
         numbers.shrink_to_fit();
+        shared.shrink_to_fit();
         if numbers.spilled() && numbers.len() < numbers.capacity() {
             return Err(AllocError);
         }
-        Ok(PathList { numbers })
+        if shared.len() < shared.capacity() {
+            return Err(AllocError);
+        }
+        Ok(PathList { numbers, shared })
     }
 
-    /// Whether the list takes no memory beside itself: how many steps its paths have, and how many
-    /// paths there are, are at most 4 together.
+    /// Whether the paths are few and short: how many steps they have, and how many
+    /// there are, are at most 4 together.
     pub fn is_small(&self) -> bool
         ensures { result ≡ nat_le (length (numbers_of self.now)) 4 }
     {
-        self.numbers.len() <= 4
+        if self.shared.len() == 0 {
+            return self.numbers.len() <= 4;
+        }
+        match room_left(&self.shared, 4) {
+            Some(left) => self.numbers.len() <= left,
+            None => false,
+        }
     }
 
-    /// Whether these are the paths of the other list, in its order.
+    /// Whether these are the paths of the other list, in its order, as many of them shared.
     pub fn is_same(&self, other: &PathList) -> bool
         ensures { IsTrue result → self.now ≡ other.now }
     {
-        self.numbers.as_slice() == other.numbers.as_slice()
+        self.numbers.as_slice() == other.numbers.as_slice() && are_same(&self.shared, &other.shared)
     }
 
     /// The paths, from the first on.
@@ -101,23 +209,59 @@ impl PathList {
     {
         Paths {
             numbers: self.numbers.as_slice(),
+            shared: self.shared.as_slice(),
         }
     }
+}
+
+/// How many numbers there is room for beside those of these paths, of so many; `None` where these
+/// are more.
+fn room_left(paths: &[SharedPath], room: usize) -> Option<usize>
+    ensures left { IfSome result (λ left. length (numbers_of paths.now) + left ≡ room) }
+    ensures none { IfNone result (room < length (numbers_of paths.now)) }
+{
+    let mut left = room;
+    for path in paths {
+        let many = path.ordinals().len();
+        if many >= left {
+            return None;
+        }
+        left = left - many - 1;
+    }
+    Some(left)
+}
+
+/// Whether these are the same paths, one by one.
+fn are_same(paths: &[SharedPath], others: &[SharedPath]) -> bool
+    ensures { IsTrue result → paths.now ≡ others.now }
+{
+    let mut left = others;
+    for path in paths {
+        let Some((other, behind)) = left.split_first() else {
+            return false;
+        };
+        if path.ordinals() != other.ordinals() {
+            return false;
+        }
+        left = behind;
+    }
+    left.is_empty()
 }
 
 /// Paths of a list that are left to be read.
 #[derive(Debug, Drop)]
 pub struct Paths<'a> {
     numbers: &'a [u32],
+    shared: &'a [SharedPath],
 }
 
 impl<'a> Model for Paths<'a> {
-    ghost use Rattle.std.specs.Prelude.{ℕ, List};
+    ghost use Rattle.std.specs.Prelude.{◌++◌, ℕ, List};
     ghost use Rattle.verdict_claims.specs.PathList.{AreOfPaths, paths_in};
 
     ghost Value = { List (List ℕ) };
 
-    ghost view = { λ p. paths_in p.numbers.now };
+    ghost view = { λ p. paths_in p.numbers.now ++ p.shared.now };
 
     ghost invariant = { λ p. AreOfPaths p.numbers.now };
 }
@@ -132,7 +276,11 @@ impl<'a> Iterator for Paths<'a> {
     ghost remaining = { item_count (λ left. left) };
 
     fn next(&mut self) -> Option<&'a [u32]> {
-        let (many, behind) = self.numbers.split_first()?;
+        let Some((many, behind)) = self.numbers.split_first() else {
+            let (first, others) = self.shared.split_first()?;
+            self.shared = others;
+            return Some(first.ordinals());
+        };
         let (path, others) = behind.split_at(*many as usize);
         self.numbers = others;
         Some(path)

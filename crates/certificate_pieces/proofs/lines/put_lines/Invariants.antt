@@ -6,13 +6,16 @@ use Rattle.verdict_claims.specs.Line.{LineFacts}
 use Rattle.certificate_text.specs.Told.{line_data, lines_data}
 use Rattle.certificate_pieces.specs.KeptText.{kept_text}
 use Rattle.certificate_pieces.specs.Telling.{Tells}
+use Rattle.certificate_pieces.proofs.OneLine.{KeepsOne}
 use Rattle.certificate_pieces.proofs.lines.put_lines.Given as goal
 
-abbrev pub invariant-loop-index : goal.invariant-loop-index
-invariant-loop-index g l = record {
-  next : l.next ≤ l.index;
-  there : (line : LineFacts) → slice_get l.lines l.index ≡ Some line → l.is_there ≡ true → kept_text l.kept line ≡ compact_text (line_data line);
+abbrev pub invariant-loop-place : goal.invariant-loop-place
+invariant-loop-place g l = record {
+  next : l.next ≤ l.place;
+  next_shared : l.next_shared ≤ l.place;
+  there : (line : LineFacts) → slice_get l.lines l.place ≡ Some line → l.is_there ≡ true → kept_text l.kept line ≡ compact_text (line_data line);
+  one : KeepsOne l.lines l.kept;
   told : List ℕ;
   has : Tells (g.P.Sink.contents l.fn.sink) (g.P.Sink.failures l.fn.sink) l.fn.out (g.P.Sink.contents l.sink) (g.P.Sink.failures l.sink) l.out told;
-  whole : told ++ items_text (nat_lt 0 l.index) (items_of (map line_data (drop l.index l.lines))) ≡ compact_text (lines_data l.lines);
+  whole : told ++ items_text (nat_lt 0 l.place) (items_of (map line_data (drop l.place l.lines))) ≡ compact_text (lines_data l.lines);
 }

@@ -15,22 +15,14 @@ use Rattle.conflict_finding.proofs.FoundNodes.{found_at, no_nodes}
 use Rattle.verdict_claims.proofs.SettledNodes.{no_pairs}
 use Rattle.conflict_finding.proofs.finder.lines_before.Goals as goal
 
-pub refused_offers-requires-clause-there : goal.refused_offers-requires-clause-there
-refused_offers-requires-clause-there c = (found_at c.args.tree.now.nodes c.requires.best.members [] c.in_ok-nodes.nodes.items c.deref.result.now c.deref.ensures.value
-    (c.in_ok-nodes.ensures c.requires.best.members [] c.requires.best.selects.leads (no_nodes (IsElsewhere c.args.tree.now.nodes c.args.domain)) no_pairs)).there
+pub invariant_of-those : goal.invariant_of-those
+invariant_of-those c = record {
+  there = (found_at c.args.tree.now.nodes c.requires.best.members [] c.in_ok-nodes.nodes.items c.deref.result.now c.deref.ensures.value
+      (c.in_ok-nodes.ensures c.requires.best.members [] c.requires.best.selects.leads (no_nodes (IsElsewhere c.args.tree.now.nodes c.args.domain)) no_pairs)).there;
+}
 
-pub refused_offers-requires-clause-alone : goal.refused_offers-requires-clause-alone
-refused_offers-requires-clause-alone c = (c.new-learnt.ensures c.args.tree.now.nodes c.args.platform.now.heaps).alone
-
-pub refused_offers-requires-clause-asked : goal.refused_offers-requires-clause-asked
-refused_offers-requires-clause-asked c = (c.new-learnt.ensures c.args.tree.now.nodes c.args.platform.now.heaps).offers
-
-pub refused_places-requires-clause-asked : goal.refused_places-requires-clause-asked
-refused_places-requires-clause-asked c = (c.new-learnt.ensures c.args.tree.now.nodes c.args.platform.now.heaps).asked
-
-pub refused_places-requires-clause-there : goal.refused_places-requires-clause-there
-refused_places-requires-clause-there c = (found_at c.args.tree.now.nodes c.requires.best.members [] c.in_ok-nodes.nodes.items c.deref-2.result.now c.deref-2.ensures.value
-    (c.in_ok-nodes.ensures c.requires.best.members [] c.requires.best.selects.leads (no_nodes (IsElsewhere c.args.tree.now.nodes c.args.domain)) no_pairs)).there
+pub refused_offers-requires : goal.refused_offers-requires
+refused_offers-requires c = record { learnt = c.new-learnt.ensures c.args.tree.now.nodes c.args.platform.now.heaps }
 
 pub returns : goal.returns
 returns c = λ members selects earlier.
@@ -41,9 +33,7 @@ returns c = λ members selects earlier.
     (best_initial _ c.args.base c.args.platform.now c.args.tree.now.nodes (settled c.requires.best.members) c.args.settings.now none c.requires.best.best) in
     let one = found_at c.args.tree.now.nodes members [] c.in_ok-nodes.nodes.items c.deref.result.now c.deref.ensures.value
     (c.in_ok-nodes.ensures members [] selects.leads (no_nodes (IsElsewhere c.args.tree.now.nodes c.args.domain)) no_pairs) in
-    let two = found_at c.args.tree.now.nodes members [] c.in_ok-nodes.nodes.items c.deref-2.result.now c.deref-2.ensures.value
-    (c.in_ok-nodes.ensures members [] selects.leads (no_nodes (IsElsewhere c.args.tree.now.nodes c.args.domain)) no_pairs) in
     before_initial _ c.args.base c.args.platform.now c.args.tree.now.nodes (settled members) c.args.settings.now (record { earlier = earlier; offers = c.into_lines.result; places = c.into_lines-2.result }) none (record {
       offers = offers_before laws c.args.platform.now (settled members) c.args.settings.now best c.in_ok-offers.offers c.into_lines.result c.into_lines.ensures (refusals_weaker (IsOfferLineGiven true (settled members)) (RefusesOffer true (settled members)) (λ o line given. given.refuses) _ (offers_of c.args.platform.now) _ (c.in_ok-offers.ensures.lines (settled members) one.stand));
-      places = places_before laws c.args.platform.now (settled members) c.args.settings.now best c.in_ok-places.places c.into_lines-2.result c.into_lines-2.ensures (refusals_weaker (IsPlaceLineGiven (settled members)) (RefusesPlace (settled members)) (λ p line given. given.refuses) _ (places_of c.args.platform.now.heaps) _ (c.in_ok-places.ensures.lines (settled members) two.stand));
+      places = places_before laws c.args.platform.now (settled members) c.args.settings.now best c.in_ok-places.places c.into_lines-2.result c.into_lines-2.ensures (refusals_weaker (IsPlaceLineGiven (settled members)) (RefusesPlace (settled members)) (λ p line given. given.refuses) _ (places_of c.args.platform.now.heaps) _ (c.in_ok-places.ensures.lines (settled members) one.stand));
     })

@@ -8,6 +8,6 @@ use Rattle.conflict_finding.proofs.first_refusing.first_refused.Given as goal
 
 abbrev pub invariant-loop-node : goal.invariant-loop-node
 invariant-loop-node l = record {
-  asked : AreAsked l.tree.nodes l.platform.heaps l.asked;
-  allowed : All (λ p. AllowsPlace p.memory p.usage l.heap l.place.coherency) (participants (members_at l.tree.nodes (take l.node-index l.nodes)));
+  asked : AreAsked l.those.tree.now.nodes l.those.platform.now.heaps l.asked;
+  allowed : All (λ p. AllowsPlace p.memory p.usage l.heap l.place.coherency) (participants (members_at l.those.tree.now.nodes (take l.node-index l.those.nodes.now)));
 }

@@ -13,48 +13,48 @@ use Rattle.conflict_finding.proofs.refusals.refused_offers.Goals as goal
 
 pub returns-then-eq-clause-lines : goal.returns-then-eq-clause-lines
 returns-then-eq-clause-lines c = λ ms stand.
-    let here = offer_read c.args.platform.now _ _ c.pairs.ensures.pairs c.colours.ensures.colours _ c.loop-offer.lines _ (ap length c.as_slice.ensures) c.in-Some.ensures in
+    let here = offer_read c.args.those.now.platform.now _ _ c.pairs.ensures.pairs c.colours.ensures.colours _ c.loop-offer.lines _ (ap length c.as_slice.ensures) c.in-Some.ensures in
     let same : c.args.until ≡ Some c.in-Some.offer = is_until c.args.until c.in-Some.offer c.if-eq.ensures in
-    ends_at_offer (IsOfferLineGiven c.args.whole ms) (Ends c.args.until (λ (o : Offer). o) (ShareOffer c.args.whole ms)) (offers_of c.args.platform.now) c.loop-offer.lines c.in-Some.offer
+    ends_at_offer (IsOfferLineGiven c.args.those.now.whole ms) (Ends c.args.until (λ (o : Offer). o) (ShareOffer c.args.those.now.whole ms)) (offers_of c.args.those.now.platform.now) c.loop-offer.lines c.in-Some.offer
     (sym here) (c.loop-offer.invariant.so_far ms stand) (inl same)
 
 pub returns-then-not-branch-clause-lines : goal.returns-then-not-branch-clause-lines
 returns-then-not-branch-clause-lines c = λ ms stand.
-    let here = offer_read c.args.platform.now _ _ c.pairs.ensures.pairs c.colours.ensures.colours _ c.loop-offer.lines _ (ap length c.as_slice.ensures) c.in-Some.ensures in
+    let here = offer_read c.args.those.now.platform.now _ _ c.pairs.ensures.pairs c.colours.ensures.colours _ c.loop-offer.lines _ (ap length c.as_slice.ensures) c.in-Some.ensures in
     let other : c.args.until ≢ Some c.in-Some.offer = is_before c.args.until c.in-Some.offer c.if-eq.ensures in
     let end = c.in_ok-push_offer.ensures.share ms stand c.if-not-branch.true in
-    subst (EndsAt (IsOfferLineGiven c.args.whole ms) (Ends c.args.until (λ (o : Offer). o) (ShareOffer c.args.whole ms)) (offers_of c.args.platform.now)) (sym end.0)
-    (ends_at_offer (IsOfferLineGiven c.args.whole ms) (Ends c.args.until (λ (o : Offer). o) (ShareOffer c.args.whole ms)) (offers_of c.args.platform.now) c.loop-offer.lines c.in-Some.offer
+    subst (EndsAt (IsOfferLineGiven c.args.those.now.whole ms) (Ends c.args.until (λ (o : Offer). o) (ShareOffer c.args.those.now.whole ms)) (offers_of c.args.those.now.platform.now)) (sym end.0)
+    (ends_at_offer (IsOfferLineGiven c.args.those.now.whole ms) (Ends c.args.until (λ (o : Offer). o) (ShareOffer c.args.those.now.whole ms)) (offers_of c.args.those.now.platform.now) c.loop-offer.lines c.in-Some.offer
     (sym here) (c.loop-offer.invariant.so_far ms stand) (inr (other, end.1)))
 
 pub settle-requires-clause-askers : goal.settle-requires-clause-askers
-settle-requires-clause-askers c = subst (AreAskers c.args.tree.now.nodes c.args.nodes.now) (sym c.deref.ensures.value) c.in_ok-asking.ensures
+settle-requires-clause-askers c = subst (AreAskers c.args.those.now.tree.now.nodes c.args.those.now.nodes.now) (sym c.deref.ensures.value) c.in_ok-asking.ensures
 
 pub push_offer-requires-clause-last : goal.push_offer-requires-clause-last
 push_offer-requires-clause-last c = c.loop-offer.invariant.last
 
 pub loop-offer-smaller : goal.loop-offer-smaller
 loop-offer-smaller c =
-    let here = offer_read c.args.platform.now _ _ c.pairs.ensures.pairs c.colours.ensures.colours _ c.loop-offer.lines _ (ap length c.as_slice.ensures) c.in-Some.ensures in
-    let more : length c.loop-offer.lines < length (offers_of c.args.platform.now) = slice_get_within (offers_of c.args.platform.now) (length c.loop-offer.lines) c.in-Some.offer (sym here) in
+    let here = offer_read c.args.those.now.platform.now _ _ c.pairs.ensures.pairs c.colours.ensures.colours _ c.loop-offer.lines _ (ap length c.as_slice.ensures) c.in-Some.ensures in
+    let more : length c.loop-offer.lines < length (offers_of c.args.those.now.platform.now) = slice_get_within (offers_of c.args.those.now.platform.now) (length c.loop-offer.lines) c.in-Some.offer (sym here) in
     omega (arith, more, c.in_ok-push_offer.ensures.longer c.if-not-branch.false)
 
 pub loop-offer-preserved : goal.loop-offer-preserved
 loop-offer-preserved c = record {
   so_far = λ ms stand.
-      let here = offer_read c.args.platform.now _ _ c.pairs.ensures.pairs c.colours.ensures.colours _ c.loop-offer.lines _ (ap length c.as_slice.ensures) c.in-Some.ensures in
+      let here = offer_read c.args.those.now.platform.now _ _ c.pairs.ensures.pairs c.colours.ensures.colours _ c.loop-offer.lines _ (ap length c.as_slice.ensures) c.in-Some.ensures in
       let one = c.in_ok-push_offer.ensures.more ms stand c.if-not-branch.false in
-      one_offer (IsOfferLineGiven c.args.whole ms) (offers_of c.args.platform.now) c.loop-offer.lines _ c.in-Some.offer one.line (sym here) one.added (c.loop-offer.invariant.so_far ms stand) one.is;
-  alone = c.push_offer.ensures.alone;
-  named = c.push_offer.ensures.named;
+      one_offer (IsOfferLineGiven c.args.those.now.whole ms) (offers_of c.args.those.now.platform.now) c.loop-offer.lines _ c.in-Some.offer one.line (sym here) one.added (c.loop-offer.invariant.so_far ms stand) one.is;
+  learnt = c.push_offer.ensures.learnt;
+  named = c.in_ok-push_offer.ensures.named;
   asked = c.push_offer.ensures.asked;
   last = λ ms stand image last at.
       let one = c.in_ok-push_offer.ensures.more ms stand c.if-not-branch.false in
-      subst (IsOfferLineGiven c.args.whole ms c.in-Some.offer) (last_pushed c.loop-offer.lines _ one.line last one.added at) one.is;
+      subst (IsOfferLineGiven c.args.those.now.whole ms c.in-Some.offer) (last_pushed c.loop-offer.lines _ one.line last one.added at) one.is;
 }
 
 pub returns-clause-lines : goal.returns-clause-lines
 returns-clause-lines c = λ ms stand.
-    let past = offer_read c.args.platform.now _ _ c.pairs.ensures.pairs c.colours.ensures.colours _ c.loop-offer.lines _ (ap length c.as_slice.ensures) c.in_default.ensures in
-    subst (AllZip (IsOfferLineGiven c.args.whole ms) (offers_of c.args.platform.now)) (sym c.in_ok-fitted.ensures)
-    (all_offers (IsOfferLineGiven c.args.whole ms) (offers_of c.args.platform.now) c.loop-offer.lines (sym past) (c.loop-offer.invariant.so_far ms stand))
+    let past = offer_read c.args.those.now.platform.now _ _ c.pairs.ensures.pairs c.colours.ensures.colours _ c.loop-offer.lines _ (ap length c.as_slice.ensures) c.in_default.ensures in
+    subst (AllZip (IsOfferLineGiven c.args.those.now.whole ms) (offers_of c.args.those.now.platform.now)) (sym c.in_ok-fitted.ensures)
+    (all_offers (IsOfferLineGiven c.args.those.now.whole ms) (offers_of c.args.those.now.platform.now) c.loop-offer.lines (sym past) (c.loop-offer.invariant.so_far ms stand))

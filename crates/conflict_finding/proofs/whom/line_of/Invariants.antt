@@ -7,6 +7,6 @@ use Rattle.conflict_finding.proofs.whom.line_of.Given as goal
 
 abbrev pub invariant-loop-node : goal.invariant-loop-node
 invariant-loop-node l = record {
-  alone : AreAlone l.tree.nodes l.alone;
-  paths : l.paths ≡ map (λ m. m.path) (members_named l.whom (members_at l.tree.nodes (take l.node-index l.nodes)));
+  alone : AreAlone l.those.tree.now.nodes l.alone;
+  paths : l.paths ≡ map (λ m. m.path) (members_named l.whom (members_at l.those.tree.now.nodes (take l.node-index l.those.nodes.now)));
 }
