@@ -1,16 +1,17 @@
 //! Single changes that make an empty decision one that chooses, found by trying each.
 
-ghost use Rattle.std.specs.Prelude.{map};
+ghost use Rattle.std.specs.Prelude.{[], ◌∷◌, map};
 ghost use Rattle.std.specs.String.{string_bytes};
 ghost use Rattle.script_reading.specs.Seen.{call_seen};
-ghost use Rattle.constraint_changes.specs.Edited.{IsPromised};
+ghost use Rattle.serde_json.specs.View.{view};
+ghost use Rattle.constraint_changes.specs.Edited.{IsPromised, IsTried};
 
 use crate::exchanges::try_exchanges;
 use crate::trials::{
-    Change, Group, Party, RestatedConstraints, Trial, TrialResult, are_sized, can_help,
-    change_leaves_none, entries_behind, has_groups, is_worth, leaves_none, parties_of, put_choice,
+    Group, Party, RestatedConstraints, Trial, TrialResult, are_sized, can_help, change_leaves_none,
+    entries_behind, has_groups, is_worth, leaves_none, parties_of, put_choice,
 };
-use constraint_edits::{Edit, changes, edited, is_absurd};
+use constraint_edits::{Change, Edit, changes, edited, is_absurd};
 use domain_reasons::{choices_in, room_needed};
 use explanation_text::{Items, Text, TextBuilder};
 use script_story::{Effort, Milestone, Story, asked_in};
@@ -232,6 +233,7 @@ fn try_change(
     let Some(change) = edited(alloc, value, edit, heaps)? else {
         return Ok(());
     };
+    let made = change.change;
     let (value_then, words) = change.into_parts();
     let stated = RestatedConstraints {
         place: trial.place,
@@ -244,6 +246,7 @@ fn try_change(
         return Ok(());
     };
     let found = TrialResult {
+        change: made,
         words,
         line,
         value: stated.into_value(),
@@ -252,7 +255,8 @@ fn try_change(
     put_found(search, group, trial, participant, edit, least)
 }
 
-/// Tells a change that helps, if it may be meant.
+/// Tells a change that helps, if it may be meant and its record is read as what it asks then.
+#[tactic(auto, using(crate::proofs::Promises::promised_alone))]
 fn put_found(
     search: &mut Search<'_, '_>,
     group: Group<'_, '_>,
@@ -261,15 +265,18 @@ fn put_found(
     edit: Edit,
     found: TrialResult,
 ) -> Result<(), AllocError>
-    requires { IsPromised trial.scenario.now.platform.now
-        (map call_seen trial.scenario.now.calls.now) trial.place trial.path.now
-        (string_bytes found.line) }
+    requires { IsTried trial.scenario.now.platform.now
+        (map call_seen trial.scenario.now.calls.now) trial.place (view found.value)
+        trial.path.now (string_bytes found.line) }
 {
     if is_absurd(&found.line, search.is_sized) {
         search.absurd = search.absurd.saturating_add(1);
         return Ok(());
     }
     let alloc = search.found.alloc();
+    if !trial.is_edit(alloc, &found.change, &found.value)? {
+        return Ok(());
+    }
     let choice = choices_in(alloc, group.story, group.root, &found.line)?;
     let who = group.who_changes(alloc, participant, edit, &found.value)?;
     let label = search.label();
@@ -290,7 +297,7 @@ fn leaves_none_unstated(
     if !can_help(search.parties, participant.node) {
         return Ok(Some(true));
     }
-    let change = Change { edit, amount: None };
+    let change = Change::plain(edit, None);
     change_leaves_none(alloc, group, search.parties, participant, change)
 }
 
@@ -336,8 +343,8 @@ fn put_change(
     found: TrialResult,
 )
     requires { IsPromised trial.scenario.now.platform.now
-        (map call_seen trial.scenario.now.calls.now) trial.place trial.path.now
-        (string_bytes found.line) }
+        (map call_seen trial.scenario.now.calls.now) ((trial.place, found.change ∷ []) ∷ [])
+        trial.path.now (string_bytes found.line) }
 {
     let mut words = TextBuilder::of_text(items.alloc(), who);
     words.put(": ").put_text(&found.words);

@@ -3,11 +3,12 @@
 ghost use Rattle.std.specs.Prelude.{map, IfOk, IfSome};
 ghost use Rattle.std.specs.String.{string_bytes};
 ghost use Rattle.script_reading.specs.Seen.{call_seen};
-ghost use Rattle.constraint_changes.specs.Edited.{IsPromisedSo};
+ghost use Rattle.constraint_changes.specs.Edited.{IsPromisedExchanged};
 
 use crate::changes::Search;
 use crate::trials::{
-    Group, RestatedConstraints, chosen_with, leaves_none, put_choice, put_line, restated,
+    Exchange, Group, RestatedConstraints, chosen_with, exchanged_calls, leaves_none, put_choice,
+    put_exchanged,
 };
 use domain_reasons::{are_exchanged, choices_in};
 use explanation_text::{ListBuilder, TextBuilder};
@@ -106,40 +107,47 @@ fn try_exchange(
     partner: Partner<'_>,
 ) -> Result<(), AllocError> {
     let alloc = search.found.alloc();
-    let Some(stated) = exchanged(alloc, group.story, participant, partner.participant)? else {
+    let Some(exchange) = exchanged(alloc, group.story, participant, partner.participant)? else {
         return Ok(());
     };
-    for other in &stated {
+    for other in &exchange.stated {
         group.scenario.effort.change(other.place, 1);
     }
     search.tried = search.tried.saturating_add(1);
-    match outcome_of(alloc, search, group, partner, &stated)? {
-        Some(line) => write_exchange(search, group, participant, partner.participant, line),
+    match outcome_of(alloc, search, group, partner, &exchange)? {
+        Some(line) => write_exchange(
+            search,
+            group,
+            participant,
+            partner.participant,
+            &exchange,
+            line,
+        ),
         None => Ok(()),
     }
 }
 
-/// What the group's domain becomes where calls state these constraints, if it is chosen then, and
-/// the other participant's domain too.
+/// What the group's domain becomes by an exchange, if it is chosen then, and the other
+/// participant's domain too.
 fn outcome_of(
     alloc: Global,
     search: &Search<'_, '_>,
     group: Group<'_, '_>,
     partner: Partner<'_>,
-    stated: &[RestatedConstraints],
+    exchange: &Exchange,
 ) -> Result<Option<String>, AllocError>
-    ensures { IfOk result (λ said. IfSome said (λ what. IsPromisedSo
+    ensures { IfOk result (λ said. IfSome said (λ what. IsPromisedExchanged
         group.entry.scenario.now.platform.now (map call_seen group.entry.scenario.now.calls.now)
-        group.entry.path.now (string_bytes what))) }
+        exchange.now.one exchange.now.other group.entry.path.now (string_bytes what))) }
 {
-    if leaves_none(alloc, group, search.parties, stated)? {
+    if leaves_none(alloc, group, search.parties, &exchange.stated)? {
         return Ok(None);
     }
-    let Some(line) = outcome(alloc, group.scenario, stated, group.path)? else {
+    let Some(line) = outcome(alloc, group.scenario, exchange, group.path)? else {
         return Ok(None);
     };
     let path = group.story.path(group.story.root_of(partner.domain));
-    match outcome(alloc, group.scenario, stated, path)? {
+    match outcome(alloc, group.scenario, exchange, path)? {
         Some(_) => Ok(Some(line)),
         None => Ok(None),
     }
@@ -151,15 +159,17 @@ fn write_exchange(
     group: Group<'_, '_>,
     participant: NamedParticipant<'_>,
     other: NamedParticipant<'_>,
+    exchange: &Exchange,
     line: String,
 ) -> Result<(), AllocError>
-    requires { IsPromisedSo group.scenario.now.platform.now
-        (map call_seen group.scenario.now.calls.now) group.path.now (string_bytes line) }
+    requires { IsPromisedExchanged group.scenario.now.platform.now
+        (map call_seen group.scenario.now.calls.now) exchange.now.one exchange.now.other
+        group.path.now (string_bytes line) }
 {
     let alloc = search.found.alloc();
     let choice = choices_in(alloc, group.story, group.root, &line)?;
     put_exchange(search, group, participant, other)?;
-    put_line(&mut search.found, group, 3, line);
+    put_exchanged(&mut search.found, group, 3, exchange, line);
     put_choice(&mut search.found, 3, choice);
     Ok(())
 }
@@ -183,14 +193,13 @@ fn put_exchange(
     Ok(())
 }
 
-/// What two participants' calls state once their constraints are exchanged; `None` where they are
-/// the same.
+/// The exchange of two participants' constraints; `None` where they are the same.
 fn exchanged(
     alloc: Global,
     story: &Story<'_>,
     participant: NamedParticipant<'_>,
     other: NamedParticipant<'_>,
-) -> Result<Option<Vec<RestatedConstraints>>, AllocError> {
+) -> Result<Option<Exchange>, AllocError> {
     let (Some(mine), Some(its)) = (participant.stated, other.stated) else {
         return Ok(None);
     };
@@ -202,35 +211,37 @@ fn exchanged(
     if participant.asked.is_same(other.asked) {
         return Ok(None);
     }
+    let (one, other) = (first.saturating_sub(1), second.saturating_sub(1));
     let mut stated = Vec::new(alloc);
-    add_stated(&mut stated, first, its)?;
-    add_stated(&mut stated, second, mine)?;
-    Ok(Some(stated))
+    add_stated(&mut stated, one, its)?;
+    add_stated(&mut stated, other, mine)?;
+    Ok(Some(Exchange { one, other, stated }))
 }
 
-/// Adds that the call of a number states constraints.
+/// Adds that the call at a place states constraints.
 fn add_stated(
     stated: &mut Vec<RestatedConstraints>,
-    number: usize,
+    place: usize,
     value: &Value,
 ) -> Result<(), AllocError> {
-    let place = number.saturating_sub(1);
     let value = value.clone()?;
     stated.push(RestatedConstraints { place, value })?;
     Ok(())
 }
 
-/// What the domain at a path becomes where calls state these constraints, if it is chosen then.
+/// What the domain at a path becomes by an exchange, if it is chosen then.
 fn outcome(
     alloc: Global,
     scenario: &Scenario<'_>,
-    stated: &[RestatedConstraints],
+    exchange: &Exchange,
     path: &str,
 ) -> Result<Option<String>, AllocError>
-    ensures { IfOk result (λ said. IfSome said (λ what. IsPromisedSo
-        scenario.now.platform.now (map call_seen scenario.now.calls.now) path.now
-        (string_bytes what))) }
+    ensures { IfOk result (λ said. IfSome said (λ what. IsPromisedExchanged
+        scenario.now.platform.now (map call_seen scenario.now.calls.now) exchange.now.one
+        exchange.now.other path.now (string_bytes what))) }
 {
-    let calls = restated(alloc, scenario.calls, stated)?;
-    chosen_with(alloc, scenario, &calls, path)
+    match exchanged_calls(alloc, scenario.calls, exchange.one, exchange.other)? {
+        Some(calls) => chosen_with(alloc, scenario, &calls, path),
+        None => Ok(None),
+    }
 }

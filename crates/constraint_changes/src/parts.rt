@@ -1,8 +1,10 @@
 //! Changes that are made together.
 
-use crate::trials::{Change, asked_after, read_asked};
+use crate::trials::{EditedCall, asked_after};
 use crate::walk::Run;
-use constraint_edits::{Amount, Edit, EditedConstraints, edited, edited_to, leave_out};
+use constraint_edits::{
+    Amount, Change, Edit, EditedConstraints, edited, edited_to, leave_out, read_asked,
+};
 use explanation_text::ListBuilder;
 use negotiation_inputs::Constraints;
 use serde_json::{Value, put};
@@ -112,10 +114,7 @@ pub(crate) fn asked_with(
 ) -> Result<Option<Constraints>, AllocError> {
     let mut changes = ListBuilder::new(alloc);
     for part in own {
-        changes.add(Change {
-            edit: part.edit,
-            amount: part.amount,
-        });
+        changes.add(Change::plain(part.edit, part.amount));
     }
     let changes = changes.done()?;
     if let Some(asked) = asked_after(alloc, participant, &changes)? {
@@ -146,6 +145,48 @@ pub(crate) fn after(
         }
     }
     Ok(now)
+}
+
+/// The call at a place, of which those of some changes are made that are a participant's own, who
+/// states this record.
+pub(crate) fn edited_call(
+    alloc: Global,
+    place: usize,
+    value: &Value,
+    own: &[PartyChange],
+    heaps: &[HeapInfo],
+) -> Result<EditedCall, AllocError> {
+    let mut now = value.clone()?;
+    let mut changes = Vec::new(alloc);
+    for part in own {
+        if let Some(change) = change_by(alloc, &now, *part, heaps)? {
+            changes.push(change)?;
+        }
+        make(alloc, &mut now, *part, heaps)?;
+    }
+    Ok(EditedCall {
+        place,
+        changes,
+        value: now,
+    })
+}
+
+/// What a part changes of what a record states; `None` where that is so already.
+fn change_by(
+    alloc: Global,
+    now: &Value,
+    part: PartyChange,
+    heaps: &[HeapInfo],
+) -> Result<Option<Change>, AllocError> {
+    match part.edit {
+        Edit::Supports(_) | Edit::NoCount(_) | Edit::NoMemory(_) | Edit::NoBound(_) => {
+            Ok(Some(Change::plain(part.edit, part.amount)))
+        }
+        _ => match part.changed(alloc, now, heaps)? {
+            Some(changed) => Ok(Some(changed.change)),
+            None => Ok(None),
+        },
+    }
 }
 
 /// Makes a change of constraints.

@@ -3,15 +3,16 @@
 ghost use Rattle.std.specs.Prelude.{map, IfOk, IfSome};
 ghost use Rattle.std.specs.String.{string_bytes};
 ghost use Rattle.script_reading.specs.Seen.{call_seen};
-ghost use Rattle.constraint_changes.specs.Edited.{IsPromisedSo};
+ghost use Rattle.constraint_changes.specs.Edited.{IsPromised, IsPromisedSo, edits_of};
 
 use crate::known::{RecordCache, RestatedParticipants};
 use crate::parts::{
-    PartyChange, after, all_but, asked_with, has_own, own_of, set_amount, takes_cpu, with_cpu,
+    PartyChange, after, all_but, asked_with, edited_call, has_own, own_of, set_amount, takes_cpu,
+    with_cpu,
 };
 use crate::trials::{
-    Group, MOST_HALVINGS, Party, ReadRecord, RestatedConstraints, are_sized, chosen_with, is_worth,
-    leave_none, parties_of, put_choice, put_line, restated,
+    EditedCall, Group, MOST_HALVINGS, Party, Promise, ReadRecord, RestatedConstraints, are_sized,
+    chosen_with, edited_calls, is_worth, leave_none, parties_of, put_choice, put_promise, restated,
 };
 use crate::walk::{Run, Walk};
 use constraint_edits::{Amount, Edit, Halving, changes, is_absurd};
@@ -521,6 +522,65 @@ impl CombinedChange<'_, '_> {
         Ok(())
     }
 
+    /// What is promised of some changes: the decision that comes by them, if one is chosen with a
+    /// row that may be meant, and each record is read as what is asked after its changes.
+    fn promise(&self, alloc: Global, parts: &[PartyChange]) -> Result<Option<Promise>, AllocError>
+        ensures { IfOk result (λ made. IfSome made (λ promise. IsPromised
+            self.now.group.scenario.now.platform.now
+            (map call_seen self.now.group.scenario.now.calls.now) (edits_of promise.edits.items)
+            self.now.group.path.now (string_bytes promise.line))) }
+    {
+        if self.leave_none_after(alloc, parts)? || self.group.scenario.effort.is_spent() {
+            return Ok(None);
+        }
+        let edits = self.edits(alloc, parts)?;
+        match self.line_by(alloc, &edits)? {
+            Some(line) => Ok(Some(Promise { edits, line })),
+            None => Ok(None),
+        }
+    }
+
+    /// The decision that comes where calls state edited records.
+    fn line_by(&self, alloc: Global, edits: &[EditedCall]) -> Result<Option<String>, AllocError>
+        ensures { IfOk result (λ said. IfSome said (λ what. IsPromised
+            self.now.group.scenario.now.platform.now
+            (map call_seen self.now.group.scenario.now.calls.now) (edits_of edits.now)
+            self.now.group.path.now (string_bytes what))) }
+    {
+        let scenario = self.group.scenario;
+        let heaps = scenario.platform.heaps();
+        let Some(calls) = edited_calls(alloc, heaps, scenario.calls, edits)? else {
+            return Ok(None);
+        };
+        match chosen_with(alloc, scenario, &calls, self.group.path)? {
+            Some(line) if !is_absurd(&line, false) => Ok(Some(line)),
+            _ => Ok(None),
+        }
+    }
+
+    /// The call of each participant of whom some changes are.
+    fn edits(&self, alloc: Global, parts: &[PartyChange]) -> Result<Vec<EditedCall>, AllocError> {
+        let mut edits = Vec::new(alloc);
+        for (person, one) in self.group.participants.iter().enumerate() {
+            let number = self
+                .group
+                .story
+                .milestone(one.node, Milestone::SetConstraints);
+            if !has_own(parts, person) {
+                continue;
+            }
+            if let (Some(number), Some(value)) = (number, one.stated) {
+                let own = own_of(alloc, parts, person)?;
+                let place = number.saturating_sub(1);
+                let scenario = self.group.scenario;
+                scenario.effort.change(place, 1);
+                let heaps = scenario.platform.heaps();
+                edits.push(edited_call(alloc, place, value, &own, heaps)?)?;
+            }
+        }
+        Ok(edits)
+    }
+
     /// Tells changes, and the decision that comes by them.
     fn tell(
         &self,
@@ -529,15 +589,15 @@ impl CombinedChange<'_, '_> {
         before: &str,
     ) -> Result<(), AllocError> {
         let alloc = items.alloc();
-        let Some(line) = self.outcome(alloc, parts)? else {
+        let Some(promise) = self.promise(alloc, parts)? else {
             return Ok(());
         };
-        if is_absurd(&line, are_sized(self.group.participants)) {
+        if is_absurd(&promise.line, are_sized(self.group.participants)) {
             return Ok(());
         }
         self.put_parts(items, parts, before)?;
-        let choice = choices_in(alloc, self.group.story, self.group.root, &line)?;
-        put_line(items, self.group, 2, line);
+        let choice = choices_in(alloc, self.group.story, self.group.root, &promise.line)?;
+        put_promise(items, self.group, 2, promise);
         put_choice(items, 2, choice);
         Ok(())
     }

@@ -1,0 +1,5 @@
+pub mod Drafts
+pub mod Edited
+pub mod EditedBounds
+pub mod EditedNumbers
+pub mod EditedRecords

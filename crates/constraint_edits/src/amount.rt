@@ -1,7 +1,11 @@
 //! The value of a field of constraints, and values between two.
 
-use crate::edits::{Edit, EditedConstraints};
-use crate::objects::{ENTRIES, MEMORY, entries_of, exact_value, values_in, with};
+ghost use Rattle.std.specs.Prelude.{◌≡◌, Some, IfOk, IfSome};
+
+use crate::applying::asks;
+use crate::change::Change;
+use crate::edits::{Edit, EditedConstraints, EditedRecord};
+use crate::objects::{ENTRIES, MEMORY, each_once, entries_of, exact_value, with};
 use explanation_text::{ListBuilder, TextBuilder};
 use serde_json::Value;
 use std::alloc::{AllocError, Global};
@@ -145,39 +149,70 @@ pub(crate) fn amount_of(value: &Value) -> Option<Amount> {
     Some(Amount::Sides(width, height))
 }
 
-/// The value of the field that a change leaves out: of a bound that of the first entry that has it.
+/// The value of the field that a change leaves out: of a bound that of the first entry that asks for
+/// something by it.
 pub(crate) fn amount_in(value: &Value, edit: Edit) -> Option<Amount> {
     match edit {
         Edit::NoCount(field) => amount_of(value.get(field.name())?),
         Edit::NoMemory(field) => amount_of(value.get(MEMORY)?.get(field.name())?),
-        Edit::NoBound(field) => amount_of(first_bound(value, field.name())?),
+        Edit::NoBound(field) => amount_of(first_bound(value, field)?),
         _ => None,
     }
 }
 
-/// The value of a bound in the first entry that has it.
-fn first_bound<'a>(value: &'a Value, key: &str) -> Option<&'a Value> {
+/// The value of a bound in the first entry that asks for something by it.
+fn first_bound<'a>(value: &'a Value, field: Field) -> Option<&'a Value> {
     for entry in entries_of(value) {
-        if let Some(bound) = entry.get(key) {
+        if let Some(bound) = asked_bound(entry, field) {
             return Some(bound);
         }
     }
     None
 }
 
+/// The value of a bound by which an entry asks for something; `None` where it states none, or what
+/// the bound is where it isn't stated.
+fn asked_bound<'a>(entry: &'a Value, field: Field) -> Option<&'a Value> {
+    let bound = entry.get(field.name())?;
+    match amount_of(bound) {
+        Some(amount) => {
+            if asks(field, amount) {
+                Some(bound)
+            } else {
+                None
+            }
+        }
+        None => Some(bound),
+    }
+}
+
+/// The values in short of a bound by which entries ask for something, each once.
+fn asked_bounds(alloc: Global, entries: &[Value], field: Field) -> Result<TextBuilder, AllocError> {
+    let mut bounds = Vec::new(alloc);
+    for entry in entries {
+        if let Some(bound) = asked_bound(entry, field) {
+            bounds.push(bound)?;
+        }
+    }
+    each_once(alloc, &bounds)
+}
+
 /// The constraints with another value of the field that a change leaves out, of a bound in each
-/// entry that has it.
+/// entry that asks for something by it.
 pub(crate) fn with_amount(
     alloc: Global,
     value: &Value,
     edit: Edit,
     stated: Amount,
     amount: Amount,
-) -> Result<EditedConstraints, AllocError> {
+) -> Result<EditedConstraints, AllocError>
+    ensures { IfOk result (λ made. made.change
+        ≡ record { edit = edit; amount = Some amount; start = 0; end = 0 }) }
+{
     let left_out = edit.left_out();
     let name = left_out.map_or("", Field::name);
     let changed = match edit {
-        Edit::NoBound(_) => with_bound(alloc, value, name, amount)?,
+        Edit::NoBound(field) => with_bound(alloc, value, field, amount)?,
         Edit::NoMemory(_) => {
             let memory = with(alloc, value.get(MEMORY), name, amount.value(alloc)?)?;
             with(alloc, Some(value), MEMORY, memory)?
@@ -190,14 +225,15 @@ pub(crate) fn with_amount(
     }
     words.put(" ");
     match edit {
-        Edit::NoBound(_) => words.put_words(&values_in(alloc, entries_of(value), name)?),
+        Edit::NoBound(field) => words.put_words(&asked_bounds(alloc, entries_of(value), field)?),
         _ => words.put_number(stated),
     };
     words.put(" becomes ").put_number(amount);
-    Ok(EditedConstraints {
+    let made = EditedRecord {
         value: changed,
         words: words.into_text()?,
-    })
+    };
+    Ok(made.by(Change::plain(edit, Some(amount))))
 }
 
 /// The constraints with another value of the field that a change would leave out; `None` where it
@@ -207,7 +243,10 @@ pub fn edited_to(
     value: &Value,
     edit: Edit,
     amount: Amount,
-) -> Result<Option<EditedConstraints>, AllocError> {
+) -> Result<Option<EditedConstraints>, AllocError>
+    ensures { IfOk result (λ made. IfSome made (λ changed. changed.change
+        ≡ record { edit = edit; amount = Some amount; start = 0; end = 0 })) }
+{
     match amount_in(value, edit) {
         Some(stated) => Ok(Some(with_amount(alloc, value, edit, stated, amount)?)),
         None => Ok(None),
@@ -217,25 +256,25 @@ pub fn edited_to(
 fn with_bound(
     alloc: Global,
     value: &Value,
-    key: &str,
+    field: Field,
     amount: Amount,
 ) -> Result<Value, AllocError> {
     let mut copy = ListBuilder::new(alloc);
     for entry in entries_of(value) {
-        copy.add(entry_with(alloc, entry, key, amount)?);
+        copy.add(entry_with(alloc, entry, field, amount)?);
     }
     with(alloc, Some(value), ENTRIES, Value::Array(copy.done()?))
 }
 
-/// An entry with another value of a bound, if it has that bound.
+/// An entry with another value of a bound, if it asks for something by it.
 fn entry_with(
     alloc: Global,
     entry: &Value,
-    key: &str,
+    field: Field,
     amount: Amount,
 ) -> Result<Value, AllocError> {
-    if entry.get(key).is_none() {
+    if asked_bound(entry, field).is_none() {
         return entry.clone();
     }
-    with(alloc, Some(entry), key, amount.value(alloc)?)
+    with(alloc, Some(entry), field.name(), amount.value(alloc)?)
 }

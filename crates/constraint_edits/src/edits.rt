@@ -1,8 +1,10 @@
 //! Constraints with one field changed.
 
-ghost use Rattle.std.specs.Prelude.{◌≡◌, IfOk};
+ghost use Rattle.std.specs.Prelude.{◌≡◌, IfOk, IfSome};
 
+use crate::change::Change;
 use crate::exchanging::{exchanged, exchanges};
+use crate::locating::change_of;
 use crate::objects::{ENTRIES, MEMORY, entries_of, have, lacking, values_in, with, words_without};
 use crate::permitting::{meaning, means, permits_more, permitting};
 use crate::taking::{lacks_colour, putting_first, taking_colour, taking_pair};
@@ -117,33 +119,25 @@ pub fn edits_on(
     Ok(edits)
 }
 
-/// Constraints after a change, with what is changed in words.
-pub struct EditedConstraints {
-    pub value: Value,
-    pub words: Text,
+/// A record of constraints after an edit, with what is changed in words.
+pub(crate) struct EditedRecord {
+    pub(crate) value: Value,
+    pub(crate) words: Text,
 }
 
-impl Drop for EditedConstraints {
+impl Drop for EditedRecord {
     fn drop(self) {
-        let EditedConstraints { value: _, words: _ } = self;
+        let EditedRecord { value: _, words: _ } = self;
     }
 }
 
-impl EditedConstraints {
-    /// The constraints alone.
-    pub fn into_value(self) -> Value
-        ensures { result ≡ self.value }
-    {
-        let EditedConstraints { value, words: _ } = self;
-        value
-    }
-
+impl EditedRecord {
     /// The constraints, and what is changed.
-    pub fn into_parts(self) -> (Value, Text)
+    pub(crate) fn into_parts(self) -> (Value, Text)
         ensures value { result.0 ≡ self.value }
         ensures words { result.1 ≡ self.words }
     {
-        let EditedConstraints { value, words } = self;
+        let EditedRecord { value, words } = self;
         (value, words)
     }
 
@@ -152,22 +146,94 @@ impl EditedConstraints {
         self,
         alloc: Global,
         constraints: &Value,
-    ) -> Result<EditedConstraints, AllocError>
+    ) -> Result<EditedRecord, AllocError>
         ensures { IfOk result (λ made. made.words ≡ self.words) }
     {
         let (memory, words) = self.into_parts();
         let value = with(alloc, Some(constraints), MEMORY, memory)?;
-        Ok(EditedConstraints { value, words })
+        Ok(EditedRecord { value, words })
+    }
+
+    /// The same, of this change.
+    pub(crate) fn by(self, change: Change) -> EditedConstraints
+        ensures change { result.change ≡ change }
+        ensures value { result.value ≡ self.value }
+        ensures words { result.words ≡ self.words }
+    {
+        let (value, words) = self.into_parts();
+        EditedConstraints {
+            change,
+            value,
+            words,
+        }
     }
 }
 
-/// The constraints with a change, on a platform with these heaps; `None` where they are so already.
+/// A change, the record of the constraints after it, and what is changed in words.
+pub struct EditedConstraints {
+    pub change: Change,
+    pub value: Value,
+    pub words: Text,
+}
+
+impl Drop for EditedConstraints {
+    fn drop(self) {
+        let EditedConstraints {
+            change: _,
+            value: _,
+            words: _,
+        } = self;
+    }
+}
+
+impl EditedConstraints {
+    /// The constraints alone.
+    pub fn into_value(self) -> Value
+        ensures { result ≡ self.value }
+    {
+        let EditedConstraints {
+            change: _,
+            value,
+            words: _,
+        } = self;
+        value
+    }
+
+    /// The constraints, and what is changed.
+    pub fn into_parts(self) -> (Value, Text)
+        ensures value { result.0 ≡ self.value }
+        ensures words { result.1 ≡ self.words }
+    {
+        let EditedConstraints {
+            change: _,
+            value,
+            words,
+        } = self;
+        (value, words)
+    }
+}
+
+/// The constraints with an edit, on a platform with these heaps; `None` where they are so already.
 pub fn edited(
     alloc: Global,
     value: &Value,
     edit: Edit,
     heaps: &[HeapInfo],
-) -> Result<Option<EditedConstraints>, AllocError> {
+) -> Result<Option<EditedConstraints>, AllocError>
+    ensures { IfOk result (λ made. IfSome made (λ changed. changed.change.edit ≡ edit)) }
+{
+    match record_after(alloc, value, edit, heaps)? {
+        Some(made) => Ok(Some(made.by(change_of(alloc, value, edit, heaps)?))),
+        None => Ok(None),
+    }
+}
+
+fn record_after(
+    alloc: Global,
+    value: &Value,
+    edit: Edit,
+    heaps: &[HeapInfo],
+) -> Result<Option<EditedRecord>, AllocError> {
     match edit {
         Edit::MeansHeap(index) => meaning(alloc, value, heaps, index),
         Edit::Exchanges(least, most) => exchanged(alloc, value, least, most),
@@ -219,7 +285,7 @@ fn supporting(
     alloc: Global,
     value: &Value,
     field: Field,
-) -> Result<Option<EditedConstraints>, AllocError> {
+) -> Result<Option<EditedRecord>, AllocError> {
     let key = field.name();
     let was = match memory_of(value, key) {
         Some(Value::Bool(true)) => return Ok(None),
@@ -230,7 +296,7 @@ fn supporting(
     let object = with(alloc, value.get(MEMORY), key, Value::Bool(true))?;
     let mut words = TextBuilder::new(alloc);
     words.field(field).put(" ").put(was).put(" becomes true");
-    Ok(Some(EditedConstraints {
+    Ok(Some(EditedRecord {
         value: with(alloc, Some(value), MEMORY, object)?,
         words: words.into_text()?,
     }))
@@ -241,16 +307,12 @@ fn memory_of<'a>(value: &'a Value, key: &str) -> Option<&'a Value> {
     value.get(MEMORY)?.get(key)
 }
 
-fn without(
-    alloc: Global,
-    value: &Value,
-    field: Field,
-) -> Result<Option<EditedConstraints>, AllocError> {
+fn without(alloc: Global, value: &Value, field: Field) -> Result<Option<EditedRecord>, AllocError> {
     let key = field.name();
     let Some(member) = value.get(key) else {
         return Ok(None);
     };
-    Ok(Some(EditedConstraints {
+    Ok(Some(EditedRecord {
         value: lacking(alloc, value, key)?,
         words: words_without(alloc, field, member).into_text()?,
     }))
@@ -260,7 +322,7 @@ fn without_memory(
     alloc: Global,
     value: &Value,
     field: Field,
-) -> Result<Option<EditedConstraints>, AllocError> {
+) -> Result<Option<EditedRecord>, AllocError> {
     let Some(memory) = value.get(MEMORY) else {
         return Ok(None);
     };
@@ -274,7 +336,7 @@ fn without_bound(
     alloc: Global,
     value: &Value,
     field: Field,
-) -> Result<Option<EditedConstraints>, AllocError> {
+) -> Result<Option<EditedRecord>, AllocError> {
     let key = field.name();
     if !have(value, key) {
         return Ok(None);
@@ -295,11 +357,11 @@ pub(crate) fn with_entries(
     value: &Value,
     entries: Vec<Value>,
     words: Text,
-) -> Result<Option<EditedConstraints>, AllocError> {
+) -> Result<Option<EditedRecord>, AllocError> {
     if words.is_empty() {
         return Ok(None);
     }
-    Ok(Some(EditedConstraints {
+    Ok(Some(EditedRecord {
         value: with(alloc, Some(value), ENTRIES, Value::Array(entries))?,
         words,
     }))

@@ -1,7 +1,7 @@
 //! Constraints that contradict themselves, with a least and a greatest value exchanged.
 
 use crate::amount::amount_of;
-use crate::edits::{EditedConstraints, with_entries};
+use crate::edits::{EditedRecord, with_entries};
 use crate::objects::{MEMORY, entries_of, have, with};
 use explanation_text::{ListBuilder, Text, TextBuilder};
 use serde_json::Value;
@@ -15,7 +15,7 @@ pub(crate) fn exchanged(
     value: &Value,
     least: Field,
     most: Field,
-) -> Result<Option<EditedConstraints>, AllocError> {
+) -> Result<Option<EditedRecord>, AllocError> {
     if let Some(change) = exchanged_in(alloc, value, least, most)? {
         return Ok(Some(change));
     }
@@ -48,7 +48,7 @@ fn exchanged_in(
     object: &Value,
     least: Field,
     most: Field,
-) -> Result<Option<EditedConstraints>, AllocError> {
+) -> Result<Option<EditedRecord>, AllocError> {
     let found = (object.get(least.name()), object.get(most.name()));
     let (Some(low), Some(high)) = found else {
         return Ok(None);
@@ -63,7 +63,7 @@ fn exchanged_in(
     let mut words = TextBuilder::new(alloc);
     words.field(least).put(" ").put_number(a).put(" and ");
     words.field(most).put(" ").put_number(b).put(" exchanged");
-    Ok(Some(EditedConstraints {
+    Ok(Some(EditedRecord {
         value: with(alloc, Some(&lowered), most.name(), low.clone()?)?,
         words: words.into_text()?,
     }))

@@ -11,16 +11,22 @@
 #![tactic(auto)]
 
 mod amount;
+mod applying;
+mod change;
 mod edits;
 mod exchanging;
 mod halving;
 mod leaving;
+mod locating;
 mod objects;
 mod permitting;
+mod reading;
 mod taking;
 mod using;
 
 pub use amount::{Amount, edited_to};
+pub use change::{Change, apply_all};
 pub use edits::{Edit, EditedConstraints, changes, edited, edits_on};
 pub use halving::{Halving, is_absurd};
 pub use leaving::leave_out;
+pub use reading::{is_edited, read_asked};

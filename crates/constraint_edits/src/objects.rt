@@ -98,15 +98,24 @@ pub(crate) fn values_in(
     entries: &[Value],
     key: &str,
 ) -> Result<TextBuilder, AllocError> {
-    let mut texts: Vec<String> = Vec::new(alloc);
+    let mut members = Vec::new(alloc);
     for entry in entries {
         if let Some(member) = entry.get(key) {
-            let mut words = TextBuilder::new(alloc);
-            put_value(&mut words, member);
-            let text = words.done()?;
-            if !texts.contains(&text) {
-                texts.push(text)?;
-            }
+            members.push(member)?;
+        }
+    }
+    each_once(alloc, &members)
+}
+
+/// Values in short, each once.
+pub(crate) fn each_once(alloc: Global, values: &[&Value]) -> Result<TextBuilder, AllocError> {
+    let mut texts: Vec<String> = Vec::new(alloc);
+    for value in values {
+        let mut words = TextBuilder::new(alloc);
+        put_value(&mut words, value);
+        let text = words.done()?;
+        if !texts.contains(&text) {
+            texts.push(text)?;
         }
     }
     let mut names = ListBuilder::new(alloc);

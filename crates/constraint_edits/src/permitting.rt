@@ -1,6 +1,6 @@
 //! Constraints that permit a heap more, or another in the place of one that nearly has its name.
 
-use crate::edits::EditedConstraints;
+use crate::edits::EditedRecord;
 use crate::objects::{MEMORY, exact_value, text_value, with};
 use explanation_text::{ListBuilder, TextBuilder, nearest};
 use serde_json::Value;
@@ -80,7 +80,7 @@ pub(crate) fn permitting(
     alloc: Global,
     value: &Value,
     info: Option<&HeapInfo>,
-) -> Result<Option<EditedConstraints>, AllocError> {
+) -> Result<Option<EditedRecord>, AllocError> {
     let Some(info) = info else {
         return Ok(None);
     };
@@ -105,9 +105,9 @@ fn permitted(
     value: &Value,
     list: Vec<Value>,
     words: TextBuilder,
-) -> Result<Option<EditedConstraints>, AllocError> {
+) -> Result<Option<EditedRecord>, AllocError> {
     let memory = with(alloc, value.get(MEMORY), HEAPS, Value::Array(list))?;
-    Ok(Some(EditedConstraints {
+    Ok(Some(EditedRecord {
         value: with(alloc, Some(value), MEMORY, memory)?,
         words: words.into_text()?,
     }))
@@ -130,6 +130,23 @@ fn near_in(
     Ok(None)
 }
 
+/// The place in the list of permitted heaps of the one that nearly has the name of the heap of an
+/// index; 0 where none has.
+pub(crate) fn place_meant(
+    alloc: Global,
+    value: &Value,
+    heaps: &[HeapInfo],
+    index: usize,
+) -> Result<usize, AllocError> {
+    let Some(info) = heaps.get(index) else {
+        return Ok(0);
+    };
+    let Some(list) = others_than(value, &info.heap) else {
+        return Ok(0);
+    };
+    Ok(near_in(alloc, list, &info.heap, heaps)?.unwrap_or(0))
+}
+
 /// The constraints with the heap of an index in the place of one that nearly has its name and isn't
 /// there; `None` where none is.
 pub(crate) fn meaning(
@@ -137,7 +154,7 @@ pub(crate) fn meaning(
     value: &Value,
     heaps: &[HeapInfo],
     index: usize,
-) -> Result<Option<EditedConstraints>, AllocError> {
+) -> Result<Option<EditedRecord>, AllocError> {
     let Some(info) = heaps.get(index) else {
         return Ok(None);
     };

@@ -1,7 +1,7 @@
 //! Constraints that take a colour space, or a format with a modifier, more, or have another entry
 //! first.
 
-use crate::edits::{EditedConstraints, with_entries};
+use crate::edits::{EditedRecord, with_entries};
 use crate::objects::{entries_of, lacking, text_value, with};
 use explanation_text::wording::put_few;
 use explanation_text::{ListBuilder, Text, TextBuilder};
@@ -32,7 +32,7 @@ pub(crate) fn taking_colour(
     alloc: Global,
     value: &Value,
     colour: &str,
-) -> Result<Option<EditedConstraints>, AllocError> {
+) -> Result<Option<EditedRecord>, AllocError> {
     let mut words = Text::new(alloc);
     let mut copy = ListBuilder::new(alloc);
     for entry in entries_of(value) {
@@ -86,7 +86,7 @@ pub(crate) fn taking_pair(
     alloc: Global,
     value: &Value,
     pair: Pair,
-) -> Result<Option<EditedConstraints>, AllocError> {
+) -> Result<Option<EditedRecord>, AllocError> {
     let entries = entries_of(value);
     let format = pair.format.name();
     let index = first_naming(entries, format);
@@ -103,7 +103,7 @@ pub(crate) fn taking_pair(
 }
 
 /// The index of the first entry that names a format as its own; 0 where none does.
-fn first_naming(entries: &[Value], format: &str) -> usize {
+pub(crate) fn first_naming(entries: &[Value], format: &str) -> usize {
     for (index, entry) in entries.iter().enumerate() {
         if names_format(entry, format) {
             return index;
@@ -126,7 +126,7 @@ pub(crate) fn putting_first(
     alloc: Global,
     value: &Value,
     index: usize,
-) -> Result<Option<EditedConstraints>, AllocError> {
+) -> Result<Option<EditedRecord>, AllocError> {
     let entries = entries_of(value);
     let Some(entry) = entries.get(index) else {
         return Ok(None);

@@ -1,6 +1,6 @@
 //! Constraints of one whose buffers no CPU uses, or who asks for more of them.
 
-use crate::edits::EditedConstraints;
+use crate::edits::EditedRecord;
 use crate::objects::{exact_value, text_value, with};
 use explanation_text::TextBuilder;
 use serde_json::Value;
@@ -14,7 +14,7 @@ const USAGE: &str = "usage";
 pub(crate) fn without_cpu(
     alloc: Global,
     value: &Value,
-) -> Result<Option<EditedConstraints>, AllocError> {
+) -> Result<Option<EditedRecord>, AllocError> {
     let Some(usages) = value.get(USAGE).and_then(Value::as_array) else {
         return Ok(None);
     };
@@ -33,7 +33,7 @@ pub(crate) fn without_cpu(
     } else {
         "usage without cpu"
     };
-    Ok(Some(EditedConstraints {
+    Ok(Some(EditedRecord {
         value: with(alloc, Some(value), USAGE, Value::Array(others))?,
         words: TextBuilder::of(alloc, words).into_text()?,
     }))
@@ -75,7 +75,7 @@ pub(crate) fn asking_for(
     alloc: Global,
     value: &Value,
     count: u32,
-) -> Result<Option<EditedConstraints>, AllocError> {
+) -> Result<Option<EditedRecord>, AllocError> {
     if asks_for(value, count) {
         return Ok(None);
     }
@@ -87,7 +87,7 @@ pub(crate) fn asking_for(
         None => words.put(" (absent)"),
     };
     words.put(" becomes ").put_number(count);
-    Ok(Some(EditedConstraints {
+    Ok(Some(EditedRecord {
         value: with(alloc, Some(value), name, exact_value(u64::from(count)))?,
         words: words.into_text()?,
     }))

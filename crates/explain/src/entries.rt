@@ -1,18 +1,17 @@
 //! Entries of participants that are never used, which hold in their place, and what would be chosen
 //! with them first.
 
-ghost use Rattle.std.specs.Prelude.{map};
+ghost use Rattle.std.specs.Prelude.{[], ◌∷◌, map};
 ghost use Rattle.std.specs.String.{string_bytes};
 ghost use Rattle.script_reading.specs.Seen.{call_seen};
 ghost use Rattle.constraint_changes.specs.Edited.{IsPromised};
 
 use constraint_changes::{Trial, entry_place, line_at, put_choice};
-use constraint_edits::{Edit, edited};
+use constraint_edits::{Change, Edit, EditedConstraints, edited};
 use domain_reasons::choices_in;
 use explanation_text::{Items, Step, TextBuilder};
 use script_faults::{Document, RecordPart};
 use script_story::{Milestone, Scenario, Story, asked_in};
-use serde_json::Value;
 use settings_reasons::{holder_of, is_taken, unused_entries};
 use std::alloc::{AllocError, Global};
 use sysmem_formats::{Modifier, Pair, PixelFormat};
@@ -149,21 +148,27 @@ impl Teller<'_, '_> {
         let place = self.number.saturating_sub(1);
         self.scenario.effort.change(place, 1);
         match edited(items.alloc(), value, Edit::EntryFirst(item), heaps)? {
-            Some(change) => self.add_then(items, item, &change.value),
+            Some(changed) => self.add_then(items, item, &changed),
             None => Ok(()),
         }
     }
 
     /// Tells what would be decided with these constraints, in which an entry of the record stands
-    /// first.
-    fn add_then(&self, items: &mut Items, item: usize, value: &Value) -> Result<(), AllocError> {
+    /// first, if their record is read so.
+    #[tactic(auto, using(constraint_changes::proofs::Promises::promised_alone))]
+    fn add_then(
+        &self,
+        items: &mut Items,
+        item: usize,
+        changed: &EditedConstraints,
+    ) -> Result<(), AllocError> {
         let root = self.story.root_of(self.index);
         let trial = Trial {
             scenario: self.scenario,
             path: self.story.path(root),
             place: self.number.saturating_sub(1),
         };
-        let Some(line) = trial.outcome(items.alloc(), value)? else {
+        let Some(line) = trial.outcome(items.alloc(), &changed.value)? else {
             self.write_first(items, item, "nothing would be chosen");
             return Ok(());
         };
@@ -171,9 +176,12 @@ impl Teller<'_, '_> {
             self.write_first(items, item, "the decision would be the same");
             return Ok(());
         }
+        if !trial.is_edit(items.alloc(), &changed.change, &changed.value)? {
+            return Ok(());
+        }
         self.write_first(items, item, "it would be:");
         let choice = choices_in(items.alloc(), self.story, root, &line)?;
-        put_promised(items, trial, line);
+        put_promised(items, trial, changed.change, line);
         put_choice(items, 2, choice);
         Ok(())
     }
@@ -250,10 +258,10 @@ impl Teller<'_, '_> {
 }
 
 /// Puts the decision that comes with an entry first.
-fn put_promised(items: &mut Items, trial: Trial<'_, '_>, line: String)
+fn put_promised(items: &mut Items, trial: Trial<'_, '_>, change: Change, line: String)
     requires { IsPromised trial.scenario.now.platform.now
-        (map call_seen trial.scenario.now.calls.now) trial.place trial.path.now
-        (string_bytes line) }
+        (map call_seen trial.scenario.now.calls.now) ((trial.place, change ∷ []) ∷ [])
+        trial.path.now (string_bytes line) }
 {
     items.promise(2, line)
 }

@@ -4,7 +4,6 @@ use negotiation_inputs::Platform;
 use serde_json::Value;
 use settings_reasons::is_taken;
 use std::alloc::{AllocError, Global};
-use sysmem_counts::Field;
 use sysmem_formats::Pair;
 use sysmem_image::Entry;
 use value_sources::NamedParticipant;
@@ -36,18 +35,6 @@ pub fn entry_place(stated: Option<&Value>, index: usize) -> EntryPlace {
     EntryPlace {
         item: index,
         pairs: 1,
-    }
-}
-
-/// Whether the entry of a record states a bound to which the pair of an index belongs.
-pub(crate) fn states_bound(stated: Option<&Value>, index: usize, field: Field) -> bool {
-    let item = entry_place(stated, index).item;
-    let Some(entries) = stated_entries(stated) else {
-        return false;
-    };
-    match entries.get(item) {
-        Some(entry) => entry.get(field.name()).is_some(),
-        None => false,
     }
 }
 

@@ -1,18 +1,53 @@
 //! The decision that comes by several changes, told.
 
-ghost use Rattle.std.specs.Prelude.{map};
+ghost use Rattle.std.specs.Prelude.{◌≡◌, map};
 ghost use Rattle.std.specs.String.{string_bytes};
 ghost use Rattle.script_reading.specs.Seen.{call_seen};
-ghost use Rattle.constraint_changes.specs.Edited.{IsPromisedSo};
+ghost use Rattle.constraint_changes.specs.Edited.{IsPromised, IsPromisedExchanged, edits_of};
 
+use crate::trials::editing::EditedCall;
+use crate::trials::exchanging::Exchange;
 use crate::trials::group::Group;
 use explanation_text::{Item, Items, Kind, Text};
 use std::alloc::AllocError;
 
-/// Puts the decision that comes by several changes.
-pub fn put_line(items: &mut Items, group: Group<'_, '_>, depth: usize, line: String)
-    requires { IsPromisedSo group.scenario.now.platform.now
-        (map call_seen group.scenario.now.calls.now) group.path.now (string_bytes line) }
+/// The decision that comes by edits of calls.
+#[derive(Drop)]
+pub struct Promise {
+    pub edits: Vec<EditedCall>,
+    pub line: String,
+}
+
+impl Promise {
+    /// The decision alone.
+    fn into_line(self) -> String
+        ensures { result ≡ self.line }
+    {
+        let Promise { edits: _, line } = self;
+        line
+    }
+}
+
+/// Puts the decision that comes by edits of calls.
+pub fn put_promise(items: &mut Items, group: Group<'_, '_>, depth: usize, promise: Promise)
+    requires { IsPromised group.scenario.now.platform.now
+        (map call_seen group.scenario.now.calls.now) (edits_of promise.edits.items)
+        group.path.now (string_bytes promise.line) }
+{
+    items.promise(depth, promise.into_line())
+}
+
+/// Puts the decision that comes where the records of two calls are exchanged.
+pub fn put_exchanged(
+    items: &mut Items,
+    group: Group<'_, '_>,
+    depth: usize,
+    exchange: &Exchange,
+    line: String,
+)
+    requires { IsPromisedExchanged group.scenario.now.platform.now
+        (map call_seen group.scenario.now.calls.now) exchange.now.one exchange.now.other
+        group.path.now (string_bytes line) }
 {
     items.promise(depth, line)
 }

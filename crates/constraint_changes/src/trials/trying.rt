@@ -1,27 +1,30 @@
 //! A change of one participant's constraints, tried by a run of the changed script.
 
-ghost use Rattle.std.specs.Prelude.{◌≡◌, map, IfOk, IfSome};
+ghost use Rattle.std.specs.Prelude.{◌≡◌, [], ◌∷◌, map, IfOk, IfSome, IsTrue};
 ghost use Rattle.std.specs.String.{string_bytes};
 ghost use Rattle.serde_json.specs.View.{view};
 ghost use Rattle.script_reading.specs.Seen.{call_seen};
 ghost use Rattle.script_story.specs.Told.{IsReportedOn};
-ghost use Rattle.constraint_changes.specs.Edited.{IsPromised, stating};
+ghost use Rattle.constraint_changes.specs.Edited.{IsEdited, IsTried, stating};
 
+use crate::trials::editing::is_edit;
 use crate::trials::group::Group;
 use crate::trials::parties::Party;
 use crate::trials::unmet::least_met;
-use constraint_edits::{Amount, Edit, EditedConstraints, Halving, is_absurd};
+use constraint_edits::{Amount, Change, Edit, EditedConstraints, Halving, is_absurd};
 use explanation_text::Text;
 use script_reading::{Act, Call};
 use script_story::Scenario;
 use serde_json::Value;
 use std::alloc::{AllocError, Global};
+use std::slice::from_ref;
 
 /// How often the way to the least change is halved at most.
 pub const MOST_HALVINGS: usize = 140;
 
 /// A change that helps, with the decision that comes then.
 pub struct TrialResult {
+    pub change: Change,
     pub words: Text,
     pub line: String,
     /// The constraints with the change.
@@ -31,6 +34,7 @@ pub struct TrialResult {
 impl Drop for TrialResult {
     fn drop(self) {
         let TrialResult {
+            change: _,
             words: _,
             line: _,
             value: _,
@@ -39,11 +43,28 @@ impl Drop for TrialResult {
 }
 
 impl TrialResult {
+    /// A change that gives a line.
+    pub fn of(changed: EditedConstraints, line: String) -> TrialResult
+        ensures change { result.change ≡ changed.change }
+        ensures value { result.value ≡ changed.value }
+        ensures line { result.line ≡ line }
+    {
+        let change = changed.change;
+        let (value, words) = changed.into_parts();
+        TrialResult {
+            change,
+            words,
+            line,
+            value,
+        }
+    }
+
     /// The line of the decision alone.
     pub fn into_line(self) -> String
         ensures { result ≡ self.line }
     {
         let TrialResult {
+            change: _,
             line,
             words: _,
             value: _,
@@ -74,6 +95,20 @@ impl Trial<'_, '_> {
         chosen_with(alloc, self.scenario, &calls, self.path)
     }
 
+    /// Whether the participant's record with these constraints is read as what it asks after a
+    /// change.
+    pub fn is_edit(&self, alloc: Global, change: &Change, value: &Value) -> Result<bool, AllocError>
+        ensures { IfOk result (λ is. IsTrue is → IsEdited self.now.scenario.now.platform.now.heaps
+            (map call_seen self.now.scenario.now.calls.now) self.now.place (change.now ∷ [])
+            (stating (map call_seen self.now.scenario.now.calls.now) self.now.place
+            (view value.now))) }
+    {
+        let scenario = self.scenario;
+        let heaps = scenario.platform.heaps();
+        let changes = from_ref(change);
+        is_edit(alloc, heaps, scenario.calls, self.place, changes, value)
+    }
+
     /// The least change of the field that an edit leaves out, where leaving it out does, for the
     /// domain of a group, whose parties these are.
     pub fn least(
@@ -85,12 +120,12 @@ impl Trial<'_, '_> {
         edit: Edit,
         found: TrialResult,
     ) -> Result<TrialResult, AllocError>
-        requires { IsPromised self.now.scenario.now.platform.now
-            (map call_seen self.now.scenario.now.calls.now) self.now.place self.now.path.now
-            (string_bytes found.line) }
-        ensures { IfOk result (λ best. IsPromised self.now.scenario.now.platform.now
-            (map call_seen self.now.scenario.now.calls.now) self.now.place self.now.path.now
-            (string_bytes best.line)) }
+        requires { IsTried self.now.scenario.now.platform.now
+            (map call_seen self.now.scenario.now.calls.now) self.now.place (view found.value)
+            self.now.path.now (string_bytes found.line) }
+        ensures { IfOk result (λ best. IsTried self.now.scenario.now.platform.now
+            (map call_seen self.now.scenario.now.calls.now) self.now.place (view best.value)
+            self.now.path.now (string_bytes best.line)) }
     {
         let Some(change) = least_met(alloc, group, parties, self.place, value, edit, &found.line)?
         else {
@@ -110,12 +145,12 @@ impl Trial<'_, '_> {
         edit: Edit,
         found: TrialResult,
     ) -> Result<TrialResult, AllocError>
-        requires { IsPromised self.now.scenario.now.platform.now
-            (map call_seen self.now.scenario.now.calls.now) self.now.place self.now.path.now
-            (string_bytes found.line) }
-        ensures { IfOk result (λ best. IsPromised self.now.scenario.now.platform.now
-            (map call_seen self.now.scenario.now.calls.now) self.now.place self.now.path.now
-            (string_bytes best.line)) }
+        requires { IsTried self.now.scenario.now.platform.now
+            (map call_seen self.now.scenario.now.calls.now) self.now.place (view found.value)
+            self.now.path.now (string_bytes found.line) }
+        ensures { IfOk result (λ best. IsTried self.now.scenario.now.platform.now
+            (map call_seen self.now.scenario.now.calls.now) self.now.place (view best.value)
+            self.now.path.now (string_bytes best.line)) }
     {
         let mut best = found;
         let Some(mut halving) = Halving::of(value, edit, &best.line) else {
@@ -151,15 +186,12 @@ impl Trial<'_, '_> {
         alloc: Global,
         change: EditedConstraints,
     ) -> Result<Option<TrialResult>, AllocError>
-        ensures { IfOk result (λ told. IfSome told (λ found. IsPromised
+        ensures { IfOk result (λ told. IfSome told (λ found. IsTried
             self.now.scenario.now.platform.now (map call_seen self.now.scenario.now.calls.now)
-            self.now.place self.now.path.now (string_bytes found.line))) }
+            self.now.place (view found.value) self.now.path.now (string_bytes found.line))) }
     {
         match self.outcome(alloc, &change.value)? {
-            Some(line) if !is_absurd(&line, false) => {
-                let (value, words) = change.into_parts();
-                Ok(Some(TrialResult { words, line, value }))
-            }
+            Some(line) if !is_absurd(&line, false) => Ok(Some(TrialResult::of(change, line))),
             _ => Ok(None),
         }
     }

@@ -1,21 +1,19 @@
 //! Other constraints of participants that leave no settings, as is seen without a run.
 
-use crate::trials::drafting::{Change, asked_after};
+use crate::trials::drafting::asked_after;
 use crate::trials::group::Group;
 use crate::trials::need::{need_too_many, together_need_too_many};
 use crate::trials::parties::Party;
 use crate::trials::restating::RestatedConstraints;
 use crate::trials::trying::MOST_HALVINGS;
-use constraint_edits::{Amount, Edit, EditedConstraints, Halving};
+use constraint_edits::{Amount, Change, Edit, EditedConstraints, Halving, read_asked};
 use explanation_text::ListBuilder;
 use negotiation_inputs::Constraints;
-use record_reading::Code;
 use script_story::Story;
 use serde_json::Value;
 use settings_reasons::is_unmet;
 use std::alloc::{AllocError, Global};
 use std::slice::from_ref;
-use sysmem_sanitise::read_constraints;
 use value_sources::NamedParticipant;
 
 /// What a participant asks in the place of what it states.
@@ -66,15 +64,6 @@ pub fn leaves_none(
     }
     let read = read.done()?;
     leave_none(alloc, group, parties, &read)
-}
-
-/// The constraints of a record; `None` where it has a fault.
-pub fn read_asked(alloc: Global, value: &Value) -> Result<Option<Constraints>, AllocError> {
-    match read_constraints(alloc, value) {
-        Ok(asked) => Ok(Some(asked)),
-        Err(fault) if matches!(fault.code, Code::WantOfMemory) => Err(AllocError),
-        Err(_) => Ok(None),
-    }
 }
 
 /// Whether those of a group, whose parties these are, have no settings, of whom some ask what was
@@ -224,10 +213,7 @@ impl TriedAmount<'_> {
         parties: &[Party<'_>],
         halving: Halving,
     ) -> Result<bool, AllocError> {
-        let change = Change {
-            edit: self.edit,
-            amount: Some(self.amount),
-        };
+        let change = Change::plain(self.edit, Some(self.amount));
         if let Some(one) = group.one_stating(self.place) {
             if let Some(none) = change_leaves_none(alloc, group, parties, one, change)? {
                 return Ok(!none);

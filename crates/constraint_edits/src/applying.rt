@@ -1,0 +1,295 @@
+//! What a participant asks after changes, made of parts one after the other.
+
+ghost use Rattle.std.specs.Prelude.{◌≡◌, ◌++◌, [], ◌∷◌, map, set, slice_get, Some, None, option_and_then, option_map, if◌then◌else◌, IfOk, OnOk, IfSome, IsTrue};
+ghost use Rattle.sysmem_counts.specs.Usage.{uses_cpu};
+ghost use Rattle.constraint_edits.specs.Drafts.{drafted};
+ghost use Rattle.constraint_edits.specs.Edited.{edited, exchanged, naming, put_first, taking, with_counts, with_entries, with_heaps, with_memory, without_cpu};
+ghost use Rattle.constraint_edits.specs.EditedNumbers.{counts_edited, memory_edited, supporting};
+ghost use Rattle.constraint_edits.specs.EditedBounds.{bound_edited, bounds_exchanged};
+
+mod bounds;
+mod entries;
+mod numbers;
+mod values;
+
+use crate::amount::Amount;
+use crate::change::Change;
+use crate::edits::Edit;
+use bitflags::Flags;
+use bounds::{bound_edited, bounds_exchanged};
+use entries::{naming, taking_colour};
+use negotiation_inputs::Constraints;
+use numbers::{copied_heap, copied_memory, counts_edited, counts_exchanged};
+use std::alloc::{AllocError, Global};
+use sysmem_counts::{CountConstraints, Field, Usage};
+use sysmem_formats::{ColourSpace, Pair};
+use sysmem_image::Entry;
+use sysmem_memory::{HeapInfo, MemoryConstraints};
+pub(crate) use values::asks;
+use values::is_same_field;
+
+/// What a participant asks after the changes so far.
+#[derive(Drop)]
+pub(crate) struct Draft {
+    alloc: Global,
+    usage: Usage,
+    counts: CountConstraints,
+    memory: MemoryConstraints,
+    entries: Vec<Entry>,
+}
+
+impl Draft {
+    /// What a participant asks before any change.
+    pub(crate) fn of(alloc: Global, asked: &Constraints) -> Result<Draft, AllocError>
+        ensures { IfOk result (λ draft. drafted draft ≡ asked.now) }
+    {
+        Ok(Draft {
+            alloc,
+            usage: asked.usage(),
+            counts: *asked.counts(),
+            memory: copied_memory(alloc, asked.memory())?,
+            entries: Vec::from_slice(alloc, asked.entries())?,
+        })
+    }
+
+    /// The constraints that were drafted, if a participant may ask so.
+    pub(crate) fn into_constraints(self) -> Option<Constraints>
+        ensures { IfSome result (λ constraints. constraints ≡ drafted self) }
+    {
+        let Draft {
+            alloc: _,
+            usage,
+            counts,
+            memory,
+            entries,
+        } = self;
+        match Constraints::of(usage, counts, memory, entries) {
+            Ok(constraints) => Some(constraints),
+            Err(_) => None,
+        }
+    }
+
+    /// Makes a change, if it is one of what is asked.
+    pub(crate) fn take(&mut self, heaps: &[HeapInfo], change: Change) -> Result<bool, AllocError>
+        ensures { IfOk result (λ made. IsTrue made
+            → edited heaps.now change (drafted self.old) ≡ Some (drafted self.new)) }
+    {
+        match change.edit {
+            Edit::MeansHeap(index) => self.replace_heap(heaps, index, change.start),
+            Edit::PermitsHeap(index) => self.permit(heaps, index),
+            Edit::Exchanges(least, most) => self.exchange(least, most),
+            Edit::Supports(field) => Ok(self.support(field)),
+            Edit::NoCount(field) => Ok(self.put_count(field, change.amount)),
+            Edit::NoMemory(field) => Ok(self.put_memory(field, change.amount)),
+            Edit::NoBound(field) => self.put_bound(field, change.amount),
+            Edit::TakesColour(colour) => self.take_colour(colour),
+            Edit::TakesPair(pair) => self.take_pair(pair, change.start),
+            Edit::NoCpu => Ok(self.drop_cpu()),
+            Edit::LeastCount(count) => Ok(self.put_least(count)),
+            Edit::EntryFirst(_) => self.put_first(change.start, change.end),
+        }
+    }
+
+    /// Permits the heap of an index in the place of a permitted one.
+    fn replace_heap(
+        &mut self,
+        heaps: &[HeapInfo],
+        index: usize,
+        place: usize,
+    ) -> Result<bool, AllocError>
+        ensures { IfOk result (λ made. IsTrue made → option_and_then (λ info. with_heaps
+            (drafted self.old) (set self.old.memory.permitted_heaps place info.heap))
+            (slice_get heaps.now index) ≡ Some (drafted self.new)) }
+    {
+        let Some(info) = heaps.get(index) else {
+            return Ok(false);
+        };
+        if place >= self.memory.permitted_heaps.len() {
+            return Ok(false);
+        }
+        self.memory.permitted_heaps[place] = copied_heap(&info.heap)?;
+        Ok(true)
+    }
+
+    /// Lists the heap of an index too.
+    fn permit(&mut self, heaps: &[HeapInfo], index: usize) -> Result<bool, AllocError>
+        ensures { IfOk result (λ made. IsTrue made → option_and_then (λ info. with_heaps
+            (drafted self.old) (self.old.memory.permitted_heaps ++ info.heap ∷ []))
+            (slice_get heaps.now index) ≡ Some (drafted self.new)) }
+    {
+        let Some(info) = heaps.get(index) else {
+            return Ok(false);
+        };
+        let heap = copied_heap(&info.heap)?;
+        self.memory.permitted_heaps.push(heap)?;
+        Ok(true)
+    }
+
+    /// Exchanges the values of two fields.
+    fn exchange(&mut self, least: Field, most: Field) -> Result<bool, AllocError>
+        ensures { IfOk result (λ made. IsTrue made
+            → exchanged least most (drafted self.old) ≡ Some (drafted self.new)) }
+    {
+        if is_same_field(least, Field::MinBufferCount) {
+            self.counts = counts_exchanged(&self.counts);
+            return Ok(true);
+        }
+        if is_same_field(least, Field::MinSizeBytes) {
+            let size = self.memory.min_size_bytes;
+            self.memory.min_size_bytes = self.memory.max_size_bytes;
+            self.memory.max_size_bytes = size;
+            return Ok(true);
+        }
+        let made = bounds_exchanged(self.alloc, &self.entries, least, most)?;
+        Ok(self.put_entries(made))
+    }
+
+    /// Asks with other entries, if there are some.
+    fn put_entries(&mut self, entries: Option<Vec<Entry>>) -> bool
+        ensures { IsTrue result → with_entries (drafted self.old)
+            (option_map (λ entries. entries.items) entries) ≡ Some (drafted self.new) }
+    {
+        match entries {
+            Some(entries) => {
+                self.entries = entries;
+                true
+            }
+            None => false,
+        }
+    }
+
+    /// Supports a coherency domain.
+    fn support(&mut self, field: Field) -> bool
+        ensures { IsTrue result → with_memory (drafted self.old) (supporting field self.old.memory)
+            ≡ Some (drafted self.new) }
+    {
+        match field {
+            Field::CpuDomainSupported => self.memory.cpu_domain_supported = true,
+            Field::RamDomainSupported => self.memory.ram_domain_supported = true,
+            Field::InaccessibleDomainSupported => {
+                self.memory.inaccessible_domain_supported = true;
+            }
+            _ => return false,
+        }
+        true
+    }
+
+    /// Leaves a count out, or gives it an amount.
+    fn put_count(&mut self, field: Field, amount: Option<Amount>) -> bool
+        ensures { IsTrue result → with_counts (drafted self.old)
+            (counts_edited field amount self.old.counts) ≡ Some (drafted self.new) }
+    {
+        match counts_edited(&self.counts, field, amount) {
+            Some(counts) => {
+                self.counts = counts;
+                true
+            }
+            None => false,
+        }
+    }
+
+    /// Asks for so many buffers at least.
+    fn put_least(&mut self, count: u32) -> bool
+        ensures { Some (record (drafted self.old)
+            { counts = record self.old.counts { min_buffer_count = count } })
+            ≡ Some (drafted self.new) }
+    {
+        self.counts.min_buffer_count = count;
+        true
+    }
+
+    /// Leaves a wish of memory out, or gives it an amount.
+    fn put_memory(&mut self, field: Field, amount: Option<Amount>) -> bool
+        ensures { IsTrue result → with_memory (drafted self.old)
+            (memory_edited field amount self.old.memory) ≡ Some (drafted self.new) }
+    {
+        match (field, amount) {
+            (Field::MinSizeBytes, None) => self.memory.min_size_bytes = 0,
+            (Field::MinSizeBytes, Some(Amount::Number(size))) => self.memory.min_size_bytes = size,
+            (Field::MaxSizeBytes, None) => self.memory.max_size_bytes = u64::MAX,
+            (Field::MaxSizeBytes, Some(Amount::Number(size))) => self.memory.max_size_bytes = size,
+            (Field::PhysicallyContiguousRequired, None) => {
+                self.memory.physically_contiguous_required = false;
+            }
+            (Field::SecureRequired, None) => self.memory.secure_required = false,
+            _ => return false,
+        }
+        true
+    }
+
+    /// Leaves a bound out, or gives it an amount.
+    fn put_bound(&mut self, field: Field, amount: Option<Amount>) -> Result<bool, AllocError>
+        ensures { IfOk result (λ made. IsTrue made → with_entries (drafted self.old)
+            (bound_edited field amount self.old.entries.items) ≡ Some (drafted self.new)) }
+    {
+        let made = bound_edited(self.alloc, &self.entries, field, amount)?;
+        Ok(self.put_entries(made))
+    }
+
+    /// Takes a colour space in each entry.
+    fn take_colour(&mut self, colour: ColourSpace) -> Result<bool, AllocError>
+        ensures { OnOk result (Some (record (drafted self.old)
+            { entries = map (taking colour) self.old.entries.items }) ≡ Some (drafted self.new)) }
+    {
+        self.entries = taking_colour(self.alloc, &self.entries, colour)?;
+        Ok(true)
+    }
+
+    /// Takes a pair in an entry more, which is else like that of an index.
+    fn take_pair(&mut self, pair: Pair, index: usize) -> Result<bool, AllocError>
+        ensures { IfOk result (λ made. IsTrue made
+            → option_map (λ like. record (drafted self.old)
+            { entries = naming pair like ∷ self.old.entries.items })
+            (slice_get self.old.entries.items index) ≡ Some (drafted self.new)) }
+    {
+        let Some(like) = self.entries.get(index) else {
+            return Ok(false);
+        };
+        let mut entries = Vec::new(self.alloc);
+        entries.push(naming(like, pair))?;
+        entries.extend_from_slice(&self.entries)?;
+        self.entries = entries;
+        Ok(true)
+    }
+
+    /// Isn't used by CPUs, if it is.
+    fn drop_cpu(&mut self) -> bool
+        ensures { IsTrue result → (if uses_cpu self.old.usage
+            then Some (record (drafted self.old) { usage = without_cpu self.old.usage }) else None)
+            ≡ Some (drafted self.new) }
+    {
+        if !self.usage.uses_cpu() {
+            return false;
+        }
+        self.usage = without_cpu(self.usage);
+        true
+    }
+
+    /// Puts the entries from one of an index on to another before the others.
+    fn put_first(&mut self, start: usize, end: usize) -> Result<bool, AllocError>
+        ensures { IfOk result (λ made. IsTrue made → Some (record (drafted self.old)
+            { entries = put_first start end self.old.entries.items }) ≡ Some (drafted self.new)) }
+    {
+        if start > end || end > self.entries.len() {
+            return Ok(false);
+        }
+        let old = self.entries.as_slice();
+        let mut entries = Vec::from_slice(self.alloc, &old[start..end])?;
+        entries.extend_from_slice(&old[..start])?;
+        entries.extend_from_slice(&old[end..])?;
+        self.entries = entries;
+        Ok(true)
+    }
+}
+
+/// The use of the buffers without the CPU's.
+#[tactic(auto, using(std::proofs::lemmas::Nat::and_le_l))]
+fn without_cpu(usage: Usage) -> Usage
+    requires { IsTrue (uses_cpu usage) }
+    ensures { result ≡ without_cpu usage }
+{
+    if usage == Usage::CPU {
+        return Usage::NONE;
+    }
+    Usage::from_bits_retain(usage.bits() - Usage::CPU.bits())
+}
