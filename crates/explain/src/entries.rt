@@ -11,7 +11,7 @@ use constraint_edits::{Edit, edited};
 use domain_reasons::choices_in;
 use explanation_text::{Items, Step, TextBuilder};
 use script_faults::{Document, RecordPart};
-use script_story::{Milestone, Scenario, Story, asked_in};
+use script_story::{Became, Milestone, Scenario, Story, asked_in};
 use serde_json::Value;
 use settings_reasons::{holder_of, is_taken, unused_entries};
 use std::alloc::{AllocError, Global};
@@ -33,11 +33,12 @@ pub(crate) fn add_unused(
     story: &Story<'_>,
     index: usize,
 ) -> Result<(), AllocError> {
-    let verdict = verdict_of(story, index);
-    if verdict != "chosen" && verdict != "empty" {
-        return Ok(());
-    }
-    let participants = asked_in(items.alloc(), story, index, verdict == "chosen")?;
+    let is_chosen = match became_at(story, index) {
+        Some(Became::Chosen) => true,
+        Some(Became::Empty) => false,
+        _ => return Ok(()),
+    };
+    let participants = asked_in(items.alloc(), story, index, is_chosen)?;
     for one in &participants {
         add_of(items, &*document, &*scenario, &*story, index, one)?;
     }
@@ -66,18 +67,18 @@ fn add_of<'a, 'b>(
     teller.tell(items)
 }
 
-/// The word of the report for what became of a domain, by index.
-fn verdict_of<'a>(story: &Story<'a>, index: usize) -> &'a str {
+/// What became of a domain, by index.
+fn became_at(story: &Story<'_>, index: usize) -> Option<Became> {
     match story.domains.get(index) {
-        Some(domain) => domain.verdict(),
-        None => "",
+        Some(domain) => Some(domain.became),
+        None => None,
     }
 }
 
 /// What the report's line says of a domain, by index.
-fn told_of<'a>(story: &Story<'a>, index: usize) -> &'a str {
+fn told_of<'b>(story: &'b Story<'_>, index: usize) -> &'b str {
     match story.domains.get(index) {
-        Some(domain) => domain.told,
+        Some(domain) => &domain.told,
         None => "",
     }
 }
@@ -131,7 +132,7 @@ impl Teller<'_, '_> {
         items.say(1, "note", self.sentence(items.alloc(), index, holder));
         let item = entry_place(self.one.stated, index).item;
         let is_own = item == entry_place(self.one.stated, holder.index).item;
-        let is_chosen = verdict_of(self.story, self.index) == "chosen";
+        let is_chosen = became_at(self.story, self.index) == Some(Became::Chosen);
         let is_spent = self.scenario.effort.is_spent();
         if is_own || !is_chosen || is_spent || tried.contains(&item) {
             return Ok(());

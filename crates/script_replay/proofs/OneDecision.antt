@@ -1,5 +1,5 @@
 -- Two decisions that a book allows are one, where memory isn't refused to either.
-use Rattle.std.proofs.Common.{◌≡◌, ℕ, List, Bool, true, false, Option, Some, None, refl, sym, ◌∙◌, ap, subst}
+use Rattle.std.proofs.Common.{◌≡◌, ℕ, List, true, false, Option, Some, None, refl, sym, ◌∙◌, ap, subst}
 use Rattle.std.specs.Prelude.{IfSome, is_none, is_some, option_map}
 use Rattle.std.proofs.lemmas.Option.{same_Some}
 use Rattle.script_replay.specs.State.{RunState, collection_tree}
