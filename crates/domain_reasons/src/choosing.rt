@@ -1,6 +1,7 @@
 //! What was chosen in a domain, and what decided it.
 
 use crate::passed_over::add_passed_over;
+use crate::room::add_left;
 use crate::selecting::{DomainView, add_left_out};
 use explanation_text::wording::put_few;
 use explanation_text::{Items, ListBuilder, Text, TextBuilder};
@@ -23,7 +24,7 @@ pub(crate) fn add_choice(
     add_children(items, story, index)?;
     if let Some(host) = domain.host {
         add_from(items, story, host);
-        return Ok(());
+        return add_left(items, story, index);
     }
     let selections = DomainView {
         platform,

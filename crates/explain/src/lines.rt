@@ -5,6 +5,7 @@ use record_reading::{ENTRY_FIELDS, MEMORY_FIELDS};
 use script_faults::{Document, RecordPart, Whole};
 use script_story::{Milestone, Story};
 use std::alloc::{AllocError, Global};
+use std::slice::from_ref;
 use sysmem_counts::{Field, Kind as FieldKind};
 use sysmem_sanitise::CONSTRAINTS_FIELDS;
 
@@ -119,7 +120,8 @@ fn rows_of(
             continue;
         }
         if let Some(number) = story.milestone(node, Milestone::SetConstraints) {
-            let lines = lines_of(alloc, document, &fields, number)?;
+            let left = without_placed(alloc, told, &fields, node)?;
+            let lines = lines_of(alloc, document, &left, number)?;
             if !lines.is_empty() {
                 let mut text = TextBuilder::of_name(alloc, story.called(node));
                 text.put(": ").put_text(&lines);
@@ -145,6 +147,35 @@ fn fields_in(alloc: Global, told: &[Item]) -> Result<Vec<Field>, AllocError> {
         }
     }
     Ok(fields)
+}
+
+/// Those of some fields whose lines no change of a node tells.
+fn without_placed(
+    alloc: Global,
+    told: &[Item],
+    fields: &[Field],
+    node: usize,
+) -> Result<Vec<Field>, AllocError> {
+    let mut left = Vec::new(alloc);
+    for field in fields {
+        if !told.iter().any(|item| places(item, node, *field)) {
+            left.push(*field)?;
+        }
+    }
+    Ok(left)
+}
+
+/// Whether an item tells a change of a field of a node that stands in the text, with its lines.
+fn places(item: &Item, node: usize, field: Field) -> bool {
+    let text = item.text.as_str();
+    let is_change = item.label == "and" || item.label.ends_with('.');
+    let is_stated = text.contains(" becomes ") || text.ends_with(" left out");
+    let one = from_ref(item);
+    is_change
+        && is_stated
+        && text.contains(", line")
+        && is_named(one, Thing::Node(node))
+        && is_named(one, Thing::Field(field))
 }
 
 /// The fields of some that the constraints of a call state, each with its line.
