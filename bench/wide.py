@@ -185,7 +185,11 @@ def nested(levels, more):
 
 
 def refused_texts():
-    """Texts of scripts that are refused, by their names."""
+    """Texts of scripts that are refused, or whose call is, by their names."""
+    heaps = [{"heap_type": "ram", "id": number} for number in range(100000)]
+    made = Script()
+    made.state("root", asks([], permitted_heaps=heaps))
+    yield "permitted_heaps_100000", json.dumps({"platform": PLATFORM, "calls": made.calls}, separators=(",", ":"))
     # The first object has a key twice, so that keys are compared.
     yield "keys_118x60", repeated(nested(118, 60)).replace("[{", '[{"k0":0,', 1)
     yield "objects_of_one", repeated('{"":0}')

@@ -22,7 +22,7 @@ pub(crate) fn place_of(
     let FaultPlace::At(at) = fault.at else {
         return Ok(Vec::new(alloc));
     };
-    let mut cut = Narrowing::new(alloc, record, fault, is_platform)?;
+    let mut cut = Narrowing::new(alloc, record, fault, is_platform);
     if is_platform {
         return place_in_platform(alloc, &mut cut, at);
     }
@@ -32,7 +32,7 @@ pub(crate) fn place_of(
 fn place_in_constraints(
     alloc: Global,
     record: &Value,
-    cut: &mut Narrowing,
+    cut: &mut Narrowing<'_>,
     at: Field,
 ) -> Result<Path<'static>, AllocError> {
     if at == Field::Usage {
@@ -49,7 +49,7 @@ fn place_in_constraints(
 /// The faulty item of the list that is a member of the record, with the rest after it.
 fn in_member(
     alloc: Global,
-    cut: &mut Narrowing,
+    cut: &mut Narrowing<'_>,
     key: Field,
     rest: &[Step<'static>],
 ) -> Result<Path<'static>, AllocError> {
@@ -58,7 +58,7 @@ fn in_member(
 
 fn place_in_platform(
     alloc: Global,
-    cut: &mut Narrowing,
+    cut: &mut Narrowing<'_>,
     at: Field,
 ) -> Result<Path<'static>, AllocError> {
     if PAIR_FIELDS.contains(&at) {
@@ -76,7 +76,7 @@ fn place_in_platform(
 
 fn place_in_memory(
     alloc: Global,
-    cut: &mut Narrowing,
+    cut: &mut Narrowing<'_>,
     at: Field,
 ) -> Result<Path<'static>, AllocError> {
     let is_heap = HEAP_NAME_FIELDS.contains(&at);
@@ -98,7 +98,7 @@ fn place_in_memory(
 fn place_in_entries(
     alloc: Global,
     record: &Value,
-    cut: &mut Narrowing,
+    cut: &mut Narrowing<'_>,
     at: Field,
 ) -> Result<Path<'static>, AllocError> {
     let path = in_member(alloc, cut, Field::ImageFormatConstraints, &[])?;
@@ -115,7 +115,7 @@ fn place_in_entries(
 
 /// The place in the entry at a path, outside its further pairs.
 fn place_in_entry(
-    cut: &mut Narrowing,
+    cut: &mut Narrowing<'_>,
     entry: Path<'static>,
     at: Field,
 ) -> Result<Path<'static>, AllocError> {
@@ -131,7 +131,7 @@ fn place_in_entry(
 fn place_in_pairs(
     alloc: Global,
     record: &Value,
-    cut: &mut Narrowing,
+    cut: &mut Narrowing<'_>,
     entry: &[Step<'static>],
     at: Field,
 ) -> Result<Option<Path<'static>>, AllocError> {
@@ -148,7 +148,7 @@ fn place_in_pairs(
 /// The index of the faulty one of an entry's further pairs, which stand at a path.
 fn faulty_pair(
     record: &Value,
-    cut: &mut Narrowing,
+    cut: &mut Narrowing<'_>,
     entry: &[Step<'static>],
     pairs: &[Step<'static>],
 ) -> Result<Option<usize>, AllocError> {
