@@ -6,7 +6,7 @@ ghost use Rattle.conflict_finding.specs.AloneLines.{AreAlone};
 ghost use Rattle.verdict_claims.specs.Finder.{has_count};
 ghost use Rattle.conflict_finding.specs.Whom.{NamesThose, line_on, names};
 
-use crate::alone_lines::{AloneLines, with_alone};
+use crate::alone_lines::{AloneLines, put_alone};
 use crate::participants::Participants;
 use negotiation_inputs::Constraints;
 use std::alloc::AllocError;
@@ -79,7 +79,7 @@ pub(crate) fn line_of(
     let mut paths = PathList::with_room(alloc, those.nodes.len())?;
     for node in those.nodes {
         if is_named(whom, tree.constraints_of(*node)) {
-            paths = with_alone(alloc, tree, *node, field, paths, alone)?;
+            put_alone(alloc, tree, *node, field, &mut paths, alone)?;
         }
     }
     Line::behind(alloc, before, field, paths)
