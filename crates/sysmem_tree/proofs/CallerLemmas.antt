@@ -1,19 +1,19 @@
 -- What callers need of histories, of decisions, of prefixes and of forests.
-pub use Rattle.sysmem_tree.proofs.Accepted.{accepted, IsAccepted}
-pub use Rattle.sysmem_tree.proofs.Apart.{tree_labels}
-pub use Rattle.sysmem_tree.proofs.MadeReady.{was_ready}
-pub use Rattle.sysmem_tree.proofs.Different.{few_different}
-pub use Rattle.sysmem_tree.proofs.Few.{few_numbers, forest_here}
-pub use Rattle.sysmem_tree.proofs.Kids.{is_under, under_parent}
-pub use Rattle.sysmem_tree.proofs.Layouts.{size_tree}
-pub use Rattle.sysmem_tree.proofs.Numbers.{numbers, front}
-pub use Rattle.sysmem_tree.proofs.Once.{Once, labels_once, members_stand_once}
-pub use Rattle.sysmem_tree.proofs.Places.{there}
-pub use Rattle.sysmem_tree.proofs.Staying.{numbers_stay}
-pub use Rattle.sysmem_tree.proofs.Steps.{led_kid, node_within}
-pub use Rattle.sysmem_tree.proofs.Readiness.{decision_acted, decision_by, home_root}
-pub use Rattle.sysmem_tree.proofs.Walked.{gives_same, named_there, some_open}
-pub use Rattle.sysmem_tree.proofs.Selections.{IfAny, all_mapped, all_at, settled_relabel, choices_relabel, after_relabel, first_many}
+pub use Rattle.sysmem_tree.proofs.steps.Accepted.{accepted, IsAccepted}
+pub use Rattle.sysmem_tree.proofs.forests.Apart.{tree_labels}
+pub use Rattle.sysmem_tree.proofs.domains.MadeReady.{was_ready}
+pub use Rattle.sysmem_tree.proofs.nodes.Different.{few_different}
+pub use Rattle.sysmem_tree.proofs.forests.Few.{few_numbers, forest_here}
+pub use Rattle.sysmem_tree.proofs.nodes.Kids.{is_under, under_parent}
+pub use Rattle.sysmem_tree.proofs.layouts.Layouts.{size_tree}
+pub use Rattle.sysmem_tree.proofs.forests.Numbers.{numbers, front}
+pub use Rattle.sysmem_tree.proofs.forests.Once.{Once, labels_once, members_stand_once}
+pub use Rattle.sysmem_tree.proofs.nodes.Places.{there}
+pub use Rattle.sysmem_tree.proofs.histories.Staying.{numbers_stay}
+pub use Rattle.sysmem_tree.proofs.steps.Steps.{led_kid, node_within}
+pub use Rattle.sysmem_tree.proofs.domains.Readiness.{decision_acted, decision_by, home_root}
+pub use Rattle.sysmem_tree.proofs.layouts.Walked.{gives_same, named_there, some_open}
+pub use Rattle.sysmem_tree.proofs.selections.Selections.{IfAny, all_mapped, all_at, settled_relabel, choices_relabel, after_relabel, first_many}
 use Rattle.std.proofs.Common.{◌≡◌, ◌<◌, ℕ, Bool, true, false, List, [], ◌∷◌, ◌++◌, Option, Some, None, length, slice_get, refl, sym, ◌∙◌, ap, subst, arith}
 use Rattle.std.specs.Prelude.{option_map, option_and_then, IsSome, IfSome, if◌then◌else◌}
 use Rattle.std.proofs.lemmas.Option.{same_Some}
@@ -24,7 +24,7 @@ use Rattle.sysmem_tree.specs.Domain.{TreeFacts, decision_of, fate_by, fate_of, h
 use Rattle.sysmem_tree.specs.Forest.{Forest, choices, first_group}
 use Rattle.sysmem_tree.specs.History.{HistoryEntry, Accepts, after_entry, replay_from, AreAccepted}
 use Rattle.sysmem_tree.specs.Selection.{after, IsPrefix, IsSelection}
-use Rattle.sysmem_tree.proofs.Selections.{after_more}
+use Rattle.sysmem_tree.proofs.selections.Selections.{after_more}
 
 -- a history with one more entry leads to the tree after that entry
 pub replay_push : (t : TreeFacts) (es : List HistoryEntry) (e : HistoryEntry) → replay_from t (es ++ e ∷ []) ≡ after_entry (replay_from t es) e

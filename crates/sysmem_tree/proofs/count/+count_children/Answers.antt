@@ -4,8 +4,8 @@ use Rattle.std.specs.Prelude.{slice_index_or}
 use Rattle.sysmem_tree.specs.Layout.{count_as}
 use Rattle.sysmem_tree.specs.Links.{siblings_from}
 use Rattle.sysmem_tree.proofs.count.+count_children.Goals as goal
-use Rattle.sysmem_tree.proofs.Linking.{stands_at}
-use Rattle.sysmem_tree.proofs.Numbers.{counted_as_alternatives, counted_as_plain}
+use Rattle.sysmem_tree.proofs.forests.Linking.{stands_at}
+use Rattle.sysmem_tree.proofs.forests.Numbers.{counted_as_alternatives, counted_as_plain}
 
 pub count_children-rest-requires : goal.count_children-rest-requires
 count_children-rest-requires t c =

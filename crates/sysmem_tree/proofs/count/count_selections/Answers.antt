@@ -6,8 +6,8 @@ use Rattle.sysmem_tree.specs.Forest.{Empty, count}
 use Rattle.sysmem_tree.specs.Layout.{count_as}
 use Rattle.sysmem_tree.specs.Links.{siblings_from}
 use Rattle.sysmem_tree.proofs.count.count_selections.Goals as goal
-use Rattle.sysmem_tree.proofs.Linking.{starts_at}
-use Rattle.sysmem_tree.proofs.Numbers.{count_plain}
+use Rattle.sysmem_tree.proofs.forests.Linking.{starts_at}
+use Rattle.sysmem_tree.proofs.forests.Numbers.{count_plain}
 
 pub count_children-requires-clause-links : goal.count_children-requires-clause-links
 count_children-requires-clause-links c =

@@ -1,5 +1,5 @@
--- See Steps.antt.
-use Rattle.sysmem_tree.proofs.Steps.{call_is_step as lemma}
+-- See steps/Steps.antt.
+use Rattle.sysmem_tree.proofs.steps.Steps.{call_is_step as lemma}
 use Rattle.sysmem_tree.proofs.laws.action_is_step.Goals as goal
 
 pub returns : goal.returns

@@ -1,5 +1,5 @@
--- See Agreeing.antt.
-use Rattle.sysmem_tree.proofs.Agreeing.{confluence as lemma}
+-- See histories/Agreeing.antt.
+use Rattle.sysmem_tree.proofs.histories.Agreeing.{confluence as lemma}
 use Rattle.sysmem_tree.proofs.laws.confluence.Goals as goal
 
 pub returns : goal.returns

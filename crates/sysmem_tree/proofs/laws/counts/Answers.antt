@@ -1,5 +1,5 @@
--- See Selections.antt.
-use Rattle.sysmem_tree.proofs.Selections.{counted as lemma}
+-- See selections/Selections.antt.
+use Rattle.sysmem_tree.proofs.selections.Selections.{counted as lemma}
 use Rattle.sysmem_tree.proofs.laws.counts.Goals as goal
 
 pub returns : goal.returns

@@ -1,5 +1,5 @@
--- See Failing.antt.
-use Rattle.sysmem_tree.proofs.Failing.{failed_stays as lemma}
+-- See domains/Failing.antt.
+use Rattle.sysmem_tree.proofs.domains.Failing.{failed_stays as lemma}
 use Rattle.sysmem_tree.proofs.laws.failed_stays.Goals as goal
 
 pub returns : goal.returns

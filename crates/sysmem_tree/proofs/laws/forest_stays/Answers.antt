@@ -1,5 +1,5 @@
--- See Entries.antt.
-use Rattle.sysmem_tree.proofs.Entries.{forest_stays as lemma}
+-- See histories/Entries.antt.
+use Rattle.sysmem_tree.proofs.histories.Entries.{forest_stays as lemma}
 use Rattle.sysmem_tree.proofs.laws.forest_stays.Goals as goal
 
 pub returns : goal.returns

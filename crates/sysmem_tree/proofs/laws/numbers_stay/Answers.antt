@@ -1,5 +1,5 @@
--- See Staying.antt.
-use Rattle.sysmem_tree.proofs.Staying.{numbers_stay as lemma}
+-- See histories/Staying.antt.
+use Rattle.sysmem_tree.proofs.histories.Staying.{numbers_stay as lemma}
 use Rattle.sysmem_tree.proofs.laws.numbers_stay.Goals as goal
 
 pub returns : goal.returns

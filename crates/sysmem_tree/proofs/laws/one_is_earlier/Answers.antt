@@ -1,5 +1,5 @@
--- See Selections.antt.
-use Rattle.sysmem_tree.proofs.Selections.{one_is_earlier as lemma}
+-- See selections/Selections.antt.
+use Rattle.sysmem_tree.proofs.selections.Selections.{one_is_earlier as lemma}
 use Rattle.sysmem_tree.proofs.laws.one_is_earlier.Goals as goal
 
 pub returns : goal.returns

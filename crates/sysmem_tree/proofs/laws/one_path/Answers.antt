@@ -1,5 +1,5 @@
--- See Steps.antt.
-use Rattle.sysmem_tree.proofs.Steps.{only_path as lemma}
+-- See steps/Steps.antt.
+use Rattle.sysmem_tree.proofs.steps.Steps.{only_path as lemma}
 use Rattle.sysmem_tree.proofs.laws.one_path.Goals as goal
 
 pub returns : goal.returns

@@ -1,5 +1,5 @@
--- See Selections.antt.
-use Rattle.sysmem_tree.proofs.Selections.{prefix_of_prefix as lemma}
+-- See selections/Selections.antt.
+use Rattle.sysmem_tree.proofs.selections.Selections.{prefix_of_prefix as lemma}
 use Rattle.sysmem_tree.proofs.laws.prefix_of_prefix.Goals as goal
 
 pub returns : goal.returns

@@ -1,5 +1,5 @@
--- See SameForest.antt.
-use Rattle.sysmem_tree.proofs.SameForest.{same_shape as lemma}
+-- See forests/SameForest.antt.
+use Rattle.sysmem_tree.proofs.forests.SameForest.{same_shape as lemma}
 use Rattle.sysmem_tree.proofs.laws.same_shape.Goals as goal
 
 pub returns : goal.returns

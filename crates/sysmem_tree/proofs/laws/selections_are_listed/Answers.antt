@@ -1,5 +1,5 @@
--- See Listed.antt.
-use Rattle.sysmem_tree.proofs.Listed.{listed as lemma}
+-- See selections/Listed.antt.
+use Rattle.sysmem_tree.proofs.selections.Listed.{listed as lemma}
 use Rattle.sysmem_tree.proofs.laws.selections_are_listed.Goals as goal
 
 pub returns : goal.returns

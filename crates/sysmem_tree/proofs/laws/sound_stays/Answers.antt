@@ -1,5 +1,5 @@
--- See Entries.antt.
-use Rattle.sysmem_tree.proofs.Entries.{sound_stays as lemma}
+-- See histories/Entries.antt.
+use Rattle.sysmem_tree.proofs.histories.Entries.{sound_stays as lemma}
 use Rattle.sysmem_tree.proofs.laws.sound_stays.Goals as goal
 
 pub returns : goal.returns

@@ -1,9 +1,9 @@
 -- A child in front of the siblings that follow it.
 use Rattle.std.proofs.Common.{◌≡◌, ◌<◌, suc, length, ◌-◌, arith, ◌∙◌}
 use Rattle.sysmem_tree.proofs.layout.+lay.Goals as goal
-use Rattle.sysmem_tree.proofs.Layouts.{kid_laid_as, set_above}
-use Rattle.sysmem_tree.proofs.Linking.{stands_at}
-use Rattle.sysmem_tree.proofs.Marking.{hold_written}
+use Rattle.sysmem_tree.proofs.layouts.Layouts.{kid_laid_as, set_above}
+use Rattle.sysmem_tree.proofs.forests.Linking.{stands_at}
+use Rattle.sysmem_tree.proofs.layouts.Marking.{hold_written}
 
 pub lay-rest-requires : goal.lay-rest-requires
 lay-rest-requires t c =

@@ -1,5 +1,5 @@
--- See Shrinking.antt.
-use Rattle.sysmem_tree.proofs.Shrinking.{few_children as lemma}
+-- See selections/Shrinking.antt.
+use Rattle.sysmem_tree.proofs.selections.Shrinking.{few_children as lemma}
 use Rattle.sysmem_tree.proofs.layout_laws.few_children.Goals as goal
 
 pub returns : goal.returns

@@ -4,8 +4,8 @@ use Rattle.std.specs.List.{list_any}
 use Rattle.std.proofs.lemmas.List.{length-set}
 use Rattle.sysmem_tree.specs.Forest.{settled}
 use Rattle.sysmem_tree.proofs.members.mark.Goals as goal
-use Rattle.sysmem_tree.proofs.Marking.{nowhere, mark_next, or_false}
-use Rattle.sysmem_tree.proofs.Settling.{Meets, is_at, is_met, meets_settled, nothing_more}
+use Rattle.sysmem_tree.proofs.layouts.Marking.{nowhere, mark_next, or_false}
+use Rattle.sysmem_tree.proofs.layouts.Settling.{Meets, is_at, is_met, meets_settled, nothing_more}
 
 pub loop-at-init : goal.loop-at-init
 loop-at-init c = λ w g next laid starts.

@@ -11,10 +11,10 @@ use Rattle.sysmem_tree.specs.Layout.{first_place}
 use Rattle.sysmem_tree.specs.Prefix.{AreAlternatives}
 use Rattle.sysmem_tree.specs.Selection.{after}
 use Rattle.sysmem_tree.proofs.members.marks_after.Goals as goal
-use Rattle.sysmem_tree.proofs.Chosen.{all_open}
-use Rattle.sysmem_tree.proofs.Marking.{nowhere, none_marked}
-use Rattle.sysmem_tree.proofs.Settling.{is_at}
-use Rattle.sysmem_tree.proofs.Walks.{alternative_laid, at_end_of, begins, on_choice, if_some, next_there}
+use Rattle.sysmem_tree.proofs.selections.Chosen.{all_open}
+use Rattle.sysmem_tree.proofs.layouts.Marking.{nowhere, none_marked}
+use Rattle.sysmem_tree.proofs.layouts.Settling.{is_at}
+use Rattle.sysmem_tree.proofs.layouts.Walks.{alternative_laid, at_end_of, begins, on_choice, if_some, next_there}
 
 pub loop-choice-init : goal.loop-choice-init
 loop-choice-init c = λ d laid h.

@@ -5,7 +5,7 @@ use Rattle.sysmem_tree.specs.Forest.{Forest, settled}
 use Rattle.sysmem_tree.specs.Layout.{IsLayout, Spot, first_place}
 use Rattle.sysmem_tree.specs.Prefix.{AreOpen}
 use Rattle.sysmem_tree.specs.Selection.{IsPrefix, after}
-use Rattle.sysmem_tree.proofs.Settling.{is_at}
+use Rattle.sysmem_tree.proofs.layouts.Settling.{is_at}
 use Rattle.sysmem_tree.proofs.members.marks_after.Given as goal
 
 abbrev pub invariant-loop-choice : goal.invariant-loop-choice

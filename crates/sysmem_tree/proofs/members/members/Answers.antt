@@ -1,8 +1,8 @@
 -- The layout's marks are the domain's.
 use Rattle.std.proofs.Common.{false, get_or, refl, arith}
 use Rattle.sysmem_tree.proofs.members.members.Goals as goal
-use Rattle.sysmem_tree.proofs.NextGroups.{prefix_of_places}
-use Rattle.sysmem_tree.proofs.ToldMembers.{told_member}
+use Rattle.sysmem_tree.proofs.layouts.NextGroups.{prefix_of_places}
+use Rattle.sysmem_tree.proofs.layouts.ToldMembers.{told_member}
 
 pub marks_after-requires-clause-prefix : goal.marks_after-requires-clause-prefix
 marks_after-requires-clause-prefix c = (_, c.new.ensures.layout, prefix_of_places c.new.result _ c.new.ensures.layout _ _ refl c.requires.prefix)

@@ -2,7 +2,7 @@
 use Rattle.std.proofs.Common.{◌+◌, length, sym, ◌∙◌, ap, arith}
 use Rattle.std.proofs.lemmas.Slice.{between_to_end}
 use Rattle.sysmem_tree.specs.Path.{child_of}
-use Rattle.sysmem_tree.proofs.Leading.{found_from, none_behind}
+use Rattle.sysmem_tree.proofs.nodes.Leading.{found_from, none_behind}
 use Rattle.sysmem_tree.proofs.paths.child_of.Goals as goal
 
 pub returns-in_err-behind-clause-child : goal.returns-in_err-behind-clause-child

@@ -1,9 +1,9 @@
 -- One step from a node to its parent.
 use Rattle.std.proofs.Common.{length, refl, sym, ◌∙◌, arith}
 use Rattle.std.proofs.lemmas.Option.{slice_get_read}
-use Rattle.sysmem_tree.proofs.Kids.{parent_of}
-use Rattle.sysmem_tree.proofs.Steps.{no_step, one_step}
-use Rattle.sysmem_tree.proofs.Ways.{root_alone}
+use Rattle.sysmem_tree.proofs.nodes.Kids.{parent_of}
+use Rattle.sysmem_tree.proofs.steps.Steps.{no_step, one_step}
+use Rattle.sysmem_tree.proofs.nodes.Ways.{root_alone}
 use Rattle.sysmem_tree.proofs.paths.depth.Goals as goal
 
 pub loop-birth-smaller : goal.loop-birth-smaller

@@ -1,7 +1,7 @@
 -- What was born as the child is the child.
 use Rattle.std.proofs.Common.{◌≡◌, ◌∙◌, Some, length, refl, slice_get, sym}
 use Rattle.std.proofs.lemmas.Option.{slice_get_read}
-use Rattle.sysmem_tree.proofs.Ways.{found_at}
+use Rattle.sysmem_tree.proofs.nodes.Ways.{found_at}
 use Rattle.sysmem_tree.proofs.paths.is_child_at.Goals as goal
 
 pub returns-in-Some-clause-child : goal.returns-in-Some-clause-child

@@ -1,5 +1,5 @@
 use Rattle.std.proofs.Common.{◌∙◌, sym}
-use Rattle.sysmem_tree.proofs.Leading.{led_on, led_off}
+use Rattle.sysmem_tree.proofs.nodes.Leading.{led_on, led_off}
 use Rattle.sysmem_tree.proofs.paths.node_at.Goals as goal
 
 pub returns-in_err-number-clause-node : goal.returns-in_err-number-clause-node

@@ -3,10 +3,10 @@ use Rattle.std.specs.Prelude.{reverse}
 use Rattle.std.proofs.lemmas.List.{reverse-append}
 use Rattle.std.proofs.lemmas.Option.{slice_get_read}
 use Rattle.sysmem_tree.specs.Path.{led_to}
-use Rattle.sysmem_tree.proofs.Kids.{parent_of}
-use Rattle.sysmem_tree.proofs.Leading.{led_up}
-use Rattle.sysmem_tree.proofs.Steps.{path_is}
-use Rattle.sysmem_tree.proofs.Ways.{one_path, root_alone}
+use Rattle.sysmem_tree.proofs.nodes.Kids.{parent_of}
+use Rattle.sysmem_tree.proofs.nodes.Leading.{led_up}
+use Rattle.sysmem_tree.proofs.steps.Steps.{path_is}
+use Rattle.sysmem_tree.proofs.nodes.Ways.{one_path, root_alone}
 use Rattle.sysmem_tree.proofs.paths.path_to.Goals as goal
 
 pub loop-birth-smaller : goal.loop-birth-smaller

@@ -1,9 +1,9 @@
 -- Where the choices are a prefix, the layout tells of the domain's members.
 use Rattle.std.proofs.Common.{[]}
 use Rattle.sysmem_tree.specs.Shape.{by_number, forest_of}
-use Rattle.sysmem_tree.proofs.NextGroups.{prefix_of_places}
-use Rattle.sysmem_tree.proofs.Prefixes.{is_prefix_of}
-use Rattle.sysmem_tree.proofs.ToldMembers.{told_member}
+use Rattle.sysmem_tree.proofs.layouts.NextGroups.{prefix_of_places}
+use Rattle.sysmem_tree.proofs.selections.Prefixes.{is_prefix_of}
+use Rattle.sysmem_tree.proofs.layouts.ToldMembers.{told_member}
 use Rattle.sysmem_tree.proofs.settled.is_member.Goals as goal
 
 pub settles_after-requires : goal.settles_after-requires

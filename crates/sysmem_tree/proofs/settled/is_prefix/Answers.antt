@@ -2,7 +2,7 @@
 use Rattle.std.proofs.Common.{take, get_or, sym, subst, arith}
 use Rattle.std.proofs.lemmas.List.{take_more, take_all}
 use Rattle.sysmem_tree.specs.OpenGroups.{IsFirstOpen}
-use Rattle.sysmem_tree.proofs.Prefixes.{none_for, no_child, a_child, all_made}
+use Rattle.sysmem_tree.proofs.selections.Prefixes.{none_for, no_child, a_child, all_made}
 use Rattle.sysmem_tree.proofs.settled.is_prefix.Goals as goal
 
 pub returns-in_default : goal.returns-in_default

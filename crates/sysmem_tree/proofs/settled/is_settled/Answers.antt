@@ -1,7 +1,7 @@
 -- What the layout tells of the domain's members.
 use Rattle.sysmem_tree.proofs.settled.is_settled.Goals as goal
-use Rattle.sysmem_tree.proofs.NextGroups.{prefix_of_places}
-use Rattle.sysmem_tree.proofs.ToldMembers.{told_member}
+use Rattle.sysmem_tree.proofs.layouts.NextGroups.{prefix_of_places}
+use Rattle.sysmem_tree.proofs.layouts.ToldMembers.{told_member}
 
 pub settles_after-requires : goal.settles_after-requires
 settles_after-requires c = (_, c.new-layout.ensures.layout, prefix_of_places c.new-layout.result _ c.new-layout.ensures.layout _ _ c.choices.ensures c.requires.prefix)

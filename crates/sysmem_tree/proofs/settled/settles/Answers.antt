@@ -1,7 +1,7 @@
 -- From one settled node to the next.
 use Rattle.std.proofs.Common.{refl, sym, ◌∙◌, subst, arith}
 use Rattle.sysmem_tree.specs.Forest.{settled}
-use Rattle.sysmem_tree.proofs.Settling.{Meets, meets_settled, goes_up, goes_past, stops_at, nothing_more}
+use Rattle.sysmem_tree.proofs.layouts.Settling.{Meets, meets_settled, goes_up, goes_past, stops_at, nothing_more}
 use Rattle.sysmem_tree.proofs.settled.settles.Goals as goal
 
 pub loop-at-init : goal.loop-at-init

@@ -3,7 +3,7 @@ use Rattle.std.proofs.Common.{◌≡◌, ◌-◌, ℕ, Bool, List, Option}
 use Rattle.std.specs.List.{list_any}
 use Rattle.sysmem_tree.specs.Forest.{Forest, settled}
 use Rattle.sysmem_tree.specs.Layout.{Spot, AreLaid, start}
-use Rattle.sysmem_tree.proofs.Settling.{Meets, is_at}
+use Rattle.sysmem_tree.proofs.layouts.Settling.{Meets, is_at}
 use Rattle.sysmem_tree.proofs.settled.settles.Given as goal
 
 abbrev pub invariant-loop-at : goal.invariant-loop-at

@@ -12,9 +12,9 @@ use Rattle.sysmem_tree.specs.Prefix.{AreAlternatives}
 use Rattle.sysmem_tree.specs.Selection.{after}
 use Rattle.sysmem_tree.proofs.settled.settles_after.Goals as goal
 use Rattle.sysmem_tree.proofs.settled.settles_after.Goals.{then-is_settled, else-is_settled}
-use Rattle.sysmem_tree.proofs.Chosen.{all_open}
-use Rattle.sysmem_tree.proofs.Settling.{is_at}
-use Rattle.sysmem_tree.proofs.Walks.{alternative_laid, begins, on_choice, at_end_of, if_some, next_there}
+use Rattle.sysmem_tree.proofs.selections.Chosen.{all_open}
+use Rattle.sysmem_tree.proofs.layouts.Settling.{is_at}
+use Rattle.sysmem_tree.proofs.layouts.Walks.{alternative_laid, begins, on_choice, at_end_of, if_some, next_there}
 
 pub loop-choice-init : goal.loop-choice-init
 loop-choice-init c = λ d laid h. (

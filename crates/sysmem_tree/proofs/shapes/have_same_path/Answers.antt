@@ -1,8 +1,8 @@
 -- One step from two nodes to their parents.
 use Rattle.std.proofs.Common.{length, is_some, refl, sym, ◌∙◌, ap, arith}
 use Rattle.std.proofs.lemmas.Option.{slice_get_read}
-use Rattle.sysmem_tree.proofs.Kids.{parent_of}
-use Rattle.sysmem_tree.proofs.PathsUp.{same_up, other_child, at_top}
+use Rattle.sysmem_tree.proofs.nodes.Kids.{parent_of}
+use Rattle.sysmem_tree.proofs.nodes.PathsUp.{same_up, other_child, at_top}
 use Rattle.sysmem_tree.proofs.shapes.have_same_path.Goals as goal
 
 pub returns-then-birth-other_birth : goal.returns-then-birth-other_birth

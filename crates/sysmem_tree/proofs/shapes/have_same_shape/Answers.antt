@@ -1,5 +1,5 @@
--- See Levels.antt.
-use Rattle.sysmem_tree.proofs.Levels.{same_shape}
+-- See forests/Levels.antt.
+use Rattle.sysmem_tree.proofs.forests.Levels.{same_shape}
 use Rattle.sysmem_tree.proofs.shapes.have_same_shape.Goals as goal
 
 pub returns : goal.returns

@@ -1,11 +1,11 @@
--- See LaidSame.antt.
+-- See layouts/LaidSame.antt.
 use Rattle.std.proofs.Common.{◌≡◌, ◌∙◌, ℕ, refl, sym, ap, arith, map}
 use Rattle.sysmem_tree.specs.Forest.{Forest}
 use Rattle.sysmem_tree.specs.Members.{shown_at}
-use Rattle.sysmem_tree.proofs.GroupWalks.{place_there}
-use Rattle.sysmem_tree.proofs.LaidSame.{same_on, differ_here, none_left, other_start}
-use Rattle.sysmem_tree.proofs.Marking.{nowhere}
-use Rattle.sysmem_tree.proofs.Picking.{all_of_layout}
+use Rattle.sysmem_tree.proofs.layouts.GroupWalks.{place_there}
+use Rattle.sysmem_tree.proofs.layouts.LaidSame.{same_on, differ_here, none_left, other_start}
+use Rattle.sysmem_tree.proofs.layouts.Marking.{nowhere}
+use Rattle.sysmem_tree.proofs.layouts.Picking.{all_of_layout}
 use Rattle.sysmem_tree.proofs.shapes.lay_out_same.Goals as goal
 
 pub returns-then-layout-other : goal.returns-then-layout-other

@@ -1,5 +1,5 @@
 use Rattle.std.proofs.Common.{◌≡◌, ◌↔◌}
-use Rattle.sysmem_tree.proofs.LaidSame.{shown_from}
+use Rattle.sysmem_tree.proofs.layouts.LaidSame.{shown_from}
 use Rattle.sysmem_tree.proofs.shapes.lay_out_same.Given as goal
 
 -- all show the same exactly where those that are left do

@@ -1,7 +1,7 @@
 -- By kind and constraints first, and then by paths.
 use Rattle.std.proofs.Common.{length, refl, sym, ◌∙◌}
 use Rattle.std.proofs.lemmas.Option.{slice_get_read}
-use Rattle.sysmem_tree.proofs.PathsUp.{from_shown, to_shown}
+use Rattle.sysmem_tree.proofs.nodes.PathsUp.{from_shown, to_shown}
 use Rattle.sysmem_tree.proofs.shapes.show_same.Goals as goal
 
 pub returns-then-are_alike : goal.returns-then-are_alike

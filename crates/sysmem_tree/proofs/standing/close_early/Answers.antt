@@ -1,5 +1,5 @@
 use Rattle.sysmem_tree.specs.Tree.{closed_early}
-use Rattle.sysmem_tree.proofs.Writes.{written_next}
+use Rattle.sysmem_tree.proofs.nodes.Writes.{written_next}
 use Rattle.sysmem_tree.proofs.standing.close_early.Goals as goal
 
 pub loop-domain-preserved : goal.loop-domain-preserved

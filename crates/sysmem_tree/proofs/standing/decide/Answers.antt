@@ -1,5 +1,5 @@
 use Rattle.sysmem_tree.specs.Tree.{decided_domain}
-use Rattle.sysmem_tree.proofs.Writes.{written_next}
+use Rattle.sysmem_tree.proofs.nodes.Writes.{written_next}
 use Rattle.sysmem_tree.proofs.standing.decide.Goals as goal
 
 pub loop-domain-preserved : goal.loop-domain-preserved

@@ -1,6 +1,6 @@
 use Rattle.std.proofs.Common.{◌∙◌, ap, option_map, Bor, sym}
 use Rattle.sysmem_tree.specs.Node.{NodeFacts}
-use Rattle.sysmem_tree.proofs.Climbing.{climb_starts, climb_passes, climb_closed, climb_lost, climb_ends, climb_goes_on}
+use Rattle.sysmem_tree.proofs.domains.Climbing.{climb_starts, climb_passes, climb_closed, climb_lost, climb_ends, climb_goes_on}
 use Rattle.sysmem_tree.proofs.standing.has_failed.Goals.{then-one-via-then-one, then-one-via-else-one+then-is_lost_by}
 use Rattle.sysmem_tree.proofs.standing.has_failed.Goals as goal
 

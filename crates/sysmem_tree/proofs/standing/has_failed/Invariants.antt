@@ -1,4 +1,4 @@
-use Rattle.sysmem_tree.proofs.Climbing.{IsClimbed}
+use Rattle.sysmem_tree.proofs.domains.Climbing.{IsClimbed}
 use Rattle.sysmem_tree.proofs.standing.has_failed.Given as goal
 
 -- the host's domain is among those left, and it and those above it decide

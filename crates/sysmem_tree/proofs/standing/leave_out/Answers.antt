@@ -1,5 +1,5 @@
 -- One node more is marked.
-use Rattle.sysmem_tree.proofs.LeavingOut.{left_next}
+use Rattle.sysmem_tree.proofs.domains.LeavingOut.{left_next}
 use Rattle.sysmem_tree.proofs.standing.leave_out.Goals as goal
 
 pub loop-number-preserved : goal.loop-number-preserved

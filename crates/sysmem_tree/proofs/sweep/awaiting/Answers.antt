@@ -1,6 +1,6 @@
 use Rattle.std.proofs.Common.{◌≡◌, ◌<◌, ◌+◌, ◌∙◌, true, ap, arith, slice_set, subst, sym}
 use Rattle.sysmem_tree.specs.Node.{is_awaited}
-use Rattle.sysmem_tree.proofs.Sweeping.{AreMet, meets_none, meets_all, meets_awaited, meets_other, node_below, node_read}
+use Rattle.sysmem_tree.proofs.domains.Sweeping.{AreMet, meets_none, meets_all, meets_awaited, meets_other, node_below, node_read}
 use Rattle.sysmem_tree.proofs.sweep.awaiting.Goals.{then-is_awaited, else-is_awaited}
 use Rattle.sysmem_tree.proofs.sweep.awaiting.Goals as goal
 

@@ -1,5 +1,5 @@
 -- The nodes before the number were met.
-use Rattle.sysmem_tree.proofs.Sweeping.{AreMet}
+use Rattle.sysmem_tree.proofs.domains.Sweeping.{AreMet}
 use Rattle.sysmem_tree.proofs.sweep.awaiting.Given as goal
 
 abbrev pub invariant-loop-number : goal.invariant-loop-number

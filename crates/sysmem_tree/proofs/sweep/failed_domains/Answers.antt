@@ -1,5 +1,5 @@
 use Rattle.std.proofs.Common.{arith}
-use Rattle.sysmem_tree.proofs.Sweeping.{one_at, place_below, root_below, sweep_starts, sweep_on, sweep_ends}
+use Rattle.sysmem_tree.proofs.domains.Sweeping.{one_at, place_below, root_below, sweep_starts, sweep_on, sweep_ends}
 use Rattle.sysmem_tree.proofs.sweep.failed_domains.Goals as goal
 
 pub loop-index-init : goal.loop-index-init

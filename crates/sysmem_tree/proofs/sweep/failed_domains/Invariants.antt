@@ -1,5 +1,5 @@
 -- Of the domains before the index it is known whether they have failed.
-use Rattle.sysmem_tree.proofs.Sweeping.{IsSwept}
+use Rattle.sysmem_tree.proofs.domains.Sweeping.{IsSwept}
 use Rattle.sysmem_tree.proofs.sweep.failed_domains.Given as goal
 
 abbrev pub invariant-loop-index : goal.invariant-loop-index

@@ -1,5 +1,5 @@
 use Rattle.std.proofs.Common.{◌<◌}
-use Rattle.sysmem_tree.proofs.Sweeping.{host_below, if_map}
+use Rattle.sysmem_tree.proofs.domains.Sweeping.{host_below, if_map}
 use Rattle.sysmem_tree.proofs.sweep.has_failed.Goals as goal
 
 pub fails_with-requires : goal.fails_with-requires

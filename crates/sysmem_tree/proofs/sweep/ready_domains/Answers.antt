@@ -1,5 +1,5 @@
 use Rattle.std.proofs.Common.{arith}
-use Rattle.sysmem_tree.proofs.Sweeping.{one_at, place_below, root_below, ready_starts, ready_on, ready_ends}
+use Rattle.sysmem_tree.proofs.domains.Sweeping.{one_at, place_below, root_below, ready_starts, ready_on, ready_ends}
 use Rattle.sysmem_tree.proofs.sweep.ready_domains.Goals as goal
 
 pub loop-index-init : goal.loop-index-init

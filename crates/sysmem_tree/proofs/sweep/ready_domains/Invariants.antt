@@ -1,5 +1,5 @@
 -- Of the domains before the index it is known whether they are ready.
-use Rattle.sysmem_tree.proofs.Sweeping.{AreReadyBefore}
+use Rattle.sysmem_tree.proofs.domains.Sweeping.{AreReadyBefore}
 use Rattle.sysmem_tree.proofs.sweep.ready_domains.Given as goal
 
 abbrev pub invariant-loop-index : goal.invariant-loop-index

@@ -1,8 +1,8 @@
 use Rattle.std.proofs.Common.{◌∙◌, length, refl, arith}
 use Rattle.std.proofs.lemmas.Option.{slice_get_read}
 use Rattle.sysmem_tree.specs.ActionKind.{deed_of}
-use Rattle.sysmem_tree.proofs.Acting.{acts_alone, acts_and_makes, made_so}
-use Rattle.sysmem_tree.proofs.Kids.{small}
+use Rattle.sysmem_tree.proofs.steps.Acting.{acts_alone, acts_and_makes, made_so}
+use Rattle.sysmem_tree.proofs.nodes.Kids.{small}
 use Rattle.sysmem_tree.proofs.tree.act.Goals as goal
 
 pub act-requires : goal.act-requires

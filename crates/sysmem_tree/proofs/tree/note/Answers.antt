@@ -1,5 +1,5 @@
 use Rattle.std.proofs.Common.{◌≡◌, length, arith}
-use Rattle.sysmem_tree.proofs.Acting.{all_written, note_close, note_release}
+use Rattle.sysmem_tree.proofs.steps.Acting.{all_written, note_close, note_release}
 use Rattle.sysmem_tree.proofs.tree.note.Goals as goal
 
 pub returns-in-Close-clause-domains : goal.returns-in-Close-clause-domains

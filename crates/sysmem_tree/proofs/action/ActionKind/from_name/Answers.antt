@@ -5,7 +5,7 @@ use Rattle.std.specs.Prelude.{bytes_eq}
 use Rattle.list_lemmas.proofs.Each.{found_each}
 use Rattle.sysmem_tree.specs.ActionKind.{action_name}
 use Rattle.sysmem_tree.specs.declared.action.TheConstants.ActionKind.{ALL}
-use Rattle.sysmem_tree.proofs.KindList.{listed_kinds}
+use Rattle.sysmem_tree.proofs.steps.KindList.{listed_kinds}
 use Rattle.sysmem_tree.proofs.action.ActionKind.from_name.Goals as goal
 
 pub returns : goal.returns

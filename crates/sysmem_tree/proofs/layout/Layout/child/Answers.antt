@@ -3,7 +3,7 @@ use Rattle.std.proofs.Common.{◌≡◌, ◌<◌, ◌-◌, suc, length, slice_ge
 use Rattle.std.proofs.lemmas.Option.{slice_get_within}
 use Rattle.sysmem_tree.specs.Forest.{each}
 use Rattle.sysmem_tree.proofs.layout.Layout.child.Goals as goal
-use Rattle.sysmem_tree.proofs.Walks.{step_over, first_stands, first_within}
+use Rattle.sysmem_tree.proofs.layouts.Walks.{step_over, first_stands, first_within}
 
 pub loop-left-preserved : goal.loop-left-preserved
 loop-left-preserved c = λ kids a less.

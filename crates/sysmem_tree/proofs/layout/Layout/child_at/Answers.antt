@@ -3,7 +3,7 @@ use Rattle.std.proofs.Common.{Some, sym, subst}
 use Rattle.std.proofs.lemmas.Option.{slice_get_within}
 use Rattle.sysmem_tree.specs.Forest.{each}
 use Rattle.sysmem_tree.specs.OpenGroups.{IsFirstOpen}
-use Rattle.sysmem_tree.proofs.GroupWalks.{opens, child_place, has_child}
+use Rattle.sysmem_tree.proofs.layouts.GroupWalks.{opens, child_place, has_child}
 use Rattle.sysmem_tree.proofs.layout.Layout.child_at.Goals as goal
 
 pub child-requires : goal.child-requires

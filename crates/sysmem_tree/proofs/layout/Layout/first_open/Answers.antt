@@ -1,7 +1,7 @@
 -- The root's place tells the first group.
 use Rattle.std.proofs.Common.{[], None, Some, sym, subst}
 use Rattle.sysmem_tree.specs.OpenGroups.{IsFirstOpen}
-use Rattle.sysmem_tree.proofs.GroupWalks.{opens_first}
+use Rattle.sysmem_tree.proofs.layouts.GroupWalks.{opens_first}
 use Rattle.sysmem_tree.proofs.layout.Layout.first_open.Goals as goal
 
 pub returns-in_err-self : goal.returns-in_err-self

@@ -10,8 +10,8 @@ use Rattle.sysmem_tree.specs.Layout.{first_place}
 use Rattle.sysmem_tree.specs.Prefix.{AreAlternatives}
 use Rattle.sysmem_tree.specs.Selection.{after}
 use Rattle.sysmem_tree.proofs.layout.Layout.group_after.Goals as goal
-use Rattle.sysmem_tree.proofs.Chosen.{all_open}
-use Rattle.sysmem_tree.proofs.Walks.{begins, on_choice, at_end, if_some, next_there}
+use Rattle.sysmem_tree.proofs.selections.Chosen.{all_open}
+use Rattle.sysmem_tree.proofs.layouts.Walks.{begins, on_choice, at_end, if_some, next_there}
 
 pub loop-choice-init : goal.loop-choice-init
 loop-choice-init c = λ d laid h. (laid.spots, refl, all_open c.args.self.now.places laid.spots 128 None laid.laid (omega arith), begins c.args.self.now d _ laid)

@@ -1,7 +1,7 @@
 -- What the place of a group shows.
 use Rattle.std.proofs.Common.{Some, sym, subst, arith}
 use Rattle.sysmem_tree.specs.OpenGroups.{IsFirstOpen}
-use Rattle.sysmem_tree.proofs.GroupWalks.{group_within, group_shown, place_there}
+use Rattle.sysmem_tree.proofs.layouts.GroupWalks.{group_within, group_shown, place_there}
 use Rattle.sysmem_tree.proofs.layout.Layout.group_at.Goals as goal
 
 pub bounds-self-group-inside : goal.bounds-self-group-inside

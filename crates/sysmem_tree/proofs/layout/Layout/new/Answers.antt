@@ -4,9 +4,9 @@ use Rattle.std.specs.Prelude.{slice_index_or}
 use Rattle.sysmem_tree.specs.Forest.{Empty}
 use Rattle.sysmem_tree.specs.Links.{siblings_from}
 use Rattle.sysmem_tree.proofs.layout.Layout.new.Goals as goal
-use Rattle.sysmem_tree.proofs.Layouts.{kid_laid_as}
-use Rattle.sysmem_tree.proofs.Linking.{starts_at}
-use Rattle.sysmem_tree.proofs.Marking.{hold_first, hold_written}
+use Rattle.sysmem_tree.proofs.layouts.Layouts.{kid_laid_as}
+use Rattle.sysmem_tree.proofs.forests.Linking.{starts_at}
+use Rattle.sysmem_tree.proofs.layouts.Marking.{hold_first, hold_written}
 
 pub lay-kids-requires-clause-links : goal.lay-kids-requires-clause-links
 lay-kids-requires-clause-links c =

@@ -1,8 +1,8 @@
 -- What the layout tells of the domain.
 use Rattle.std.proofs.Common.{arith}
 use Rattle.sysmem_tree.proofs.layout.Layout.next_group.Goals as goal
-use Rattle.sysmem_tree.proofs.GroupWalks.{place_there}
-use Rattle.sysmem_tree.proofs.NextGroups.{prefix_of_places, told_none, told_group, group_within}
+use Rattle.sysmem_tree.proofs.layouts.GroupWalks.{place_there}
+use Rattle.sysmem_tree.proofs.layouts.NextGroups.{prefix_of_places, told_none, told_group, group_within}
 
 pub group_after-requires : goal.group_after-requires
 group_after-requires c = let (d, laid, prefix) = c.requires in (d, laid, prefix_of_places c.args.self.now d laid _ _ c.choices.ensures prefix)

@@ -2,8 +2,8 @@
 use Rattle.std.proofs.Common.{◌≡◌, ℕ, List, ◌∷◌, sym, subst, arith}
 use Rattle.sysmem_tree.specs.Nodes.{HasNode}
 use Rattle.sysmem_tree.specs.OpenGroups.{HasLeft}
-use Rattle.sysmem_tree.proofs.GroupWalks.{place_there}
-use Rattle.sysmem_tree.proofs.Shares.{ends, walk_within, walks_on}
+use Rattle.sysmem_tree.proofs.layouts.GroupWalks.{place_there}
+use Rattle.sysmem_tree.proofs.layouts.Shares.{ends, walk_within, walks_on}
 use Rattle.sysmem_tree.proofs.layout.Layout.next_settled.Goals as goal
 
 pub returns-then-walk-clause-next : goal.returns-then-walk-clause-next

@@ -1,8 +1,8 @@
 -- The place of a child tells the group that is open once it was chosen.
 use Rattle.std.proofs.Common.{◌++◌, [], ◌∷◌, None, Some, sym, subst, arith}
 use Rattle.sysmem_tree.specs.OpenGroups.{IsChildPlace, IsFirstOpen}
-use Rattle.sysmem_tree.proofs.GroupWalks.{child_there, opens_after}
-use Rattle.sysmem_tree.proofs.Shares.{child_within}
+use Rattle.sysmem_tree.proofs.layouts.GroupWalks.{child_there, opens_after}
+use Rattle.sysmem_tree.proofs.layouts.Shares.{child_within}
 use Rattle.sysmem_tree.proofs.layout.Layout.open_after.Goals as goal
 
 pub bounds-self-child-inside : goal.bounds-self-child-inside

@@ -1,8 +1,8 @@
 -- The layout's marks are the domain's.
 use Rattle.std.proofs.Common.{false, get_or, arith}
 use Rattle.sysmem_tree.proofs.layout.Layout.settled_marks.Goals as goal
-use Rattle.sysmem_tree.proofs.NextGroups.{prefix_of_places}
-use Rattle.sysmem_tree.proofs.ToldMembers.{told_member}
+use Rattle.sysmem_tree.proofs.layouts.NextGroups.{prefix_of_places}
+use Rattle.sysmem_tree.proofs.layouts.ToldMembers.{told_member}
 
 pub marks_after-requires-clause-prefix : goal.marks_after-requires-clause-prefix
 marks_after-requires-clause-prefix c = let (d, laid, prefix) = c.requires.prefix in (d, laid, prefix_of_places c.args.self.now d laid _ _ c.choices.ensures prefix)

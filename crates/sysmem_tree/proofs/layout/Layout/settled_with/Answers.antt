@@ -1,6 +1,6 @@
 -- The walk over the child's tree.
 use Rattle.std.proofs.Common.{arith}
-use Rattle.sysmem_tree.proofs.Shares.{child_within, gives_share_as}
+use Rattle.sysmem_tree.proofs.layouts.Shares.{child_within, gives_share_as}
 use Rattle.sysmem_tree.proofs.layout.Layout.settled_with.Goals as goal
 
 pub bounds-self-child-inside : goal.bounds-self-child-inside

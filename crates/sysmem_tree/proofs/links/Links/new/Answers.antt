@@ -4,7 +4,7 @@ use Rattle.std.proofs.lemmas.List.{length-set}
 use Rattle.std.proofs.lemmas.Option.{slice_get_read}
 use Rattle.sysmem_tree.specs.Links.{AreLinks}
 use Rattle.sysmem_tree.proofs.links.Links.new.Goals as goal
-use Rattle.sysmem_tree.proofs.Linking.{none_linked, parent_before, past_kid, past_other}
+use Rattle.sysmem_tree.proofs.forests.Linking.{none_linked, parent_before, past_kid, past_other}
 
 pub loop-number-init : goal.loop-number-init
 loop-number-init c = (c.requires.there, omega arith, refl, none_linked c.args.nodes.now c.args.root)

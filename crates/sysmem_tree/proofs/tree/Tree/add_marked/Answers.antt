@@ -2,8 +2,8 @@
 use Rattle.std.proofs.Common.{◌<◌, ◌++◌, ℕ, List, refl, length, sym, ap, ◌∙◌, arith, length-append}
 use Rattle.std.specs.Prelude.{filter}
 use Rattle.sysmem_tree.specs.Members.{is_marked}
-use Rattle.sysmem_tree.proofs.Marking.{nowhere}
-use Rattle.sysmem_tree.proofs.Picking.{all_kept, all_of_layout, nodes_from, room_on}
+use Rattle.sysmem_tree.proofs.layouts.Marking.{nowhere}
+use Rattle.sysmem_tree.proofs.layouts.Picking.{all_kept, all_of_layout, nodes_from, room_on}
 use Rattle.sysmem_tree.proofs.tree.Tree.add_marked.Goals as goal
 
 pub push_reserved-requires : goal.push_reserved-requires

@@ -3,7 +3,7 @@ use Rattle.std.proofs.Common.{◌≡◌, ◌++◌}
 use Rattle.std.specs.Prelude.{filter}
 use Rattle.std.specs.Vec.{vec_capacity}
 use Rattle.sysmem_tree.specs.Members.{is_marked}
-use Rattle.sysmem_tree.proofs.Picking.{IsOnTheWay, nodes_from}
+use Rattle.sysmem_tree.proofs.layouts.Picking.{IsOnTheWay, nodes_from}
 use Rattle.sysmem_tree.proofs.tree.Tree.add_marked.Given as goal
 
 abbrev pub invariant-loop-at : goal.invariant-loop-at

@@ -1,8 +1,8 @@
--- See Picking.antt.
+-- See layouts/Picking.antt.
 use Rattle.std.proofs.Common.{◌++◌, length, refl, ◌∙◌, ap, subst, arith}
 use Rattle.sysmem_tree.specs.Domain.{IsSoundTree}
-use Rattle.sysmem_tree.proofs.NextGroups.{prefix_of_places}
-use Rattle.sysmem_tree.proofs.Picking.{layout_participants}
+use Rattle.sysmem_tree.proofs.layouts.NextGroups.{prefix_of_places}
+use Rattle.sysmem_tree.proofs.layouts.Picking.{layout_participants}
 use Rattle.sysmem_tree.proofs.tree.Tree.add_settled.Goals as goal
 
 pub marks_after-marks-requires-clause-prefix : goal.marks_after-marks-requires-clause-prefix

@@ -1,5 +1,5 @@
 use Rattle.sysmem_tree.specs.ActionKind.{deed_of}
-use Rattle.sysmem_tree.proofs.Entering.{still_there}
+use Rattle.sysmem_tree.proofs.steps.Entering.{still_there}
 use Rattle.sysmem_tree.proofs.tree.Tree.apply.Goals as goal
 
 pub returns-clause-there : goal.returns-clause-there

@@ -1,8 +1,8 @@
--- See MadeReady.antt.
+-- See domains/MadeReady.antt.
 use Rattle.std.proofs.Common.{sym, ◌∙◌, ap, subst}
 use Rattle.sysmem_tree.specs.Domain.{TreeFacts, HasDomain}
 use Rattle.sysmem_tree.specs.Nodes.{IsTree}
-use Rattle.sysmem_tree.proofs.MadeReady.{unready_there}
+use Rattle.sysmem_tree.proofs.domains.MadeReady.{unready_there}
 use Rattle.sysmem_tree.proofs.tree.Tree.can_make_ready.Goals as goal
 
 pub returns-clause-there : goal.returns-clause-there

@@ -1,5 +1,5 @@
 use Rattle.std.proofs.Common.{ap, length}
-use Rattle.sysmem_tree.proofs.Soundness.{count_few}
+use Rattle.sysmem_tree.proofs.domains.Soundness.{count_few}
 use Rattle.sysmem_tree.proofs.tree.Tree.copy.Goals as goal
 
 pub copied_domains-requires : goal.copied_domains-requires

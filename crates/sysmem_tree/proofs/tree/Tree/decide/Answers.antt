@@ -1,7 +1,7 @@
 -- What was written is a tree.
 use Rattle.std.proofs.Common.{◌≡◌, length, arith}
-use Rattle.sysmem_tree.proofs.Acting.{all_written}
-use Rattle.sysmem_tree.proofs.Decisions.{root_within, none_sound, chosen_sound}
+use Rattle.sysmem_tree.proofs.steps.Acting.{all_written}
+use Rattle.sysmem_tree.proofs.domains.Decisions.{root_within, none_sound, chosen_sound}
 use Rattle.sysmem_tree.proofs.tree.Tree.decide.Goals as goal
 
 pub invariant_of-self : goal.invariant_of-self

@@ -1,6 +1,6 @@
 use Rattle.std.proofs.Common.{◌<◌, ◌∙◌, length, slice_get, refl, sym, ap}
 use Rattle.std.proofs.lemmas.Option.{slice_get_read}
-use Rattle.sysmem_tree.proofs.Soundness.{read_there}
+use Rattle.sysmem_tree.proofs.domains.Soundness.{read_there}
 use Rattle.sysmem_tree.proofs.tree.Tree.domain_at.Goals as goal
 
 pub returns-clause-there : goal.returns-clause-there

@@ -1,5 +1,5 @@
 use Rattle.std.proofs.Common.{◌∙◌, arith}
-use Rattle.sysmem_tree.proofs.Soundness.{count_few}
+use Rattle.sysmem_tree.proofs.domains.Soundness.{count_few}
 use Rattle.sysmem_tree.proofs.tree.Tree.domain_count.Goals as goal
 
 pub overflow_cast-result : goal.overflow_cast-result

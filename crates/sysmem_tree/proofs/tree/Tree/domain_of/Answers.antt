@@ -1,4 +1,4 @@
-use Rattle.sysmem_tree.proofs.Soundness.{home_there}
+use Rattle.sysmem_tree.proofs.domains.Soundness.{home_there}
 use Rattle.sysmem_tree.proofs.tree.Tree.domain_of.Goals as goal
 
 pub returns-clause-there : goal.returns-clause-there

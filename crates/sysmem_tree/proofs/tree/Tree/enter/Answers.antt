@@ -1,6 +1,6 @@
 use Rattle.std.proofs.lemmas.Option.{slice_get_within}
 use Rattle.sysmem_tree.specs.ActionKind.{deed_of}
-use Rattle.sysmem_tree.proofs.Entering.{domain_room, entered, let_in}
+use Rattle.sysmem_tree.proofs.steps.Entering.{domain_room, entered, let_in}
 use Rattle.sysmem_tree.proofs.tree.Tree.enter.Goals as goal
 
 pub note-requires-clause-room : goal.note-requires-clause-room

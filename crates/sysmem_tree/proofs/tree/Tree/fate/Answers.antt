@@ -1,6 +1,6 @@
 use Rattle.std.proofs.Common.{◌∙◌, ap}
 use Rattle.sysmem_tree.specs.Domain.{TreeFacts, has_failed, decision_of}
-use Rattle.sysmem_tree.proofs.Entering.{seen, fate_failed, fate_decided}
+use Rattle.sysmem_tree.proofs.steps.Entering.{seen, fate_failed, fate_decided}
 use Rattle.sysmem_tree.proofs.tree.Tree.fate.Goals as goal
 
 pub returns-then-has_failed : goal.returns-then-has_failed

@@ -1,7 +1,7 @@
 -- By what stands for the trees.
 use Rattle.std.proofs.Common.{◌≡◌}
 use Rattle.sysmem_tree.specs.Shape.{shape_of}
-use Rattle.sysmem_tree.proofs.PathsUp.{seen_both}
+use Rattle.sysmem_tree.proofs.nodes.PathsUp.{seen_both}
 use Rattle.sysmem_tree.proofs.tree.Tree.has_same_shape.Goals as goal
 
 pub returns : goal.returns

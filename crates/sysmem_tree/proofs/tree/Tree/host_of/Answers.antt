@@ -1,5 +1,5 @@
 use Rattle.std.proofs.Common.{◌∙◌, sym}
-use Rattle.sysmem_tree.proofs.Soundness.{parent_there}
+use Rattle.sysmem_tree.proofs.domains.Soundness.{parent_there}
 use Rattle.sysmem_tree.proofs.tree.Tree.host_of.Goals as goal
 
 pub returns-clause-there : goal.returns-clause-there

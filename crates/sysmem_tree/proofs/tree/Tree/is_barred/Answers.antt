@@ -1,6 +1,6 @@
 use Rattle.std.proofs.Common.{◌∙◌, ap, refl}
 use Rattle.sysmem_tree.specs.Domain.{TreeFacts, has_failed, decision_of}
-use Rattle.sysmem_tree.proofs.Entering.{seen, barred_failed, barred_else}
+use Rattle.sysmem_tree.proofs.steps.Entering.{seen, barred_failed, barred_else}
 use Rattle.sysmem_tree.proofs.tree.Tree.is_barred.Goals as goal
 
 pub returns-then-has_failed : goal.returns-then-has_failed

@@ -1,5 +1,5 @@
 -- What is read of the tree is said of it.
-use Rattle.sysmem_tree.proofs.ToldMembers.{read_members}
+use Rattle.sysmem_tree.proofs.layouts.ToldMembers.{read_members}
 use Rattle.sysmem_tree.proofs.tree.Tree.is_member.Goals as goal
 
 pub returns : goal.returns

@@ -1,5 +1,5 @@
 use Rattle.sysmem_tree.specs.Domain.{is_ready}
-use Rattle.sysmem_tree.proofs.Entering.{seen}
+use Rattle.sysmem_tree.proofs.steps.Entering.{seen}
 use Rattle.sysmem_tree.proofs.tree.Tree.is_ready.Goals as goal
 
 pub returns : goal.returns

@@ -1,10 +1,10 @@
--- See Picking.antt.
+-- See layouts/Picking.antt.
 use Rattle.std.proofs.Common.{◌++◌, length, sym, ◌∙◌, ap, subst, arith}
 use Rattle.std.specs.Prelude.{All}
 use Rattle.sysmem_tree.specs.Domain.{IsSoundTree}
 use Rattle.sysmem_tree.specs.Nodes.{HasNode}
 use Rattle.sysmem_tree.specs.Shape.{participants_of}
-use Rattle.sysmem_tree.proofs.Picking.{few_participants, participants_there}
+use Rattle.sysmem_tree.proofs.layouts.Picking.{few_participants, participants_there}
 use Rattle.sysmem_tree.proofs.tree.Tree.participants_in.Goals as goal
 
 pub add_settled-requires-clause-room : goal.add_settled-requires-clause-room

@@ -1,5 +1,5 @@
 -- A node with constraints is a participant where it is a member.
-use Rattle.sysmem_tree.proofs.ToldMembers.{with_constraints, without, read_members}
+use Rattle.sysmem_tree.proofs.layouts.ToldMembers.{with_constraints, without, read_members}
 use Rattle.sysmem_tree.proofs.tree.Tree.settled.Goals as goal
 
 pub returns-then-is_some : goal.returns-then-is_some
