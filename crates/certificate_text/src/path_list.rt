@@ -30,7 +30,7 @@ fn each_path(alloc: Global, values: &[Value]) -> Result<PathList, Unread>
     let mut ordinals = Vec::new(alloc);
     for value in values {
         read_path(&mut ordinals, value)?;
-        paths = paths.with(ordinals.as_slice())?;
+        paths.put(ordinals.as_slice())?;
     }
     Ok(paths)
 }

@@ -72,7 +72,8 @@ fn push_fixed(out: &mut Vec<u8>, field: Field, node: &Path) -> Result<(), AllocE
     ensures { OnOk result (out.new.items ≡ out.old.items
         ++ compact_text (conflict_data (Conflict.Fixed field node.now))) }
 {
-    let nodes = PathList::new(*out.allocator()).with(node.ordinals())?;
+    let mut nodes = PathList::new(*out.allocator());
+    nodes.put(node.ordinals())?;
     push_named(out, "fixed", field, &nodes)
 }
 

@@ -85,6 +85,15 @@ module _ (nodes : List NodeFacts) where
           pub named_past : (paths : List (List ℕ)) → paths ≡ map Path (members_named whom (members_at nodes (take k ns))) → t ≡ false → paths ≡ map Path (members_named whom (members_at nodes (take (k + 1) ns)))
           named_past paths so no' = so ∙ (sym (append-nil (map Path (members_named whom (members_at nodes (take k ns))))) ∙ sym (named_more false no'))
 
+        -- two lines that name the same so far do so with the one behind them, if both or neither names him
+        pub named_alike : (one other : Whom) (t u : Bool) → t ≡ option_map_or (names one) o false → u ≡ option_map_or (names other) o false → t ≡ u
+            → map Path (members_named one (members_at nodes (take k ns))) ≡ map Path (members_named other (members_at nodes (take k ns)))
+            → map Path (members_named one (members_at nodes (take (k + 1) ns))) ≡ map Path (members_named other (members_at nodes (take (k + 1) ns)))
+        named_alike one other t u is are same so = named_more one t is t refl
+            ∙ (ap (λ ps. ps ++ (if t then path_of nodes n ∷ [] else [])) so
+            ∙ (ap (λ b. map Path (members_named other (members_at nodes (take k ns))) ++ (if b then path_of nodes n ∷ [] else [])) same
+            ∙ sym (named_more other u are u refl)))
+
   -- past the last
   pub members_whole : (ns : List ℕ) (k : ℕ) → length ns ≤ k → members_at nodes (take k ns) ≡ members_at nodes ns
   members_whole ns k over = ap (members_at nodes) (take_all k ns over)

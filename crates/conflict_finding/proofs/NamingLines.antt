@@ -20,9 +20,9 @@ pushed_on nodes ns lines now line field whom at more is here = record {
 
 -- one with the paths of another that names the same is the line of its field
 pub headed_is : (nodes : List NodeFacts) (ns : List ℕ) (lines : List LineFacts) (named : NamingLine) (field : Field) (whom : Whom) (one : NamesThose nodes ns lines named)
-    → named.whom ≡ whom → record { field = field; nodes = one.line.nodes } ≡ line_on nodes ns field whom
+    → ((f : Field) → line_on nodes ns f named.whom ≡ line_on nodes ns f whom) → record { field = field; nodes = one.line.nodes } ≡ line_on nodes ns field whom
 headed_is nodes ns lines named field whom one same =
-    ap (λ l. record { field = field; nodes = l.nodes }) (one.is ∙ ap (λ w. line_on nodes ns one.line.field w) same)
+    ap (λ l. record { field = field; nodes = l.nodes }) (one.is ∙ same one.line.field)
 
 named_before : (nodes : List NodeFacts) (ns : List ℕ) (lines more : List LineFacts) (named : NamingLine) → NamesThose nodes ns lines named → NamesThose nodes ns (lines ++ more) named
 named_before nodes ns lines more named one = record {

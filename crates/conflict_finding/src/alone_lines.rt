@@ -1,6 +1,6 @@
 //! Lines that name one participant each, kept so that nobody's path is made twice.
 
-ghost use Rattle.std.specs.Prelude.{◌≡◌, ◌++◌, List, [], ◌∷◌, IfOk, IfSome};
+ghost use Rattle.std.specs.Prelude.{◌≡◌, ◌++◌, List, [], ◌∷◌, IfOk, IfSome, OnOk};
 ghost use Rattle.conflict_finding.specs.AloneLines.{AreAlone, AreInSlots, NamesOne};
 ghost use Rattle.conflict_finding.specs.Whom.{line_on};
 ghost use Rattle.sysmem_tree.specs.Node.{NodeFacts};
@@ -117,29 +117,29 @@ pub(crate) fn line_alone(
     Ok(line)
 }
 
-/// These paths and behind them that of the participant at a node of the tree, as the line of this
-/// field names him alone. Where a line is kept that names him, its path is taken.
-pub(crate) fn with_alone(
+/// Puts the path of the participant at a node of the tree behind these, as the line of this field
+/// names him alone. Where a line is kept that names him, its path is taken.
+pub(crate) fn put_alone(
     alloc: Global,
     tree: &Tree,
     node: NodeId,
     field: Field,
-    paths: PathList,
+    paths: &mut PathList,
     alone: &mut AloneLines,
-) -> Result<PathList, AllocError>
+) -> Result<(), AllocError>
     requires there { HasNode tree.now.nodes node }
     requires alone { AreAlone tree.now.nodes alone.old }
     ensures alone { AreAlone tree.now.nodes alone.new }
-    ensures paths { IfOk result (λ all.
-        all ≡ paths ++ (line_on tree.now.nodes (node ∷ []) field Whom.All).nodes) }
+    ensures paths { OnOk result (paths.new
+        ≡ paths.old ++ (line_on tree.now.nodes (node ∷ []) field Whom.All).nodes) }
 {
     let number = tree.number_of(node);
     if let Some(kept) = alone.kept(number) {
-        let all = paths.joined(kept.line.nodes())?;
-        return Ok(all);
+        paths.join(kept.line.nodes())?;
+        return Ok(());
     }
     let line = line_at(alloc, tree, node, field)?;
-    let all = paths.joined(line.nodes())?;
+    paths.join(line.nodes())?;
     alone.keep(Alone { number, line })?;
-    Ok(all)
+    Ok(())
 }

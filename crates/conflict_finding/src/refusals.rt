@@ -127,64 +127,9 @@ fn is_before_colour(
     }
 }
 
-/// Puts the first line of the table that is true for the offer of these participants behind the
-/// lines so far. False where they share the offer.
-fn push_offer_line(
-    those: &Participants<'_>,
-    offer: &Offer,
-    lines: &mut Lines,
-    kept: &mut Option<NamingLine>,
-    learnt: &mut Learnt,
-) -> Result<bool, AllocError>
-    requires named { IfSome kept.old
-        (NamesThose those.now.tree.now.nodes those.now.nodes.now lines.old) }
-    requires asked { AreAskedOf those.now.tree.now.nodes
-        those.now.nodes.now learnt.old.offers }
-    requires learnt { IsLearnt those.now.tree.now.nodes
-        those.now.platform.now.heaps learnt.old }
-    ensures named { IfOk result (λ _. IfSome kept.new
-        (NamesThose those.now.tree.now.nodes those.now.nodes.now lines.new)) }
-    ensures asked { AreAskedOf those.now.tree.now.nodes
-        those.now.nodes.now learnt.new.offers }
-    ensures learnt { IsLearnt those.now.tree.now.nodes
-        those.now.platform.now.heaps learnt.new }
-    ensures more { (ms : List Member)
-        → StandFor (members_at those.now.tree.now.nodes those.now.nodes.now) ms
-        → IfOk result (λ more. IsTrue more
-        → HasOneMore (IsOfferLineGiven those.now.whole ms offer.now) lines.old lines.new) }
-    ensures longer { IfOk result (λ more. IsTrue more
-        → length lines.new ≡ length lines.old + 1) }
-    ensures share { (ms : List Member)
-        → StandFor (members_at those.now.tree.now.nodes those.now.nodes.now) ms
-        → IfOk result (λ more. more ≡ false
-        → (lines.new ≡ lines.old) × ShareOffer those.now.whole ms offer.now) }
-{
-    let (tree, nodes) = (those.tree, those.nodes);
-    let number = lines.as_slice().len();
-    match read_offer(tree, nodes, number, offer, &mut learnt.offers)? {
-        Reading::Refused(field, node) => {
-            lines.push(line_alone(those.alloc, tree, node, field, &mut learnt.alone)?)?;
-        }
-        Reading::Read(read) => {
-            let Some(field) = read.first_line(those.whole) else {
-                return Ok(false);
-            };
-            push_line_of(
-                those,
-                field,
-                whom_for(field),
-                lines,
-                kept,
-                &mut learnt.alone,
-            )?;
-        }
-    }
-    Ok(true)
-}
-
-/// Puts the line for an offer behind the lines so far, of which the last is that of an earlier
-/// offer: it is put once more where it is the offer's own. False where the participants share the
-/// offer.
+/// Puts the line for an offer of these participants behind the lines so far, of which the last is
+/// that of an earlier offer: that line once more where it is the offer's own, and else the first of
+/// the table that is true. False where they share the offer.
 fn push_offer(
     those: &Participants<'_>,
     earlier: &Offer,
@@ -226,7 +171,26 @@ fn push_offer(
         lines.push_again()?;
         return Ok(true);
     }
-    push_offer_line(those, offer, lines, kept, learnt)
+    let number = lines.as_slice().len();
+    match read_offer(tree, nodes, number, offer, &mut learnt.offers)? {
+        Reading::Refused(field, node) => {
+            lines.push(line_alone(those.alloc, tree, node, field, &mut learnt.alone)?)?;
+        }
+        Reading::Read(read) => {
+            let Some(field) = read.first_line(those.whole) else {
+                return Ok(false);
+            };
+            push_line_of(
+                those,
+                field,
+                whom_for(field),
+                lines,
+                kept,
+                &mut learnt.alone,
+            )?;
+        }
+    }
+    Ok(true)
 }
 
 /// How many offers the platform has: without an image, and each colour space under each pair.

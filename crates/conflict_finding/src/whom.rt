@@ -2,11 +2,12 @@
 
 ghost use Rattle.std.specs.Prelude.{◌≡◌, ◌++◌, [], ◌∷◌, IsTrue, OnOk, IfOk, IfSome, option_map, false};
 ghost use Rattle.std.specs.Option.{option_map_or};
+ghost use Rattle.sysmem_counts.specs.declared.field.Field.{Field};
 ghost use Rattle.conflict_finding.specs.AloneLines.{AreAlone};
 ghost use Rattle.verdict_claims.specs.Finder.{has_count};
 ghost use Rattle.conflict_finding.specs.Whom.{NamesThose, line_on, names};
 
-use crate::alone_lines::{AloneLines, with_alone};
+use crate::alone_lines::{AloneLines, put_alone};
 use crate::participants::Participants;
 use negotiation_inputs::Constraints;
 use std::alloc::AllocError;
@@ -79,7 +80,7 @@ pub(crate) fn line_of(
     let mut paths = PathList::with_room(alloc, those.nodes.len())?;
     for node in those.nodes {
         if is_named(whom, tree.constraints_of(*node)) {
-            paths = with_alone(alloc, tree, *node, field, paths, alone)?;
+            put_alone(alloc, tree, *node, field, &mut paths, alone)?;
         }
     }
     Line::behind(alloc, before, field, paths)
@@ -92,13 +93,32 @@ pub(crate) struct NamingLine {
     place: usize,
 }
 
-impl NamingLine {
-    /// Whether it names these.
-    fn is_for(self, whom: Whom) -> bool
-        ensures { IsTrue result → self.whom ≡ whom }
-    {
-        self.whom == whom
+/// Whether both or neither names a participant, if there is one.
+fn is_alike(one: Whom, other: Whom, asked: Option<&Constraints>) -> bool
+    ensures { IsTrue result
+        → option_map_or (names one) (option_map (λ one. one.now) asked.entry) false
+        ≡ option_map_or (names other) (option_map (λ one. one.now) asked.entry) false }
+{
+    is_named(one, asked) == is_named(other, asked)
+}
+
+/// Whether both name the same among these participants, as all and those with entries do where each
+/// has entries.
+fn name_same(those: &Participants<'_>, one: Whom, other: Whom) -> bool
+    ensures { IsTrue result → (field : Field)
+        → line_on those.now.tree.now.nodes those.now.nodes.now field one
+        ≡ line_on those.now.tree.now.nodes those.now.nodes.now field other }
+{
+    if one == other {
+        return true;
     }
+    let tree = those.tree;
+    for node in those.nodes {
+        if !is_alike(one, other, tree.constraints_of(*node)) {
+            return false;
+        }
+    }
+    true
 }
 
 /// Puts the line of this field that names them among these participants behind the lines so far.
@@ -122,7 +142,7 @@ pub(crate) fn push_line_of(
 {
     let place = lines.as_slice().len();
     if let Some(named) = *kept {
-        if named.is_for(whom) {
+        if name_same(those, named.whom, whom) {
             lines.push_headed(named.place, field)?;
             *kept = Some(NamingLine { whom, place });
             return Ok(());

@@ -1,8 +1,9 @@
 -- Paths are read of the numbers that stand for them.
-use Rattle.std.proofs.Common.{◌≡◌, ℕ, suc, ◌<◌, ◌≤◌, ◌+◌, ◌⊎◌, inl, inr, true, false, nat_le, get_or, List, [], ◌∷◌, ◌++◌, length, take, drop, refl, sym, ◌∙◌, ap, arith, append-nil, length-append}
+use Rattle.std.proofs.Common.{◌≡◌, ℕ, suc, ◌<◌, ◌≤◌, ◌+◌, ◌⊎◌, inl, inr, true, false, Result, Ok, Err, OnOk, nat_le, get_or, List, [], ◌∷◌, ◌++◌, length, take, drop, refl, sym, ◌∙◌, ap, arith, append-nil, length-append}
 use Rattle.std.proofs.lemmas.List.{append_assoc, take_at, drop_at, drop_more, take_more, take-append-drop}
 use Rattle.std.proofs.lemmas.Bool.{le-leb, lt-leb}
 use Rattle.std.proofs.lemmas.Bool.Decides.{leb_tells}
+use Rattle.std.specs.Prelude.{is_err}
 use Rattle.verdict_claims.specs.PathList.{numbers_of, with_step, paths_from, paths_in, AreOfPaths}
 
 -- the steps of the first path are read, and then the others
@@ -130,3 +131,8 @@ numbers_next paths i path inside here = ap (λ ps. length (numbers_of ps)) (take
 pub one_behind : (front paths list : List (List ℕ)) (i : ℕ) (path : List ℕ) → i < length paths → path ≡ get_or paths i path → list ≡ front ++ take i paths → list ++ path ∷ [] ≡ front ++ take (i + 1) paths
 one_behind front paths list i path inside here is =
     ap (λ ps. ps ++ path ∷ []) is ∙ (append_assoc front (take i paths) (path ∷ []) ∙ ap (λ ps. front ++ ps) (sym (take_more paths i path inside ∙ ap (λ p. take i paths ++ p ∷ []) (sym here))))
+
+-- what holds of a value holds where nothing is refused
+pub where_ok : {A E P : Type 0} (r : Result A E) → is_err r ≡ false → OnOk r P → P
+where_ok (Ok x) is holds = holds
+where_ok (Err e) is holds = absurd (cc is)

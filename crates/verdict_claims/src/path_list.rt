@@ -1,6 +1,6 @@
 //! Lists of paths, as lines have them.
 
-ghost use Rattle.std.specs.Prelude.{◌≡◌, ◌<◌, ◌+◌, ◌++◌, [], ◌∷◌, length, nat_le, IfNone, IfOk, IfSome, IsTrue};
+ghost use Rattle.std.specs.Prelude.{◌≡◌, ◌<◌, ◌+◌, ◌++◌, [], ◌∷◌, length, nat_le, IfNone, IfOk, IfSome, IsTrue, OnErr, OnOk};
 ghost use Rattle.verdict_claims.specs.PathList.{numbers_of};
 
 use crate::shared_path::SharedPath;
@@ -8,13 +8,14 @@ use smallvec::SmallVec;
 use std::alloc::{AllocError, Global};
 use std::marker::Model;
 
-/// So many steps a path has at the most that is kept in a list's own numbers: it takes no more
-/// memory there than a few pointers, and is compared and read faster.
+/// A path that several lists have is shared if it has more steps than these. With so many it takes
+/// no more memory in each list's own numbers than a few pointers, and is compared and read faster.
 const SHORT: usize = 4;
 
-/// Paths: short ones in one list of numbers, which has of each how many steps it has, and behind
-/// that its ordinals; and from the first long one on those that it shares with other lists, each of
-/// which takes a pointer. Up to 4 numbers (one path of 3 steps) take no memory beside the list.
+/// Paths. Those before the first that other lists may share stand in one list of numbers, however
+/// long they are: of each how many steps it has, and behind that its ordinals. That one and all
+/// behind it take a pointer each. Up to 4 numbers (one path of 3 steps) take no memory beside the
+/// list.
 #[derive(Debug, Drop)]
 pub struct PathList {
     numbers: SmallVec<u32, 4>,
@@ -58,7 +59,9 @@ impl PathList {
         ensures { IfOk result (λ list. list ≡ ordinals.now ∷ []) }
     {
         if ordinals.len() <= SHORT {
-            return PathList::new(alloc).with(ordinals);
+            let mut list = PathList::new(alloc);
+            list.put(ordinals)?;
+            return Ok(list);
         }
         let path = SharedPath::new(alloc, ordinals)?;
         let mut shared = Vec::with_capacity(alloc, 1)?;
@@ -67,99 +70,91 @@ impl PathList {
         Ok(PathList { numbers, shared })
     }
 
-    /// These paths and behind them those of the other list. `AllocError` where memory is refused.
-    pub fn joined(self, other: &PathList) -> Result<PathList, AllocError>
-        ensures { IfOk result (λ list. list ≡ self ++ other.now) }
+    /// Puts the paths of the other list behind its own. `AllocError` where memory is refused; the
+    /// first of them may be put then.
+    pub fn join(&mut self, other: &PathList) -> Result<(), AllocError>
+        ensures { OnOk result (self.new ≡ self.old ++ other.now) }
     {
         if self.shared.len() > 0 {
-            return self.joined_to_long(other);
+            return self.join_long(other);
         }
         if other.shared.len() > 0 {
-            return self.joined_to_long(other);
+            return self.join_long(other);
         }
-        let PathList {
-            mut numbers,
-            shared,
-        } = self;
-        numbers.extend_from_slice(other.numbers.as_slice())?;
-        Ok(PathList { numbers, shared })
+        self.numbers.extend_from_slice(other.numbers.as_slice())?;
+        Ok(())
     }
 
     /// The same, where one of both may have long paths.
-    fn joined_to_long(self, other: &PathList) -> Result<PathList, AllocError>
-        ensures { IfOk result (λ list. list ≡ self ++ other.now) }
+    fn join_long(&mut self, other: &PathList) -> Result<(), AllocError>
+        ensures { OnOk result (self.new ≡ self.old ++ other.now) }
     {
         if other.numbers.len() > 0 {
-            return self.with_each(other);
+            return self.put_each(other);
         }
-        let list = self.sharing_all(&other.shared)?;
-        Ok(list)
+        self.share_all(&other.shared)
     }
 
     /// The same. Each path of the other list is copied.
-    fn with_each(self, other: &PathList) -> Result<PathList, AllocError>
-        ensures { IfOk result (λ list. list ≡ self ++ other.now) }
+    fn put_each(&mut self, other: &PathList) -> Result<(), AllocError>
+        ensures { OnOk result (self.new ≡ self.old ++ other.now) }
     {
-        let mut list = self;
         for path in other.iter() {
-            list = list.with(path)?;
+            self.put(path)?;
         }
-        Ok(list)
+        Ok(())
     }
 
-    /// These paths and behind them others, which are shared where they are long.
-    fn sharing_all(self, paths: &[SharedPath]) -> Result<PathList, AllocError>
-        ensures { IfOk result (λ list. list ≡ self ++ paths.now) }
+    /// Puts other paths behind its own, and shares those that are long.
+    fn share_all(&mut self, paths: &[SharedPath]) -> Result<(), AllocError>
+        ensures { OnOk result (self.new ≡ self.old ++ paths.now) }
     {
-        let mut list = self;
         for path in paths {
-            list = list.sharing(path)?;
+            self.share(path)?;
         }
-        Ok(list)
+        Ok(())
     }
 
-    /// These paths and behind them another: it is shared where it is long, or one before it is.
-    fn sharing(self, path: &SharedPath) -> Result<PathList, AllocError>
-        ensures { IfOk result (λ list. list ≡ self ++ path.now ∷ []) }
+    /// Puts another path behind its own: it is shared where it is long, or one before it is.
+    fn share(&mut self, path: &SharedPath) -> Result<(), AllocError>
+        ensures { OnOk result (self.new ≡ self.old ++ path.now ∷ []) }
     {
         if self.shared.is_empty() && path.ordinals().len() <= SHORT {
-            return self.with(path.ordinals());
+            return self.put(path.ordinals());
         }
-        self.with_shared(path.again()?)
+        self.put_shared(path.again()?)
     }
 
-    /// These paths and behind them one that other lists may have too.
-    fn with_shared(self, path: SharedPath) -> Result<PathList, AllocError>
-        ensures { IfOk result (λ list. list ≡ self ++ path ∷ []) }
-    {
-        let PathList {
-            numbers,
-            mut shared,
-        } = self;
-        shared.push(path)?;
-        Ok(PathList { numbers, shared })
-    }
-
-    /// These paths and behind them that of these ordinals. `AllocError` where memory is refused,
-    /// and for a path of 2^32 steps or more.
-    pub fn with(self, ordinals: &[u32]) -> Result<PathList, AllocError>
-        ensures { IfOk result (λ list. list ≡ self ++ ordinals.now ∷ []) }
+    /// Puts the path of these ordinals behind its own. `AllocError` where memory is refused, and
+    /// for a path of 2^32 steps or more; the list is as it was then.
+    pub fn put(&mut self, ordinals: &[u32]) -> Result<(), AllocError>
+        ensures ok { OnOk result (self.new ≡ self.old ++ ordinals.now ∷ []) }
+        ensures unchanged { OnErr result (self.new ≡ self.old) }
     {
         if self.shared.len() > 0 {
             let path = SharedPath::new(*self.shared.allocator(), ordinals)?;
-            return self.with_shared(path);
+            return self.put_shared(path);
         }
-        let PathList {
-            mut numbers,
-            shared,
-        } = self;
         let many = ordinals.len();
         if many > u32::MAX as usize {
             return Err(AllocError);
         }
-        numbers.push(many as u32)?;
-        numbers.extend_from_slice(ordinals)?;
-        Ok(PathList { numbers, shared })
+        let before = self.numbers.len();
+        self.numbers.push(many as u32)?;
+        if self.numbers.extend_from_slice(ordinals).is_err() {
+            self.numbers.truncate(before);
+            return Err(AllocError);
+        }
+        Ok(())
+    }
+
+    /// Puts a path that other lists may share behind its own.
+    fn put_shared(&mut self, path: SharedPath) -> Result<(), AllocError>
+        ensures ok { OnOk result (self.new ≡ self.old ++ path ∷ []) }
+        ensures unchanged { OnErr result (self.new ≡ self.old) }
+    {
+        self.shared.push(path)?;
+        Ok(())
     }
 
     /// The same paths, without room that isn't used. `AllocError`

@@ -1,6 +1,6 @@
 -- The paths, with those of the other list that are left, are all.
 use Rattle.std.proofs.Common.{◌≡◌, ◌++◌}
-use Rattle.verdict_claims.proofs.path_list.PathList.with_each.Given as goal
+use Rattle.verdict_claims.proofs.path_list.PathList.put_each.Given as goal
 
 abbrev pub invariant-loop-path : goal.invariant-loop-path
-invariant-loop-path l = l.list ++ l.path-iterator ≡ l.fn.self ++ l.other
+invariant-loop-path l = l.self ++ l.path-iterator ≡ l.fn.self ++ l.other
