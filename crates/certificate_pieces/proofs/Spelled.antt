@@ -20,7 +20,7 @@ use Rattle.certificate_text.specs.Certificate.{certificate_text}
 use Rattle.certificate_text.specs.Paths.{path_text, steps_text}
 use Rattle.certificate_text.specs.Told.{claim_data, conflict_data, decision_data, earlier_data, item_data, lines_data, list_data, named_data, path_data, paths_data, verdict_members, verdict_name}
 use Rattle.certificate_text.proofs.CallerLemmas.{field_plain, fixed_plain, line_middle, named_put, path_plain, split_put}
-use Rattle.certificate_pieces.specs.Texts.{bare_data, head_text, joined, named_front, proof_of, proof_text, verdict_of}
+use Rattle.certificate_pieces.specs.Texts.{bare_data, head_text, joined, line_front, named_front, proof_of, proof_text, verdict_of}
 
 -- ---- paths
 
@@ -32,6 +32,18 @@ root_told (n ∷ path) e = absurd (omega arith)
 pub path_told : (path : List ℕ) → length path ≢ 0 → ((k : ℕ) → Fits w32 (get_or path k 0)) → 34 ∷ (steps_text path ++ 34 ∷ []) ≡ compact_text (path_data path)
 path_told [] e fits = absurd (e refl)
 path_told (n ∷ path) e fits = ap (λ s. 34 ∷ (s ++ 34 ∷ [])) (sym (path_plain (n ∷ path) fits))
+
+-- one of two steps, with a digit each
+pub short_told : (path : List ℕ) (a b : ℕ) → length path ≡ 2 → a ≡ get_or path 0 0 → b ≡ get_or path 1 0 → get_or path 0 0 < 10 → get_or path 1 0 < 10 → ((k : ℕ) → Fits w32 (get_or path k 0))
+    → 34 ∷ 47 ∷ (48 + a) ∷ 47 ∷ (48 + b) ∷ 34 ∷ [] ≡ compact_text (path_data path)
+short_told [] a b many is_a is_b one other fits = absurd (omega (arith, many))
+short_told (x ∷ []) a b many is_a is_b one other fits = absurd (omega (arith, many))
+short_told (x ∷ y ∷ []) a b many is_a is_b one other fits =
+    ap (λ n. 34 ∷ 47 ∷ (48 + n) ∷ 47 ∷ (48 + b) ∷ 34 ∷ []) is_a ∙ ap (λ n. 34 ∷ 47 ∷ (48 + x) ∷ 47 ∷ (48 + n) ∷ 34 ∷ []) is_b
+    ∙ ap (λ s. 34 ∷ (((codes "/" ++ s) ++ ((codes "/" ++ (48 + y) ∷ []) ++ [])) ++ 34 ∷ [])) (sym (decimal_digit x one))
+    ∙ ap (λ s. 34 ∷ (((codes "/" ++ decimal x) ++ ((codes "/" ++ s) ++ [])) ++ 34 ∷ [])) (sym (decimal_digit y other))
+    ∙ ap (λ s. 34 ∷ (s ++ 34 ∷ [])) (sym (path_plain (x ∷ y ∷ []) fits))
+short_told (x ∷ y ∷ z ∷ path) a b many is_a is_b one other fits = absurd (omega (arith, many))
 
 -- one step more
 pub step_told : (path : List ℕ) (i n : ℕ) (told : List ℕ) → i < length path → n ≡ get_or path i 0 → told ++ steps_text (drop i path) ≡ steps_text path
@@ -78,6 +90,13 @@ pub named_told : (kind : List ℕ) (field : Field) (nodes : List (List ℕ)) →
 named_told kind field nodes plain =
     regroup (123 ∷ 34 ∷ []) kind (34 ∷ 58 ∷ 34 ∷ []) (field_name field) line_middle (compact_text (paths_data nodes)) (125 ∷ [])
     ∙ named_put [] kind field nodes plain (field_plain field)
+
+-- a line of a list
+pub front_told : (field : Field) (nodes : List (List ℕ)) → line_front field ++ (compact_text (paths_data nodes) ++ 125 ∷ []) ≡ compact_text (named_data (codes "field") field nodes)
+front_told field nodes =
+    let rest = compact_text (paths_data nodes) ++ 125 ∷ [] in
+    append_assoc (named_front (codes "field")) (field_name field ++ line_middle) rest ∙ ap (λ s. named_front (codes "field") ++ s) (append_assoc (field_name field) line_middle rest)
+    ∙ named_told (codes "field") field nodes field_kind_plain
 
 pub fixed_told : (field : Field) (node : List ℕ)
     → codes "{\"fixed\":\"" ++ (field_name field ++ (codes "\",\"nodes\":[" ++ (compact_text (path_data node) ++ codes "]}"))) ≡ compact_text (conflict_data (Fixed field node))

@@ -2,6 +2,8 @@
 use Rattle.std.specs.Prelude.{ℕ, List, [], ◌∷◌, ◌++◌, Bool, true, false, Option, Some, None, codes, option_map}
 use Rattle.std.specs.Arc.{arc_value}
 use Rattle.serde_json.specs.Written.{comma_if, compact_text}
+use Rattle.sysmem_counts.specs.Field.{field_name}
+use Rattle.sysmem_counts.specs.declared.field.Field.{Field}
 use Rattle.verdict_claims.specs.declared.certificate.Claim.{Claim}
 use Rattle.verdict_claims.specs.declared.certificate.Proof.{Proof}
 use Rattle.verdict_claims.specs.declared.certificate.Proof.TheVariants as proves
@@ -24,6 +26,10 @@ list_text texts = 91 ∷ joined false texts
 -- `{"KIND":"`
 abbrev pub named_front : List ℕ → List ℕ
 named_front kind = 123 ∷ 34 ∷ (kind ++ 34 ∷ 58 ∷ 34 ∷ [])
+
+-- what stands before the paths of a line: `{"field":"usage","nodes":`
+abbrev pub line_front : Field → List ℕ
+line_front field = named_front (codes "field") ++ (field_name field ++ codes "\",\"nodes\":")
 
 -- the members that prove a verdict, each behind a comma
 abbrev pub proof_text : Proof → List ℕ

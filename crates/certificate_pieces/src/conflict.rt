@@ -3,11 +3,12 @@
 ghost use Rattle.std.specs.Prelude.{◌≡◌, List, ℕ};
 ghost use Rattle.certificate_pieces.specs.Telling.{Tells};
 ghost use Rattle.certificate_pieces.specs.Texts.{named_front};
-ghost use Rattle.certificate_text.specs.Told.{conflict_data, earlier_data, item_data, named_data, refutation_data};
+ghost use Rattle.certificate_text.specs.Told.{conflict_data, earlier_data, item_data, line_data, named_data, refutation_data};
 ghost use Rattle.json.specs.Print.{escape};
 ghost use Rattle.serde_json.specs.Written.{compact_text};
 
 use crate::kept::LineCache;
+use crate::kept_front::KeptFront;
 use crate::lines::put_lines;
 use crate::list::{Tell, put_list};
 use crate::path::{put_number, put_path, put_paths};
@@ -99,6 +100,19 @@ pub(crate) fn put_line<P: Sink>(out: &mut Piece, sink: &mut P, front: &[u8], lin
     out.put(sink, front);
     out.put(sink, line.field().name().as_bytes());
     out.put(sink, b"\",\"nodes\":");
+    put_paths(out, sink, line.nodes());
+    out.put_byte(sink, b'}');
+}
+
+/// Tells a line of a list. The text before its paths is kept for the next line with its field.
+pub(crate) fn put_listed<P: Sink>(out: &mut Piece, sink: &mut P, front: &mut KeptFront, line: &Line)
+    ensures { Tells (P.contents sink.old) (P.failures sink.old) out.old
+        (P.contents sink.new) (P.failures sink.new) out.new (compact_text (line_data line.now)) }
+{
+    if !front.keeps(line.field()) {
+        return put_line(out, sink, b"{\"field\":\"", line);
+    }
+    out.put(sink, front.text());
     put_paths(out, sink, line.nodes());
     out.put_byte(sink, b'}');
 }

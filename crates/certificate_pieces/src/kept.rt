@@ -5,6 +5,7 @@ ghost use Rattle.certificate_pieces.specs.KeptText.{GoesOn, IsKnown, kept_text};
 ghost use Rattle.certificate_text.specs.Told.{line_data};
 ghost use Rattle.serde_json.specs.Written.{compact_text};
 
+use crate::kept_front::KeptFront;
 use crate::kept_line::KeptLine;
 use std::alloc::{AllocError, Global};
 use verdict_claims::Line;
@@ -28,6 +29,10 @@ pub(crate) struct LineCache {
     many: KeptLine,
     /// Where the last line with many stands in the list that is told.
     place: Option<usize>,
+    /// The text before the paths of the last line whose own text isn't kept.
+    pub(crate) front: KeptFront,
+    /// The same of a line with another field before it: in many lists two fields come by turns.
+    pub(crate) other_front: KeptFront,
 }
 
 impl LineCache {
@@ -37,6 +42,8 @@ impl LineCache {
             few: KeptLine::new(alloc)?,
             many: KeptLine::new(alloc)?,
             place: None,
+            front: KeptFront::new(alloc)?,
+            other_front: KeptFront::new(alloc)?,
         })
     }
 

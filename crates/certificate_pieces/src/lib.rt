@@ -11,6 +11,7 @@ mod conflict;
 mod decision;
 mod full;
 mod kept;
+mod kept_front;
 mod kept_line;
 mod lines;
 mod list;

@@ -7,11 +7,12 @@ ghost use Rattle.certificate_text.specs.Told.{line_data, lines_data};
 ghost use Rattle.serde_json.specs.Written.{compact_text};
 ghost use Rattle.verdict_claims.specs.declared.line.SharedPaths.{SharedPaths as Shared};
 
-use crate::conflict::put_line;
+use crate::conflict::put_listed;
 use crate::kept::{LineCache, NextLine};
 use crate::path::put_comma;
 use crate::piece::Piece;
 use byte_transfer::Sink;
+use std::mem;
 use verdict_claims::{Line, Lines, SharedPaths};
 
 /// Tells a list of lines. Where a line is known to be the one before once more, or to have the
@@ -94,6 +95,9 @@ fn put_next<P: Sink>(
         out.put(sink, kept.text(line));
         return known.comes_again;
     }
-    put_line(out, sink, b"{\"field\":\"", line);
+    if !kept.front.has(line.field()) {
+        mem::swap(&mut kept.front, &mut kept.other_front);
+    }
+    put_listed(out, sink, &mut kept.front, line);
     false
 }

@@ -1,6 +1,6 @@
 //! Paths, as they are told.
 
-ghost use Rattle.std.specs.Prelude.{◌<◌, ◌+◌, [], ◌∷◌};
+ghost use Rattle.std.specs.Prelude.{◌≡◌, ◌<◌, ◌+◌, [], ◌∷◌, length, get_or, IsTrue};
 ghost use Rattle.std.specs.Fmt.{decimal};
 ghost use Rattle.certificate_pieces.specs.Telling.{Tells};
 ghost use Rattle.certificate_text.specs.Paths.{steps_text};
@@ -46,9 +46,36 @@ pub(crate) fn put_path<P: Sink>(out: &mut Piece, sink: &mut P, ordinals: &[u32])
         out.put(sink, b"\"/\"");
         return;
     }
+    if is_short(ordinals) {
+        return put_short(out, sink, ordinals);
+    }
     out.put_byte(sink, b'"');
     put_steps(out, sink, ordinals);
     out.put_byte(sink, b'"');
+}
+
+/// Whether a path has two steps, with a digit each, as most have.
+fn is_short(ordinals: &[u32]) -> bool
+    ensures many { IsTrue result → length ordinals.now ≡ 2 }
+    ensures first { IsTrue result → get_or ordinals.now 0 0 < 10 }
+    ensures second { IsTrue result → get_or ordinals.now 1 0 < 10 }
+{
+    if ordinals.len() != 2 {
+        return false;
+    }
+    ordinals[0] < 10 && ordinals[1] < 10
+}
+
+/// Tells such a path at once.
+fn put_short<P: Sink>(out: &mut Piece, sink: &mut P, ordinals: &[u32])
+    requires many { length ordinals.now ≡ 2 }
+    requires first { get_or ordinals.now 0 0 < 10 }
+    requires second { get_or ordinals.now 1 0 < 10 }
+    ensures { Tells (P.contents sink.old) (P.failures sink.old) out.old
+        (P.contents sink.new) (P.failures sink.new) out.new (compact_text (path_data ordinals.now)) }
+{
+    let (first, second) = (ordinals[0] as u8, ordinals[1] as u8);
+    out.put(sink, &[b'"', b'/', b'0' + first, b'/', b'0' + second, b'"']);
 }
 
 fn put_steps<P: Sink>(out: &mut Piece, sink: &mut P, ordinals: &[u32])

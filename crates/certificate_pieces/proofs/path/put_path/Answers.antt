@@ -7,6 +7,9 @@ use Rattle.certificate_pieces.proofs.path.put_path.Goals as goal
 pub returns-then-is_empty : goal.returns-then-is_empty
 returns-then-is_empty g c = told_as (root_told c.args.ordinals.now (eqb-true _ _ (sym c.is_empty.ensures ∙ c.if-is_empty.true))) c.put.ensures
 
+pub returns-then-is_short : goal.returns-then-is_short
+returns-then-is_short g c = c.put_short.ensures
+
 pub returns : goal.returns
 returns g c =
     told_as (path_told c.args.ordinals.now (eqb-false _ _ (sym c.is_empty.ensures ∙ c.if-is_empty.false)) c.type_inv.ordinals)
