@@ -2,8 +2,10 @@
 
 use explanation_text::TextBuilder;
 use explanation_text::wording::put_count;
+use script_replay::Reply;
 use script_story::{MadeCall, Story, put_domain, refused_calls};
 use std::alloc::{AllocError, Global};
+use sysmem_tree::Refusal;
 
 /// The answer: how many calls were refused, and what became of each domain.
 pub fn answer_of(alloc: Global, story: &Story<'_>) -> TextBuilder {
@@ -40,9 +42,9 @@ fn is_odd_answer(story: &Story<'_>, call: &MadeCall<'_>) -> bool {
     if !call.asks() {
         return false;
     }
-    match call.code() {
-        "E9" => verdict_of(story, call).is_some(),
-        "E5" | "E6" => true,
+    match call.reply {
+        Reply::Refused(Refusal::Pending) => verdict_of(story, call).is_some(),
+        Reply::Refused(Refusal::NotSelected | Refusal::DomainFailed) => true,
         _ => false,
     }
 }
@@ -69,6 +71,6 @@ fn put_verdict(text: &mut TextBuilder, story: &Story<'_>, index: usize) {
     if let Some(domain) = story.domains.get(index) {
         text.put("; ");
         put_domain(text, story, domain.root);
-        text.put(" ").put(domain.verdict());
+        text.put(" ").put(domain.became.word());
     }
 }

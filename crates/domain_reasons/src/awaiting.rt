@@ -23,7 +23,7 @@ pub(crate) fn add_pending(
     items: &mut Items,
     story: &Story<'_>,
     index: usize,
-    domain: &Domain<'_>,
+    domain: &Domain,
 ) -> Result<(), AllocError> {
     let awaited = all_awaited(items.alloc(), story, index)?;
     add_awaited(items, story, &awaited);
@@ -47,7 +47,7 @@ fn all_awaited(
 }
 
 /// Tells that the domain of a root is awaited, to which this one was attached.
-fn add_host(items: &mut Items, story: &Story<'_>, domain: &Domain<'_>, above: usize) {
+fn add_host(items: &mut Items, story: &Story<'_>, domain: &Domain, above: usize) {
     let mut words = TextBuilder::new(items.alloc());
     put_domain(&mut words, story, above);
     words
@@ -58,7 +58,7 @@ fn add_host(items: &mut Items, story: &Story<'_>, domain: &Domain<'_>, above: us
 }
 
 /// The root of the domain to which this one was attached, where that has no verdict.
-fn awaited_host(story: &Story<'_>, domain: &Domain<'_>) -> Option<usize> {
+fn awaited_host(story: &Story<'_>, domain: &Domain) -> Option<usize> {
     let above = story.domain_of(domain.host?)?;
     match above.ended {
         Some(_) => None,

@@ -18,7 +18,7 @@ pub(crate) fn add_choice(
     platform: &Platform,
     story: &Story<'_>,
     index: usize,
-    domain: &Domain<'_>,
+    domain: &Domain,
 ) -> Result<(), AllocError> {
     add_children(items, story, index)?;
     if let Some(host) = domain.host {

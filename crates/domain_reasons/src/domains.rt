@@ -7,7 +7,7 @@ use crate::failing::{add_failed, add_none, add_too_many};
 use explanation_text::wording::put_few;
 use explanation_text::{Items, Kind, ListBuilder, Text, TextBuilder};
 use negotiation_inputs::Platform;
-use script_story::{Domain, Milestone, Story, asked_in, put_domain};
+use script_story::{Became, Domain, Milestone, Story, asked_in, put_domain};
 use std::alloc::{AllocError, Global};
 use value_sources::NamedParticipant;
 
@@ -25,18 +25,18 @@ pub fn add_domain(
         return Ok(());
     };
     put_title(items, story, domain);
-    match domain.verdict() {
-        "pending" => add_pending(items, story, index, domain),
-        "failed" => {
+    match domain.became {
+        Became::Pending => add_pending(items, story, index, domain),
+        Became::Failed => {
             add_failed(items, story, domain);
             Ok(())
         }
-        "too_many" => {
+        Became::TooMany => {
             add_too_many(items, story, index);
             Ok(())
         }
-        "chosen" => add_chosen(items, platform, story, index, domain),
-        _ => {
+        Became::Chosen => add_chosen(items, platform, story, index, domain),
+        Became::Empty | Became::NoMemory => {
             add_who(items, story, index, false)?;
             add_none(items, platform, story, index, domain)
         }
@@ -48,20 +48,20 @@ fn add_chosen(
     platform: &Platform,
     story: &Story<'_>,
     index: usize,
-    domain: &Domain<'_>,
+    domain: &Domain,
 ) -> Result<(), AllocError> {
     add_who(items, story, index, true)?;
-    let line = TextBuilder::of(items.alloc(), domain.told);
+    let line = TextBuilder::of(items.alloc(), &domain.told);
     items.push(Kind::Decision, 1, "told", line);
     add_choice(items, platform, story, index, domain)
 }
 
 /// The title of a domain's section:
 /// `domain / (root): chosen, after call 7 (set_constraints encoder)`.
-fn put_title(items: &mut Items, story: &Story<'_>, domain: &Domain<'_>) {
+fn put_title(items: &mut Items, story: &Story<'_>, domain: &Domain) {
     let mut words = TextBuilder::new(items.alloc());
     put_domain(&mut words, story, domain.root);
-    words.put(": ").put(domain.verdict());
+    words.put(": ").put(domain.became.word());
     if let Some(number) = domain.ended {
         put_ended(&mut words, story, number);
     }

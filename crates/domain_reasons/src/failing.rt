@@ -7,7 +7,7 @@ use explanation_text::wording::{MOST_NAMES, put_few};
 use explanation_text::{Items, ListBuilder, Name, Text, TextBuilder};
 use negotiation_inputs::Platform;
 use script_reading::Act;
-use script_story::{Domain, MadeCall, Milestone, Story, asked_in, left_out};
+use script_story::{Became, Domain, MadeCall, Milestone, Story, asked_in, left_out};
 use settings_reasons::{failing, list_misfits};
 use std::alloc::{AllocError, Global};
 use sysmem_counts::Field;
@@ -15,7 +15,7 @@ use sysmem_merge::Settings;
 use value_sources::{NamedParticipant, why_needed};
 
 /// Tells why a domain failed.
-pub(crate) fn add_failed(items: &mut Items, story: &Story<'_>, domain: &Domain<'_>) {
+pub(crate) fn add_failed(items: &mut Items, story: &Story<'_>, domain: &Domain) {
     let alloc = items.alloc();
     let words = match closing(story, domain) {
         Some(call) => why_of_close(alloc, story, domain, call),
@@ -31,7 +31,7 @@ pub(crate) fn add_failed(items: &mut Items, story: &Story<'_>, domain: &Domain<'
 fn why_of_close(
     alloc: Global,
     story: &Story<'_>,
-    domain: &Domain<'_>,
+    domain: &Domain,
     call: &MadeCall<'_>,
 ) -> TextBuilder {
     let mut words = TextBuilder::of(alloc, call.actor);
@@ -45,7 +45,7 @@ fn why_of_close(
 
 /// Puts for whom a domain waited when the call was made after which it failed after a text: `camera
 /// and encoder were`.
-fn put_awaited(text: &mut TextBuilder, story: &Story<'_>, domain: &Domain<'_>) {
+fn put_awaited(text: &mut TextBuilder, story: &Story<'_>, domain: &Domain) {
     match awaited_names(text.alloc(), story, domain) {
         Ok(names) => put_waiting(text, &names),
         Err(AllocError) => text.refuse(),
@@ -56,7 +56,7 @@ fn put_awaited(text: &mut TextBuilder, story: &Story<'_>, domain: &Domain<'_>) {
 fn awaited_names<'a>(
     alloc: Global,
     story: &Story<'a>,
-    domain: &Domain<'_>,
+    domain: &Domain,
 ) -> Result<Vec<Name<'a>>, AllocError> {
     let number = domain.ended.unwrap_or(0);
     let index = match story.nodes.get(domain.root) {
@@ -78,7 +78,7 @@ fn put_waiting(text: &mut TextBuilder, names: &[Name<'_>]) {
 }
 
 /// The call after which a domain failed, if it closes one of its nodes.
-fn closing<'b, 'a>(story: &'b Story<'a>, domain: &Domain<'_>) -> Option<&'b MadeCall<'a>> {
+fn closing<'b, 'a>(story: &'b Story<'a>, domain: &Domain) -> Option<&'b MadeCall<'a>> {
     let call = story.call(domain.ended?)?;
     let closed = story.domain_of(call.node?)?;
     if matches!(call.act, Act::Close) && closed.root == domain.root {
@@ -90,16 +90,15 @@ fn closing<'b, 'a>(story: &'b Story<'a>, domain: &Domain<'_>) -> Option<&'b Made
 
 /// Why a domain failed that was attached to a node.
 fn why_of_host(alloc: Global, story: &Story<'_>, host: usize) -> TextBuilder {
-    let verdict = match story.domain_of(host) {
-        Some(above) => above.verdict(),
-        None => "",
-    };
     let mut words = TextBuilder::of(alloc, "it was attached to ");
     words.name(story.called(host));
-    match verdict {
-        "failed" => words.put(", whose domain failed"),
-        "chosen" => words.put(": ").put_words(&left_out(alloc, story, host)),
-        _ => words.put(", whose domain is ").put(verdict),
+    let Some(above) = story.domain_of(host) else {
+        return words;
+    };
+    match above.became {
+        Became::Failed => words.put(", whose domain failed"),
+        Became::Chosen => words.put(": ").put_words(&left_out(alloc, story, host)),
+        other => words.put(", whose domain is ").put(other.word()),
     };
     words
 }
@@ -152,7 +151,7 @@ pub(crate) fn add_none(
     platform: &Platform,
     story: &Story<'_>,
     index: usize,
-    domain: &Domain<'_>,
+    domain: &Domain,
 ) -> Result<(), AllocError> {
     if domain.host.is_some() {
         return add_late(items, platform, story, index, domain);
@@ -176,7 +175,7 @@ fn add_late(
     platform: &Platform,
     story: &Story<'_>,
     index: usize,
-    domain: &Domain<'_>,
+    domain: &Domain,
 ) -> Result<(), AllocError> {
     let Some(settings) = settings_above(story, domain) else {
         return Ok(());
@@ -189,7 +188,7 @@ fn add_late(
 }
 
 /// The settings of the domain to which one was attached.
-fn settings_above<'b>(story: &'b Story<'_>, domain: &Domain<'_>) -> Option<&'b Settings> {
+fn settings_above<'b>(story: &'b Story<'_>, domain: &Domain) -> Option<&'b Settings> {
     story.domain_of(domain.host?)?.settings.as_ref()
 }
 
@@ -260,7 +259,7 @@ pub fn accepted_before<'a>(
 /// Whether settings were chosen in the domain of an index.
 fn is_chosen(story: &Story<'_>, index: usize) -> bool {
     match story.domains.get(index) {
-        Some(domain) => domain.verdict() == "chosen",
+        Some(domain) => domain.became == Became::Chosen,
         None => false,
     }
 }

@@ -5,7 +5,7 @@ use crate::domains::add_domain;
 use crate::selecting::{DomainView, add_left_out};
 use explanation_text::{Items, Kind, TextBuilder};
 use negotiation_inputs::Platform;
-use script_story::{Story, refused_words};
+use script_story::{Became, Story, refused_words};
 use std::alloc::AllocError;
 
 /// How many lines are told of a domain.
@@ -60,7 +60,7 @@ fn add_reasons<'a, 'b>(
     let Some(domain) = story.domains.get(index) else {
         return Ok(());
     };
-    if domain.verdict() != "chosen" {
+    if domain.became != Became::Chosen {
         return add_domain(items, platform, story, index);
     }
     if domain.host.is_some() {

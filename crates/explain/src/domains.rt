@@ -10,7 +10,7 @@ use other_outcomes::{
     add_without,
 };
 use script_faults::Document;
-use script_story::{Scenario, Story, asked_in};
+use script_story::{Became, Scenario, Story, asked_in};
 use std::alloc::AllocError;
 
 /// Tells each domain, in the order of the report.
@@ -43,16 +43,16 @@ fn add_helps(
         return Ok(());
     };
     let path = story.path(domain.root);
-    match domain.verdict() {
-        "pending" => {
+    match domain.became {
+        Became::Pending => {
             add_then(items, scenario, story, path)?;
             add_without(items, scenario, story, index, path)
         }
-        "empty" => {
+        Became::Empty => {
             add_ended_later(items, scenario, story, index, path)?;
             add_edits(items, document, scenario, story, index)
         }
-        "chosen" => {
+        Became::Chosen => {
             add_later_children(items, scenario, story, index, path)?;
             add_later_pairs(items, scenario, story, index, path)
         }

@@ -11,7 +11,7 @@ use constraint_edits::{Change, Edit, EditedConstraints, edited};
 use domain_reasons::choices_in;
 use explanation_text::{Items, Step, TextBuilder};
 use script_faults::{Document, RecordPart};
-use script_story::{Milestone, Scenario, Story, asked_in};
+use script_story::{Became, Milestone, Scenario, Story, asked_in};
 use settings_reasons::{holder_of, is_taken, unused_entries};
 use std::alloc::{AllocError, Global};
 use sysmem_formats::{Modifier, Pair, PixelFormat};
@@ -32,11 +32,12 @@ pub(crate) fn add_unused(
     story: &Story<'_>,
     index: usize,
 ) -> Result<(), AllocError> {
-    let verdict = verdict_of(story, index);
-    if verdict != "chosen" && verdict != "empty" {
-        return Ok(());
-    }
-    let participants = asked_in(items.alloc(), story, index, verdict == "chosen")?;
+    let is_chosen = match became_at(story, index) {
+        Some(Became::Chosen) => true,
+        Some(Became::Empty) => false,
+        _ => return Ok(()),
+    };
+    let participants = asked_in(items.alloc(), story, index, is_chosen)?;
     for participant in &participants {
         add_of(items, &*document, &*scenario, &*story, index, participant)?;
     }
@@ -65,18 +66,18 @@ fn add_of<'a, 'b>(
     teller.tell(items)
 }
 
-/// The word of the report for what became of a domain, by index.
-fn verdict_of<'a>(story: &Story<'a>, index: usize) -> &'a str {
+/// What became of a domain, by index.
+fn became_at(story: &Story<'_>, index: usize) -> Option<Became> {
     match story.domains.get(index) {
-        Some(domain) => domain.verdict(),
-        None => "",
+        Some(domain) => Some(domain.became),
+        None => None,
     }
 }
 
 /// What the report's line says of a domain, by index.
-fn told_of<'a>(story: &Story<'a>, index: usize) -> &'a str {
+fn told_of<'b>(story: &'b Story<'_>, index: usize) -> &'b str {
     match story.domains.get(index) {
-        Some(domain) => domain.told,
+        Some(domain) => &domain.told,
         None => "",
     }
 }
@@ -130,7 +131,7 @@ impl Teller<'_, '_> {
         items.say(1, "note", self.sentence(items.alloc(), index, holder));
         let item = entry_place(self.participant.stated, index).item;
         let is_own = item == entry_place(self.participant.stated, holder.index).item;
-        let is_chosen = verdict_of(self.story, self.index) == "chosen";
+        let is_chosen = became_at(self.story, self.index) == Some(Became::Chosen);
         let is_spent = self.scenario.effort.is_spent();
         if is_own || !is_chosen || is_spent || tried.contains(&item) {
             return Ok(());

@@ -17,7 +17,7 @@ use explanation_text::{
 use other_outcomes::add_moved;
 use script_faults::{Document, Whole, add_fault, add_no_json};
 use script_reading::{ParseFault, Script, ScriptFault, parse_script, read_script};
-use script_story::{Effort, Scenario, Story, list_refused, refused_calls, story_of};
+use script_story::{Became, Effort, Scenario, Story, list_refused, refused_calls, story_of};
 use serde_json::Value;
 use std::alloc::{AllocError, Global};
 
@@ -337,7 +337,7 @@ fn add_calls(
 
 fn outcome_of(story: &Story<'_>) -> Outcome {
     for domain in &story.domains {
-        if domain.verdict() != "chosen" {
+        if domain.became != Became::Chosen {
             return Outcome::Faulty;
         }
     }

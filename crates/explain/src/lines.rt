@@ -3,7 +3,7 @@
 use explanation_text::{Item, Kind, Step, Text, TextBuilder, Thing, line_of};
 use record_reading::{ENTRY_FIELDS, MEMORY_FIELDS};
 use script_faults::{Document, RecordPart, Whole};
-use script_story::{Milestone, Story};
+use script_story::{Became, Milestone, Story};
 use std::alloc::{AllocError, Global};
 use sysmem_counts::{Field, Kind as FieldKind};
 use sysmem_sanitise::CONSTRAINTS_FIELDS;
@@ -73,7 +73,7 @@ fn empty_domain(story: &Story<'_>, title: &Item) -> Option<usize> {
         return None;
     };
     for (index, domain) in story.domains.iter().enumerate() {
-        if domain.root == root && domain.verdict() == "empty" {
+        if domain.root == root && domain.became == Became::Empty {
             return Some(index);
         }
     }

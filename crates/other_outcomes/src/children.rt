@@ -7,7 +7,7 @@ ghost use Rattle.other_outcomes.specs.Exchanged.{IsPromisedExchanged, on_other};
 use crate::pending::place_of;
 use explanation_text::{Items, ListBuilder, TextBuilder};
 use script_reading::Call;
-use script_story::{MadeCall, Scenario, Story, first_word};
+use script_story::{MadeCall, Scenario, Story};
 use std::alloc::{AllocError, Global};
 
 /// How many children are tried.
@@ -153,7 +153,7 @@ fn outcome_exchanged(
 /// Whether these are the choices of the domain of two children, if that is chosen.
 fn is_now(story: &Story<'_>, pair: Siblings, choices: &str) -> bool {
     match story.domain_of(pair.chosen) {
-        Some(domain) => !choices.is_empty() && choices == choices_of(domain.told),
+        Some(domain) => !choices.is_empty() && choices == choices_of(&domain.told),
         None => false,
     }
 }
@@ -171,7 +171,10 @@ fn is_called(calls: &[MadeCall<'_>], place: usize) -> bool {
 /// The choices that a line on a domain that is chosen names, as a text; empty where it isn't.
 fn choices_of(line: &str) -> &str {
     match line.strip_prefix("chosen ") {
-        Some(rest) => first_word(rest),
+        Some(rest) => match rest.split_once(' ') {
+            Some((choices, _)) => choices,
+            None => rest,
+        },
         None => "",
     }
 }

@@ -61,7 +61,7 @@ fn add_replayed<'a>(
     moves: &[Move],
     value: &'a Value,
     calls: &[Call<'a>],
-    told: &'a ReplayedCalls,
+    told: &'a ReplayedCalls<'_>,
 ) -> Result<(), AllocError> {
     let then = story_of(items.alloc(), value, calls, told)?;
     add_story(items, scenario, moves, &then)

@@ -1,56 +1,26 @@
 //! The object of a call.
 
+use script_replay::{CallEvent, Reply, put_reply_text};
 use std::alloc::AllocError;
 use std::fmt::Write;
 
-/// What the line of a call says: its number, what it does, on which name, the name that it makes,
-/// and the reply.
-#[derive(Clone, Copy)]
-pub(crate) struct CallLine<'a> {
-    pub number: usize,
-    pub act: &'a str,
-    pub on: &'a str,
-    pub made: Option<&'a str>,
-    pub reply: &'a str,
-}
-
 /// Puts the object of a call: `{"as":"camera","call":1,"does":"duplicate","ok":true,"on":"root"}`.
-pub(crate) fn put_call(out: &mut String, called: &CallLine<'_>) -> Result<(), AllocError> {
+pub(crate) fn put_call(out: &mut String, called: &CallEvent<'_>) -> Result<(), AllocError> {
     out.push_str("{")?;
-    put_made(out, called.made)?;
+    if let Some(name) = called.call.act.name_made() {
+        write!(out, "\"as\":\"{name}\",")?;
+    }
     let number = called.number;
-    let act = called.act;
+    let act = called.call.act.name();
     write!(out, "\"call\":{number},\"does\":\"{act}\",\"ok\":")?;
-    put_reply(out, called.on, called.reply)
+    put_reply(out, called.call.on, called.reply)
 }
 
-/// Puts the name that a call makes, if it makes one.
-fn put_made(out: &mut String, made: Option<&str>) -> Result<(), AllocError> {
-    match made {
-        Some(name) => write!(out, "\"as\":\"{name}\","),
-        None => Ok(()),
+fn put_reply(out: &mut String, on: &str, reply: Reply) -> Result<(), AllocError> {
+    if let Reply::Accepted = reply {
+        return writeln!(out, "true,\"on\":\"{on}\"}}");
     }
-}
-
-fn put_reply(out: &mut String, on: &str, reply: &str) -> Result<(), AllocError> {
-    if reply == "ok" {
-        writeln!(out, "true,\"on\":\"{on}\"}}")
-    } else {
-        writeln!(out, "false,\"on\":\"{on}\",\"refused\":\"{reply}\"}}")
-    }
-}
-
-/// The reply in a call's line, after its number, what it does, the name that it is made on, and the
-/// name that it makes.
-pub(crate) fn reply_in(line: &str, makes: bool) -> &str {
-    let rest = after_word(after_word(after_word(line)));
-    if makes { after_word(rest) } else { rest }
-}
-
-/// The text after the first word.
-fn after_word(text: &str) -> &str {
-    match text.split_once(' ') {
-        Some((_, more)) => more,
-        None => "",
-    }
+    write!(out, "false,\"on\":\"{on}\",\"refused\":\"")?;
+    put_reply_text(out, reply)?;
+    out.push_str("\"}\n")
 }

@@ -3,79 +3,48 @@
 ghost use Rattle.std.specs.Prelude.{◌≡◌};
 ghost use Rattle.drm_images.specs.Planes.{bytes_of};
 
-use crate::put::{put_name, put_number, word_at};
+use crate::put::{put_name, put_number};
 use drm_images::{Plane, bits_of, image_bytes, letters_of, plane_at};
 use std::alloc::AllocError;
 use std::fmt::Write;
-use sysmem_formats::{Modifier, Pair, PixelFormat};
+use sysmem_formats::{ColourSpace, Modifier, Offer, Pair, PixelFormat};
+use sysmem_image::Corner;
 
-// Where the words stand in the line of settings:
-// `/ chosen - count 8 size 2402304 place cma#0 ram image NV12 LINEAR REC709 1440x1088 row 1472`.
-const FORMAT: usize = 11;
-
-const MODIFIER: usize = 12;
-
-const COLOUR: usize = 13;
-
-const SIDES: usize = 14;
-
-const ROW: usize = 16;
-
-/// Puts the image that the words of a line tell, or null where buffers hold none.
-pub(crate) fn put_image(out: &mut String, words: &[&str]) -> Result<(), AllocError> {
-    match pair_in(words) {
-        Some(pair) => put_shown(out, pair, words),
-        None => out.push_str("null"),
+/// Puts the image that buffers hold, or null where they hold none.
+pub(crate) fn put_image(out: &mut String, offer: Offer, corner: Corner) -> Result<(), AllocError> {
+    match offer {
+        Offer::NoImage => out.push_str("null"),
+        Offer::Image(pair, colour) => put_shown(out, pair, colour, corner),
     }
 }
 
-/// The pair that the words name, if they name one.
-fn pair_in(words: &[&str]) -> Option<Pair> {
-    let format = PixelFormat::from_name(word_at(words, FORMAT))?;
-    let modifier = Modifier::from_name(word_at(words, MODIFIER))?;
-    Some(Pair { format, modifier })
-}
-
-fn put_shown(out: &mut String, pair: Pair, words: &[&str]) -> Result<(), AllocError> {
-    let colour = word_at(words, COLOUR);
-    let bits = bits_of(pair.modifier);
+fn put_shown(
+    out: &mut String,
+    pair: Pair,
+    colour: ColourSpace,
+    corner: Corner,
+) -> Result<(), AllocError> {
+    let (colour, bits) = (colour.name(), bits_of(pair.modifier));
     write!(
         out,
         "{{\"color_space\":\"{colour}\",\"drm_modifier\":\"0x{bits:016x}\",\"fourcc\":"
     )?;
     put_name(out, letters_of(pair.format))?;
-    let (width, height) = sides_in(word_at(words, SIDES));
+    let Corner { width, height, .. } = corner;
     put_names(out, pair, height)?;
-    put_planes(out, pair, word_at(words, ROW), height)?;
+    if let Some(bytes) = image_bytes(pair, corner.bytes_per_row, height) {
+        put_each_plane(out, pair, corner.bytes_per_row, height, bytes)?;
+    }
     write!(out, "],\"width\":{width}}}")
 }
 
-/// Width and height, which a line has as `1440x1088`.
-fn sides_in(text: &str) -> (&str, &str) {
-    match text.split_once('x') {
-        Some(sides) => sides,
-        None => (text, ""),
-    }
-}
-
-fn put_names(out: &mut String, pair: Pair, height: &str) -> Result<(), AllocError> {
+fn put_names(out: &mut String, pair: Pair, height: u32) -> Result<(), AllocError> {
     let modifier = pair.modifier.name();
     let format = pair.format.name();
     write!(
         out,
         ",\"height\":{height},\"modifier\":\"{modifier}\",\"pixel_format\":\"{format}\",\"planes\":["
     )
-}
-
-/// Puts the planes of an image, by the bytes of its row and its height.
-fn put_planes(out: &mut String, pair: Pair, row: &str, height: &str) -> Result<(), AllocError> {
-    let (Ok(pitch), Ok(height)) = (row.parse::<u32>(), height.parse::<u32>()) else {
-        return Ok(());
-    };
-    match image_bytes(pair, pitch, height) {
-        Some(bytes) => put_each_plane(out, pair, pitch, height, bytes),
-        None => Ok(()),
-    }
 }
 
 /// Puts the planes of an image that has so many bytes.

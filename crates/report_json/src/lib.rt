@@ -1,4 +1,4 @@
-//! A script's report for programs: an object of JSON for each of its lines, and one that ends them.
+//! A script's report for programs: an object of JSON for each line, and one that ends them.
 //!
 //! ```
 //! let mut reader = Counted::new(file);
@@ -14,7 +14,8 @@ mod names;
 mod put;
 mod reasons;
 mod running;
+mod said;
 mod telling;
 
-pub use domain_object::decision_object;
 pub use running::{run_as_json, run_as_json_with_proof};
+pub use said::decision_object;

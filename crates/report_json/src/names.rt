@@ -1,14 +1,13 @@
 //! The names that a script has for nodes.
 
+use script_replay::{Event, ReplayedCalls, text_of_path};
 use std::alloc::{AllocError, Global};
-use std::fmt::Write;
 
-/// A node's name in the script, its path, and how many nodes were made on it.
+/// A node's name in the script, and its path.
 #[derive(Drop)]
 struct NodeName<'a> {
     name: &'a str,
     path: String,
-    made: usize,
 }
 
 /// The nodes of a collection, in the order in which they were made.
@@ -18,43 +17,42 @@ pub(crate) struct Names<'a> {
 }
 
 impl<'a> Names<'a> {
-    /// The root alone.
-    pub(crate) fn new(alloc: Global) -> Result<Names<'a>, AllocError> {
-        let mut list = Vec::new(alloc);
-        let path = String::from_str(alloc, "/")?;
-        list.push(NodeName {
-            name: "root",
-            path,
-            made: 0,
-        })?;
-        Ok(Names { list })
-    }
-
-    /// Adds a node that was made on another.
-    pub(crate) fn add(&mut self, on: &str, name: &'a str) -> Result<(), AllocError> {
-        let Some(place) = self.place_of(on) else {
-            return Ok(());
+    /// The names of the nodes that calls made.
+    pub(crate) fn of(alloc: Global, replayed: &ReplayedCalls<'a>) -> Result<Names<'a>, AllocError> {
+        let mut names = Names {
+            list: Vec::new(alloc),
         };
-        let Some(above) = self.list.get_mut(place) else {
-            return Ok(());
-        };
-        let path = path_below(above)?;
-        above.made = above.made.saturating_add(1);
-        self.list.push(NodeName {
-            name,
-            path,
-            made: 0,
-        })?;
-        Ok(())
-    }
-
-    fn place_of(&self, name: &str) -> Option<usize> {
-        for place in 0..self.list.len() {
-            if self.list[place].name == name {
-                return Some(place);
+        names.add(alloc, replayed, 0, "root")?;
+        let mut place = 0usize;
+        for event in replayed.events.as_slice() {
+            let Event::Call(called) = event else {
+                continue;
+            };
+            if let Some(name) = called.call.act.name_made() {
+                place = place.saturating_add(1);
+                names.add(alloc, replayed, place, name)?;
             }
         }
-        None
+        Ok(names)
+    }
+
+    /// Adds the node that the name at a place stands for, if there is one.
+    fn add(
+        &mut self,
+        alloc: Global,
+        replayed: &ReplayedCalls<'a>,
+        place: usize,
+        name: &'a str,
+    ) -> Result<(), AllocError> {
+        let tree = replayed.book().tree();
+        let Some(number) = replayed.node_named(place) else {
+            return Ok(());
+        };
+        if let Some(node) = tree.node(number) {
+            let path = text_of_path(alloc, &tree.path_of(node)?)?;
+            self.list.push(NodeName { name, path })?;
+        }
+        Ok(())
     }
 
     /// The name of the node at a path, if there is one.
@@ -66,15 +64,4 @@ impl<'a> Names<'a> {
         }
         None
     }
-}
-
-/// The path of the next node that is made on this one.
-fn path_below(above: &NodeName<'_>) -> Result<String, AllocError> {
-    let mut path = String::new(*above.path.allocator());
-    if above.path.as_str() != "/" {
-        path.push_str(above.path.as_str())?;
-    }
-    let ordinal = above.made;
-    write!(path, "/{ordinal}")?;
-    Ok(path)
 }

@@ -1,45 +1,55 @@
 //! The object of a domain that no settings meet, with whom its refutation names.
 
-use crate::domain_object::{put_root, put_verdict};
+use crate::domain_object::{Root, put_root, put_verdict};
 use crate::names::Names;
 use crate::put::put_name;
+use certificate_text::CertificateWriter;
+use negotiation_inputs::Platform;
+use script_replay::Decision;
 use serde_json::Value;
-use std::alloc::AllocError;
+use std::alloc::{AllocError, Global};
 use std::fmt::Write;
+use sysmem_tree::Path;
 
-/// Puts the object of a domain that no settings meet, with the refutation that the certificate has
-/// of it. It fails where memory is refused, and where the certificate has none.
+/// Puts the object of a domain that no settings meet, with what refutes them.
 pub(crate) fn put_empty(
     out: &mut String,
+    platform: &Platform,
     names: &Names<'_>,
-    path: &str,
-    decisions: &Value,
+    root: Root<'_>,
+    path: &Path,
+    one: &Decision,
 ) -> Result<(), AllocError> {
-    let Some(refutation) = refutation_at(decisions, path) else {
-        return Err(AllocError);
-    };
-    let text = refutation.to_string(*out.allocator())?;
+    let text = refutation_of(*out.allocator(), platform, path, one)?;
     out.push_str("{\"because\":")?;
     put_reasons(out, names, text.as_str())?;
     out.push_str(",")?;
-    put_root(out, path, names.at(path))?;
+    put_root(out, root)?;
     put_verdict(out, "empty")
 }
 
-/// What refutes the domain at a path.
-fn refutation_at<'v>(decisions: &'v Value, path: &str) -> Option<&'v Value> {
-    for decision in decisions.as_array()? {
-        if is_about(decision, path) {
-            return decision.get("refutation");
-        }
-    }
-    None
-}
-
-fn is_about(decision: &Value, path: &str) -> bool {
-    match decision.get("domain").and_then(Value::as_str) {
-        Some(domain) => domain == path,
-        None => false,
+/// The text of what refutes a domain's settings, as a certificate has it. It fails where memory is
+/// refused, and where nothing refutes them.
+fn refutation_of(
+    alloc: Global,
+    platform: &Platform,
+    path: &Path,
+    one: &Decision,
+) -> Result<String, AllocError> {
+    let Some(claim) = &one.claim else {
+        return Err(AllocError);
+    };
+    let mut writer = CertificateWriter::new(alloc)?;
+    writer.put(platform, path, Some(&**claim))?;
+    let Ok(value) = Value::from_slice(alloc, &writer.finish()?) else {
+        return Err(AllocError);
+    };
+    let Some(decision) = value.get(0) else {
+        return Err(AllocError);
+    };
+    match decision.get("refutation") {
+        Some(refutation) => refutation.to_string(alloc),
+        None => Err(AllocError),
     }
 }
 

@@ -1,31 +1,35 @@
 //! A script's run, from its bytes to the objects of its report.
 
-ghost use Rattle.std.specs.Prelude.{◌≡◌, ◌≢◌, [], Err, Some, IfErr, IfSome};
+ghost use Rattle.std.specs.Prelude.{◌≡◌, ◌≢◌, Err, IfSome};
+ghost use Rattle.serde_json.specs.View.{view};
 ghost use Rattle.script_reading.specs.declared.fault.ScriptFault.{ScriptFault as FaultOfScript};
-ghost use Rattle.script_replay.specs.Outcome.{RunsTo};
-ghost use Rattle.script_run.specs.Run.{IsCausedBy, RanWithProof, both_counts};
+ghost use Rattle.script_replay.specs.Outcome.{RunsTo, ValueRunsTo, anyhow};
+ghost use Rattle.script_run.specs.Run.{IsCausedBy, both_counts};
 
 use crate::telling::objects_of;
 use byte_transfer::{Counted, Sink, Source, read_up_to_limit, write_fully};
-use script_reading::{LONGEST, parse_script, read_script};
-use script_run::{RunFault, RunOutcome, run_with_proof};
+use certificate_pieces::CertificatePieces;
+use script_reading::{LONGEST, Script, parse_script, read_script};
+use script_replay::{DomainFate, Event, Proving, ReplayedCalls, replayed_of};
+use script_run::{RunFault, RunOutcome};
 use serde_json::Value;
 use std::alloc::{AllocError, Global};
 
-/// The objects of a report, the certificate of its decisions, and how the run ended that gave both.
+/// The objects of a report, the certificate of its decisions, and whether memory was refused in it.
 #[derive(Drop)]
 struct RunObjects {
-    ended: RunOutcome,
     objects: String,
-    certificate: Vec<u8>,
+    certificate: CertificatePieces,
+    starved: bool,
 }
 
-/// How a run ended, and what it wrote.
-#[derive(Drop)]
-struct TextRun {
-    ended: Result<RunOutcome, RunFault>,
-    report: Vec<u8>,
-    certificate: Vec<u8>,
+/// How a run ends that wrote its objects.
+fn ended_by(starved: bool) -> RunOutcome {
+    if starved {
+        RunOutcome::MemoryRefused
+    } else {
+        RunOutcome::Done
+    }
 }
 
 /// Reads a script, makes its calls, and writes an object of JSON for each line of their report, and
@@ -50,7 +54,7 @@ pub fn run_as_json<R: Source, W: Sink>(
     let bytes = read_up_to_limit(alloc, reader, LONGEST)?;
     let told = told_of(alloc, &bytes)?;
     write_fully(writer, told.objects.as_bytes())?;
-    Ok(told.ended)
+    Ok(ended_by(told.starved))
 }
 
 /// The same, which then writes the certificate of the report's decisions to `proof`.
@@ -71,9 +75,14 @@ pub fn run_as_json_with_proof<R: Source, W: Sink, P: Sink>(
 {
     let bytes = read_up_to_limit(alloc, reader, LONGEST)?;
     let told = told_of(alloc, &bytes)?;
-    write_fully(writer, told.objects.as_bytes())?;
-    write_fully(proof, &told.certificate)?;
-    Ok(told.ended)
+    let RunObjects {
+        objects,
+        certificate,
+        starved,
+    } = told;
+    write_fully(writer, objects.as_bytes())?;
+    certificate.write(proof)?;
+    Ok(ended_by(starved))
 }
 
 /// What is told of a script's bytes. It fails where the script is refused, by its first fault, and
@@ -83,68 +92,49 @@ fn told_of(alloc: Global, bytes: &[u8]) -> Result<RunObjects, RunFault>
         → RunsTo bytes.now (Err fault) }
     ensures silent { (result ≢ Err RunFault.Read) × (result ≢ Err RunFault.Write) }
 {
-    let made = made_of(alloc, bytes);
-    match made.ended {
-        Ok(ended) => told_made(alloc, bytes, ended, made.report, made.certificate),
-        Err(RunFault::Script(fault)) => Err(RunFault::Script(fault)),
+    let value = parse_script(alloc, bytes)?;
+    told_value(alloc, &value)
+}
+
+/// What is told of a script's value.
+fn told_value(alloc: Global, value: &Value) -> Result<RunObjects, RunFault>
+    ensures refused { (fault : FaultOfScript) → result ≡ Err (RunFault.Script fault)
+        → ValueRunsTo anyhow (view value.now) (Err fault) }
+    ensures silent { (result ≢ Err RunFault.Read) × (result ≢ Err RunFault.Write) }
+{
+    let script = read_script(alloc, value)?;
+    match told_script(alloc, script) {
+        Ok(told) => Ok(told),
         Err(_) => Err(RunFault::NoMemory),
     }
 }
 
-fn made_of(alloc: Global, bytes: &[u8]) -> TextRun
-    ensures { RanWithProof result.ended (Some bytes.now) (Some []) (Some result.report.items)
-        (Some []) (Some result.certificate.items) }
-{
-    let mut reader = Counted::new(bytes);
-    let mut writer = Counted::new(Vec::new(alloc));
-    let mut proof = Counted::new(Vec::new(alloc));
-    let ended = run_with_proof(alloc, &mut reader, &mut writer, &mut proof);
-    TextRun {
-        ended,
-        report: writer.inner,
-        certificate: proof.inner,
-    }
+/// What is told of a script, whose decisions are made with what proves them.
+fn told_script(alloc: Global, script: Script<'_>) -> Result<RunObjects, AllocError> {
+    let mut proving = Proving;
+    let Ok(replayed) = replayed_of(alloc, script.platform, &script.calls, &mut proving) else {
+        return Err(AllocError);
+    };
+    Ok(RunObjects {
+        objects: objects_of(alloc, &replayed)?,
+        certificate: certificate_of(alloc, &replayed)?,
+        starved: replayed.report.starved,
+    })
 }
 
-/// The objects of a report that a run of these bytes wrote.
-fn told_made(
+/// The certificate of the decisions.
+fn certificate_of(
     alloc: Global,
-    bytes: &[u8],
-    ended: RunOutcome,
-    report: Vec<u8>,
-    certificate: Vec<u8>,
-) -> Result<RunObjects, RunFault>
-    ensures { IfErr result (λ fault. fault ≡ RunFault.NoMemory) }
-{
-    match objects_on(alloc, bytes, report, &certificate) {
-        Ok(objects) => Ok(RunObjects {
-            ended,
-            objects,
-            certificate,
-        }),
-        Err(_) => Err(RunFault::NoMemory),
+    replayed: &ReplayedCalls<'_>,
+) -> Result<CertificatePieces, AllocError> {
+    let platform = replayed.book().platform();
+    let mut pieces = CertificatePieces::new(alloc)?;
+    for event in replayed.events.as_slice() {
+        if let Event::Domain(domain) = event
+            && let DomainFate::Decided(one) = &domain.fate
+        {
+            pieces.put(platform, &domain.path, &one.claim)?;
+        }
     }
-}
-
-/// The same as a text. It fails where memory is refused, and where the bytes are no script or these
-/// no report and certificate of it.
-fn objects_on(
-    alloc: Global,
-    bytes: &[u8],
-    report: Vec<u8>,
-    certificate: &[u8],
-) -> Result<String, AllocError> {
-    let Ok(report) = String::from_utf8(report) else {
-        return Err(AllocError);
-    };
-    let Ok(value) = parse_script(alloc, bytes) else {
-        return Err(AllocError);
-    };
-    let Ok(script) = read_script(alloc, &value) else {
-        return Err(AllocError);
-    };
-    let Ok(decisions) = Value::from_slice(alloc, certificate) else {
-        return Err(AllocError);
-    };
-    objects_of(alloc, &script, report.as_str(), &decisions)
+    Ok(pieces)
 }

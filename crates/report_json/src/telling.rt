@@ -1,94 +1,94 @@
-//! The objects of a report, line by line.
+//! The objects of a report, one for each event, and one that ends them.
 
-use crate::call_object::{CallLine, put_call, reply_in};
-use crate::domain_object::put_told;
+use crate::call_object::put_call;
+use crate::domain_object::{Choice, Root, put_chosen, put_word};
 use crate::names::Names;
-use crate::put::{word_at, words_of};
 use crate::reasons::put_empty;
-use script_reading::Script;
-use serde_json::Value;
+use negotiation_inputs::Platform;
+use script_replay::{Decision, DomainEvent, DomainFate, Event, ReplayedCalls, text_of_path};
 use std::alloc::{AllocError, Global};
 use std::fmt::Write;
+use sysmem_image::Corner;
+use sysmem_tree::Path;
+use verdict_claims::{Chosen, Verdict};
 
-/// The objects so far, with what is needed of the script and of its certificate for the next.
+/// The objects so far, with what is needed for the next.
 #[derive(Drop)]
 struct Telling<'s, 'a> {
-    script: &'s Script<'a>,
-    decisions: &'s Value,
+    platform: &'s Platform,
     names: Names<'a>,
     calls: usize,
     decided: usize,
     out: String,
 }
 
-/// The objects of a script's report, by its lines and by the objects of its certificate, and one
-/// that ends them.
+/// The objects of what happened in a replay whose decisions have what proves them.
 pub(crate) fn objects_of(
     alloc: Global,
-    script: &Script<'_>,
-    report: &str,
-    decisions: &Value,
+    replayed: &ReplayedCalls<'_>,
 ) -> Result<String, AllocError> {
     let mut telling = Telling {
-        script,
-        decisions,
-        names: Names::new(alloc)?,
+        platform: replayed.book().platform(),
+        names: Names::of(alloc, replayed)?,
         calls: 0,
         decided: 0,
         out: String::new(alloc),
     };
-    for line in report.lines() {
-        telling.tell(line)?;
+    for event in replayed.events.as_slice() {
+        telling.tell(event)?;
     }
     telling.end()?;
     Ok(telling.out)
 }
 
 impl Telling<'_, '_> {
-    fn tell(&mut self, line: &str) -> Result<(), AllocError> {
-        match line.strip_prefix("domain ") {
-            Some(said) => self.add_domain(said),
-            None => self.write_call(line),
+    fn tell(&mut self, event: &Event<'_>) -> Result<(), AllocError> {
+        match event {
+            Event::Call(called) => {
+                self.calls = self.calls.saturating_add(1);
+                put_call(&mut self.out, called)
+            }
+            Event::Domain(domain) => self.add_domain(domain),
         }
     }
 
-    /// Tells what a line says of the next call: `7 duplicate root camera ok`.
-    fn write_call(&mut self, line: &str) -> Result<(), AllocError> {
-        let script = self.script;
-        let Some(call) = script.calls.get(self.calls) else {
-            return Ok(());
+    fn add_domain(&mut self, domain: &DomainEvent) -> Result<(), AllocError> {
+        let path = text_of_path(*self.out.allocator(), &domain.path)?;
+        let root = Root {
+            path: path.as_str(),
+            name: self.names.at(path.as_str()),
         };
-        self.calls = self.calls.saturating_add(1);
-        let words = words_of(*self.out.allocator(), line)?;
-        let made = call.act.name_made();
-        let called = CallLine {
-            number: self.calls,
-            act: word_at(&words, 1),
-            on: call.on,
-            made,
-            reply: reply_in(line, made.is_some()),
-        };
-        if let Some(name) = made
-            && called.reply == "ok"
-        {
-            self.names.add(call.on, name)?;
+        match &domain.fate {
+            DomainFate::Decided(one) => {
+                self.decided = self.decided.saturating_add(1);
+                self.add_decision(root, &domain.path, one)
+            }
+            DomainFate::Failed => put_word(&mut self.out, root, "failed"),
+            DomainFate::Pending => put_word(&mut self.out, root, "pending"),
         }
-        put_call(&mut self.out, &called)
     }
 
-    /// Tells what a line says of a domain: `/0 failed`.
-    fn add_domain(&mut self, said: &str) -> Result<(), AllocError> {
-        let words = words_of(*self.out.allocator(), said)?;
-        let path = word_at(&words, 0);
-        let verdict = word_at(&words, 1);
-        if verdict != "failed" && verdict != "pending" {
-            self.decided = self.decided.saturating_add(1);
-        }
-        let names = &self.names;
-        let platform = &self.script.platform;
-        match verdict {
-            "empty" => put_empty(&mut self.out, names, path, self.decisions),
-            _ => put_told(&mut self.out, platform, names.at(path), &words),
+    fn add_decision(
+        &mut self,
+        root: Root<'_>,
+        path: &Path,
+        one: &Decision,
+    ) -> Result<(), AllocError> {
+        match one.verdict() {
+            Some(Verdict::Chosen(chosen)) => {
+                put_chosen(
+                    &mut self.out,
+                    self.platform,
+                    root,
+                    &choice_of(chosen, one.corner),
+                )
+            }
+            Some(Verdict::IntersectionEmpty) => {
+                put_empty(&mut self.out, self.platform, &self.names, root, path, one)
+            }
+            Some(Verdict::TooMany) => put_word(&mut self.out, root, "too_many"),
+            Some(Verdict::Failed) => put_word(&mut self.out, root, "failed"),
+            Some(Verdict::NoMemory) | None => put_word(&mut self.out, root, "no_memory"),
         }
     }
 
@@ -100,5 +100,18 @@ impl Telling<'_, '_> {
             self.out,
             "{{\"calls\":{calls},\"decisions\":{decided},\"end\":true}}"
         )
+    }
+}
+
+/// What is told of a choice.
+fn choice_of(chosen: &Chosen, corner: Corner) -> Choice<'_> {
+    let settings = chosen.settings();
+    Choice {
+        selection: chosen.selection().choices(),
+        count: settings.count,
+        size_bytes: settings.size_bytes,
+        place: settings.place,
+        offer: settings.offer,
+        corner,
     }
 }

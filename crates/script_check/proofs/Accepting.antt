@@ -13,7 +13,8 @@ use Rattle.script_reading.specs.Script.{ScriptFacts}
 use Rattle.script_reading.specs.Text.{IsJson, longest}
 use Rattle.verdict_claims.specs.declared.certificate.Claim.{Claim}
 use Rattle.negotiation_inputs.specs.Platform.{PlatformFacts}
-use Rattle.script_run.specs.Certificate.{IsCertifiedBy, IsProved, certificate_of, data_of}
+use Rattle.script_replay.specs.Proving.{IsProved}
+use Rattle.script_run.specs.Certificate.{IsCertifiedBy, certificate_of, data_of}
 use Rattle.script_check.specs.Checked.{AreTaken, IsOf, accepts}
 use Rattle.script_check.specs.CheckedFile.{ChecksTo, EndsInYes, HasChecked, IsListOf, answer_text}
 use Rattle.script_check.specs.Headline.{HasClaim}

@@ -30,7 +30,7 @@ use Rattle.certificate_text.specs.Told.{decision_data}
 use Rattle.script_reading.specs.Script.{CallFacts}
 use Rattle.script_replay.specs.declared.reply.Reply.{Reply}
 use Rattle.script_replay.specs.Answer.{Replies, skips, misreads, starves, lacks, refuses, accepts, tells}
-use Rattle.script_run.specs.Certificate.{AreProved, IsProved}
+use Rattle.script_replay.specs.Proving.{AreProved, IsProved}
 use Rattle.script_check.specs.Laws.{CertificatesReadBack, claim_told}
 use Rattle.script_replay.specs.Report.{Certified, Goes, calls, certified, decides, stays, with_decision}
 use Rattle.script_replay.specs.State.{RunState, collection_tree, first_run_state}

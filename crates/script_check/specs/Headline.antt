@@ -11,7 +11,8 @@ use Rattle.sysmem_tree.specs.Path.{path_of}
 use Rattle.verdict_claims.specs.declared.certificate.Claim.{Claim}
 use Rattle.script_reading.specs.Script.{CallFacts, ScriptFacts}
 use Rattle.script_replay.specs.Report.{Certified, IsReport}
-use Rattle.script_run.specs.Certificate.{AreProved, CertifiedFacts, CertifiesTo, certificate_of}
+use Rattle.script_replay.specs.Proving.{AreProved}
+use Rattle.script_run.specs.Certificate.{CertifiedFacts, CertifiesTo, certificate_of}
 use Rattle.script_check.specs.Checked.{Answers, IsOf}
 use Rattle.script_check.specs.CheckedFile.{IsScriptOf}
 use Rattle.script_check.specs.declared.checked_file.CheckAnswer.TheVariants as answers

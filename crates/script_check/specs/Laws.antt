@@ -12,7 +12,8 @@ use Rattle.certificate_text.specs.Said.{claim_said}
 use Rattle.certificate_text.specs.Told.{decision_data}
 use Rattle.script_reading.specs.declared.fault.ScriptFault.{ScriptFault}
 use Rattle.script_reading.specs.Text.{IsJson, longest}
-use Rattle.script_run.specs.Certificate.{AreProved, CertifiedFacts, CertifiesTo}
+use Rattle.script_replay.specs.Proving.{AreProved}
+use Rattle.script_run.specs.Certificate.{CertifiedFacts, CertifiesTo}
 use Rattle.script_run.specs.Certificate.{IsCertifiedBy, certificate_of, data_of}
 use Rattle.script_check.specs.declared.checked_file.CheckAnswer.{CheckAnswer}
 use Rattle.script_check.specs.declared.checked_file.CheckAnswer.TheVariants as answers

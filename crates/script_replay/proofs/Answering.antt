@@ -21,8 +21,8 @@ use Rattle.script_reading.specs.Script.{CallFacts}
 use Rattle.script_replay.specs.declared.reply.Reply.{Reply}
 use Rattle.script_replay.specs.declared.reply.Reply.TheVariants.{Accepted, Refused, Misread, Skipped}
 use Rattle.script_replay.specs.Answer.{AsksFor, to_set, Replies, skips, misreads, starves, lacks, refuses, accepts, is_want}
-use Rattle.script_replay.specs.Lines.{call_line}
-use Rattle.script_replay.specs.Report.{Gave, calls, call_lines, failed_lines}
+use Rattle.script_replay.specs.Events.{EventFacts, call_events, called, calls, failed_events}
+use Rattle.script_replay.specs.Report.{Gave}
 use Rattle.script_replay.specs.Steps.{GoesIn, RepliesIn}
 use Rattle.script_replay.specs.State.{RunState, collection_tree, names_given, node_named, unmade}
 use Rattle.script_replay.proofs.Following.{state_at}
@@ -78,24 +78,24 @@ pub misread_as : (s t : RunState) (r : CallFacts) (k : ℕ) (d : Data) (fault : 
 misread_as s t r k d fault here act said wanting e = by_code s t r k d fault (is_want fault.code) here act said wanting refl e
 
 -- a reply with the domains that the call made fail
-pub replies_as : (number : ℕ) (s : RunState) (r : CallFacts) (t : RunState) (before between after : List ℕ) (reply : Reply)
-    → Replies s r reply t → between ≡ before ++ call_line number r reply → after ≡ between ++ failed_lines (collection_tree s) (collection_tree t) → RepliesIn number s r t before after
+pub replies_as : (number : ℕ) (s : RunState) (r : CallFacts) (t : RunState) (before between after : List EventFacts) (reply : Reply)
+    → Replies s r reply t → between ≡ before ++ called number r reply ∷ [] → after ≡ between ++ failed_events (collection_tree s) (collection_tree t) → RepliesIn number s r t before after
 replies_as number s r t before between after reply answered e f = record {
   reply = reply;
   replies = answered;
-  put = f ∙ (ap (λ ts. ts ++ failed_lines (collection_tree s) (collection_tree t)) e ∙ append_assoc before (call_line number r reply) (failed_lines (collection_tree s) (collection_tree t)));
+  put = f ∙ (ap (λ ts. ts ++ failed_events (collection_tree s) (collection_tree t)) e ∙ append_assoc before (called number r reply ∷ []) (failed_events (collection_tree s) (collection_tree t)));
 }
 
 -- with what follows they are what a call makes
-pub takes_as : (number : ℕ) (s : RunState) (r : CallFacts) (mid t : RunState) (before between after : List ℕ) (H K : PlatformFacts → Gave) → next_ready s.book ≡ None
+pub takes_as : (number : ℕ) (s : RunState) (r : CallFacts) (mid t : RunState) (before between after : List EventFacts) (H K : PlatformFacts → Gave) → next_ready s.book ≡ None
     → RepliesIn number s r mid before between → ((k : ℕ) → GoesIn k mid [] t between after (H mid.platform) (K mid.platform)) → GoesIn number s (r ∷ []) t before after (H s.platform) (K s.platform)
 takes_as number s r mid t before between after H K idle replied followed =
     let on = subst (λ p. GoesIn (number + 1) mid [] t between after (H p) (K p)) (replies_platform s mid r replied.reply replied.replies) (followed (number + 1)) in
     record {
-      lines = call_lines number s r replied.reply mid ++ on.lines;
+      events = call_events number s r replied.reply mid ++ on.events;
       decisions = on.decisions;
-      goes = calls number s mid t r [] replied.reply on.lines on.decisions idle replied.replies on.goes;
-      put = on.put ∙ (ap (λ ts. ts ++ on.lines) replied.put ∙ append_assoc before (call_lines number s r replied.reply mid) on.lines);
+      goes = calls number s mid t r [] replied.reply on.events on.decisions idle replied.replies on.goes;
+      put = on.put ∙ (ap (λ ts. ts ++ on.events) replied.put ∙ append_assoc before (call_events number s r replied.reply mid) on.events);
       gave = on.gave;
     }
 

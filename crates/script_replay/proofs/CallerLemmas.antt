@@ -1,5 +1,6 @@
 -- What callers need of a replay's definitions, and of a domain that is to be decided.
 pub use Rattle.script_replay.proofs.OneDecision.{has_verdict, one_decision}
+pub use Rattle.script_replay.proofs.Proved.{if_mapped, proved_push}
 pub use Rattle.script_replay.proofs.OneReply.{answer_for, is_answer, or_right, unstarved_before}
 use Rattle.std.proofs.Common.{◌≡◌, ℕ, ◌+◌, List, Option, Some, None, refl, ◌∙◌, ap, subst}
 use Rattle.std.specs.Prelude.{is_none, option_map}

@@ -1,13 +1,14 @@
 pub mod Answering
 pub mod CallerLemmas
 pub mod Corners
+pub mod EventLines
 pub mod Failures
 pub mod Following
 pub mod Growing
 pub mod OneDecision
 pub mod OneReply
+pub mod Proved
 pub mod Reaching
-pub mod Replying
 pub mod Results
 pub mod Since
 pub mod Stopping

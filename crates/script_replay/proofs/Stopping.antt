@@ -1,17 +1,19 @@
 -- Where decisions stop.
-use Rattle.std.proofs.Common.{◌≡◌, ℕ, ◌+◌, ◌++◌, List, [], ◌∷◌, length, Some, None, Result, Err, refl, sym, ◌∙◌, ap, subst, append-nil, append_assoc}
+use Rattle.std.proofs.Common.{◌≡◌, ℕ, suc, arith, ◌+◌, ◌++◌, List, [], ◌∷◌, length, Some, None, Result, Err, refl, sym, ◌∙◌, ap, subst, append-nil, append_assoc}
 use Rattle.std.specs.Prelude.{IfErr}
+use Rattle.sysmem_alloc.specs.Decision.{answer_of}
 use Rattle.sysmem_alloc.specs.State.{next_ready}
 use Rattle.negotiation_inputs.specs.Platform.{PlatformFacts}
 use Rattle.script_reading.specs.Script.{CallFacts}
 use Rattle.script_replay.specs.declared.decider.Objection.{Objection}
 use Rattle.script_replay.specs.declared.decider.Stop.{Stop}
 use Rattle.script_replay.specs.declared.decider.Stop.TheVariants.{NoMemory, Refused}
-use Rattle.script_replay.specs.Report.{Gave, calls, call_lines, stays}
+use Rattle.script_replay.specs.Events.{EventFacts, events_text}
+use Rattle.script_replay.specs.Report.{Certified, Gave, Goes, calls, call_lines, certified, decides, decision_lines, stays, with_decision}
 use Rattle.script_replay.specs.Steps.{GoesIn, RepliesIn}
 use Rattle.script_replay.specs.State.{RunState}
 use Rattle.script_replay.specs.Stop.{IfObjects, Objects, StopsIn}
-use Rattle.script_replay.proofs.Following.{goes_on}
+use Rattle.script_replay.proofs.EventLines.{goes_told}
 use Rattle.script_replay.proofs.CallerLemmas.{goes_platform, replies_platform}
 
 -- of an objection another holds
@@ -52,20 +54,33 @@ stops_here s G H objects domain o next kept object number = record {
   object = object;
 }
 
+-- calls and decisions, and others that go on from there
+goes_on : (number : ℕ) (s t u : RunState) (rs qs : List CallFacts) (a b : List ℕ) (cs ds : List Certified) → Goes number s rs a cs t → Goes (number + length rs) t qs b ds u
+    → Goes number s (rs ++ qs) (a ++ b) (cs ++ ds) u
+goes_on _ _ _ u _ qs _ b _ ds (stays number s) on = let z : number + 0 ≡ number = omega arith in subst (λ k. Goes k s qs b ds u) z on
+goes_on _ _ _ u _ qs _ b _ ds (calls number s answered t r rs reply text cs idle replied rest) on =
+    let z : number + suc (length rs) ≡ (number + 1) + length rs = omega arith in
+    subst (λ ts. Goes number s (r ∷ rs ++ qs) ts (cs ++ ds) u) (sym (append_assoc (call_lines number s r reply answered) text b))
+    (calls number s answered u r (rs ++ qs) reply (text ++ b) (cs ++ ds) idle replied (goes_on (number + 1) answered t u rs qs text b cs ds rest (subst (λ k. Goes k t qs b ds u) z on)))
+goes_on _ _ _ u _ qs _ b _ ds (decides number s t c rs what text cs allowed said rest) on =
+    subst (λ ts. Goes number s (rs ++ qs) ts (certified s c ∷ cs ++ ds) u) (sym (append_assoc (decision_lines s (answer_of c) what) text b))
+    (decides number s u c (rs ++ qs) what (text ++ b) (cs ++ ds) allowed said (goes_on number (with_decision s (answer_of c)) t u rs qs text b cs ds rest on))
+
 -- at one that waits after further decisions
-pub stops_on : (s t u : RunState) (before now : List ℕ) (G : Gave) (H K : PlatformFacts → Gave) (objects : Objects) (o : Objection) → ((number : ℕ) → GoesIn number s [] t before now G (H s.platform))
+pub stops_on : (s t u : RunState) (before now : List EventFacts) (G : Gave) (H K : PlatformFacts → Gave) (objects : Objects) (o : Objection) → ((number : ℕ) → GoesIn number s [] t before now G (H s.platform))
     → ((number : ℕ) → StopsIn number t [] u (H t.platform) (K t.platform) objects o) → (number : ℕ) → StopsIn number s [] u G (K s.platform) objects o
 stops_on s t u before now G H K objects o goes stops number =
     let first = goes number in
-    let same = goes_platform number s t [] first.lines first.decisions first.goes in
+    let told = goes_told number s t [] first.events first.decisions first.goes in
+    let same = goes_platform number s t [] (events_text s.platform first.events) first.decisions told in
     let on = subst (λ p. StopsIn (number + 0) t [] u (H p) (K p) objects o) same (stops (number + 0)) in
     record {
       made = on.made;
       left = on.left;
       split = on.split;
-      lines = first.lines ++ on.lines;
+      lines = events_text s.platform first.events ++ on.lines;
       decisions = first.decisions ++ on.decisions;
-      goes = goes_on number s t u [] on.made first.lines on.lines first.decisions on.decisions first.goes on.goes;
+      goes = goes_on number s t u [] on.made (events_text s.platform first.events) on.lines first.decisions on.decisions told on.goes;
       gave = λ cs g. subst (K s.platform) (append_assoc cs first.decisions on.decisions) (on.gave (cs ++ first.decisions) (first.gave cs g));
       domain = on.domain;
       next = on.next;
@@ -73,7 +88,7 @@ stops_on s t u before now G H K objects o goes stops number =
     }
 
 -- after a call
-pub stops_after : (number : ℕ) (s mid u : RunState) (r : CallFacts) (before now : List ℕ) (H K : PlatformFacts → Gave) (objects : Objects) (o : Objection) → next_ready s.book ≡ None → RepliesIn number s r mid before now
+pub stops_after : (number : ℕ) (s mid u : RunState) (r : CallFacts) (before now : List EventFacts) (H K : PlatformFacts → Gave) (objects : Objects) (o : Objection) → next_ready s.book ≡ None → RepliesIn number s r mid before now
     → ((k : ℕ) → StopsIn k mid [] u (H mid.platform) (K mid.platform) objects o) → StopsIn number s (r ∷ []) u (H s.platform) (K s.platform) objects o
 stops_after number s mid u r before now H K objects o idle replied stops =
     let on = subst (λ p. StopsIn (number + 1) mid [] u (H p) (K p) objects o) (replies_platform s mid r replied.reply replied.replies) (stops (number + 1)) in
@@ -91,15 +106,15 @@ stops_after number s mid u r before now H K objects o idle replied stops =
     }
 
 -- after the calls before it
-pub stops_behind : (s t u : RunState) (rs made qs left : List CallFacts) (before now : List ℕ) (G H K : Gave) (objects : Objects) (o : Objection) → rs ≡ made ++ (qs ++ left) → GoesIn 1 s made t before now G H
+pub stops_behind : (s t u : RunState) (rs made qs left : List CallFacts) (before now : List EventFacts) (G H K : Gave) (objects : Objects) (o : Objection) → rs ≡ made ++ (qs ++ left) → GoesIn 1 s made t before now G H
     → StopsIn (1 + length made) t qs u H K objects o → StopsIn 1 s rs u G K objects o
 stops_behind s t u rs made qs left before now G H K objects o split first on = record {
   made = made ++ on.made;
   left = on.left ++ left;
   split = split ∙ (ap (λ xs. made ++ (xs ++ left)) on.split ∙ (ap (λ xs. made ++ xs) (append_assoc on.made on.left left) ∙ sym (append_assoc made on.made (on.left ++ left))));
-  lines = first.lines ++ on.lines;
+  lines = events_text s.platform first.events ++ on.lines;
   decisions = first.decisions ++ on.decisions;
-  goes = goes_on 1 s t u made on.made first.lines on.lines first.decisions on.decisions first.goes on.goes;
+  goes = goes_on 1 s t u made on.made (events_text s.platform first.events) on.lines first.decisions on.decisions (goes_told 1 s t made first.events first.decisions first.goes) on.goes;
   gave = λ cs g. subst K (append_assoc cs first.decisions on.decisions) (on.gave (cs ++ first.decisions) (first.gave cs g));
   domain = on.domain;
   next = on.next;

@@ -7,8 +7,9 @@ three t a b c x y z e f g = rw (g, f, e, append_assoc, append_assoc) (rw append_
 pub four : (t a b c d w x y z : List ℕ) → a ≡ t ++ w → b ≡ a ++ x → c ≡ b ++ y → d ≡ c ++ z → d ≡ t ++ (w ++ x ++ y ++ z)
 four t a b c d w x y z e f g h = h ∙ rw (three t a b c w x y e f g, append_assoc) refl
 
--- words, each after a gap but the last two, and an end after what stands in the middle
-pub words : (t domain path gap chosen selection settings image end a b c d e f g : List ℕ) → a ≡ t ++ (domain ++ path) → b ≡ a ++ (gap ++ chosen)
-    → c ≡ b ++ selection → d ≡ c ++ gap → e ≡ d ++ settings → f ≡ e ++ image → g ≡ f ++ end
-    → g ≡ t ++ (domain ++ path ++ gap ++ (chosen ++ selection ++ gap ++ settings ++ image) ++ end)
-words t domain path gap chosen selection settings image end a b c d e f g ea eb ec ed ee ef eg = rw (eg, ef, ee, ed, ec, eb, ea) (simp append_assoc refl)
+pub five : (t a b c d e v w x y z : List ℕ) → a ≡ t ++ v → b ≡ a ++ w → c ≡ b ++ x → d ≡ c ++ y → e ≡ d ++ z → e ≡ t ++ (v ++ w ++ x ++ y ++ z)
+five t a b c d e v w x y z ea eb ec ed ee = ee ∙ rw (four t a b c d v w x y ea eb ec ed, append_assoc) refl
+
+-- of which the first stands in two parts
+pub ended : (t a b c d front path gap what end : List ℕ) → a ≡ t ++ (front ++ path) → b ≡ a ++ gap → c ≡ b ++ what → d ≡ c ++ end → d ≡ t ++ (front ++ path ++ gap ++ what ++ end)
+ended t a b c d front path gap what end ea eb ec ed = rw (ed, ec, eb, ea) (simp append_assoc refl)

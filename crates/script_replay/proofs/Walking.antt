@@ -1,6 +1,6 @@
--- A walk over roots that puts the lines of those that pass a test.
+-- A walk over roots that adds what happens to those that pass a test.
 use Rattle.std.proofs.Common.{◌≡◌, ◌≤◌, ◌<◌, ℕ, zero, suc, ◌+◌, Bool, true, false, List, [], ◌∷◌, ◌++◌, length, drop, Option, Some, None, slice_get, refl, sym, ◌∙◌, ap, arith, append-nil, append_assoc}
-use Rattle.std.specs.Prelude.{filter, flat_map, option_and_then, if◌then◌else◌}
+use Rattle.std.specs.Prelude.{filter, map, option_and_then, if◌then◌else◌}
 
 -- what is there, if it passes the test
 abbrev pub picked : (ℕ → Bool) → Option ℕ → Option ℕ
@@ -11,9 +11,9 @@ abbrev ifs : Option ℕ → List ℕ → List ℕ
 ifs None xs = xs
 ifs (Some x) xs = x ∷ xs
 
--- the lines of what is left are missing after the text
-abbrev pub Lacks : (ℕ → List ℕ) → (ℕ → Bool) → List ℕ → ℕ → List ℕ → List ℕ → Type 0
-Lacks f p xs k text whole = text ++ flat_map f (filter p (drop k xs)) ≡ whole
+-- what happens to those that are left is missing
+abbrev pub Lacks : {A : Type 0} → (ℕ → A) → (ℕ → Bool) → List ℕ → ℕ → List A → List A → Type 0
+Lacks f p xs k sofar whole = sofar ++ map f (filter p (drop k xs)) ≡ whole
 
 at_place : (xs : List ℕ) (k : ℕ) → k < length xs → (x : ℕ) × (slice_get xs k ≡ Some x) × (drop k xs ≡ x ∷ drop (k + 1) xs)
 at_place [] k less = absurd (omega (arith, less))
@@ -35,18 +35,18 @@ next p xs k o less is =
     let (r, here, rest) = at_place xs k less in
     ap (filter p) rest ∙ chosen p r (drop (k + 1) xs) o (sym (ap (picked p) here) ∙ is)
 
--- nothing is put for what doesn't pass
-pub passes_by : (f : ℕ → List ℕ) (p : ℕ → Bool) (xs : List ℕ) (k : ℕ) (text whole : List ℕ) → k < length xs → picked p (slice_get xs k) ≡ None
-    → Lacks f p xs k text whole → Lacks f p xs (k + 1) text whole
-passes_by f p xs k text whole less is lacks = sym (ap (λ ys. text ++ flat_map f ys) (next p xs k None less is)) ∙ lacks
+-- nothing is added for what doesn't pass
+pub passes_by : {A : Type 0} (f : ℕ → A) (p : ℕ → Bool) (xs : List ℕ) (k : ℕ) (sofar whole : List A) → k < length xs → picked p (slice_get xs k) ≡ None
+    → Lacks f p xs k sofar whole → Lacks f p xs (k + 1) sofar whole
+passes_by f p xs k sofar whole less is lacks = sym (ap (λ ys. sofar ++ map f ys) (next p xs k None less is)) ∙ lacks
 
--- the line of what passes
-pub puts_one : (f : ℕ → List ℕ) (p : ℕ → Bool) (xs : List ℕ) (k r : ℕ) (text more whole : List ℕ) → k < length xs → picked p (slice_get xs k) ≡ Some r
-    → more ≡ text ++ f r → Lacks f p xs k text whole → Lacks f p xs (k + 1) more whole
-puts_one f p xs k r text more whole less is put lacks =
-    ap (λ ts. ts ++ flat_map f (filter p (drop (k + 1) xs))) put
-    ∙ (append_assoc text (f r) (flat_map f (filter p (drop (k + 1) xs)))
-    ∙ (sym (ap (λ ys. text ++ flat_map f ys) (next p xs k (Some r) less is)) ∙ lacks))
+-- what happens to what passes
+pub adds_one : {A : Type 0} (f : ℕ → A) (p : ℕ → Bool) (xs : List ℕ) (k r : ℕ) (sofar more whole : List A) → k < length xs → picked p (slice_get xs k) ≡ Some r
+    → more ≡ sofar ++ f r ∷ [] → Lacks f p xs k sofar whole → Lacks f p xs (k + 1) more whole
+adds_one f p xs k r sofar more whole less is put lacks =
+    ap (λ ts. ts ++ map f (filter p (drop (k + 1) xs))) put
+    ∙ (append_assoc sofar (f r ∷ []) (map f (filter p (drop (k + 1) xs)))
+    ∙ (sym (ap (λ ys. sofar ++ map f ys) (next p xs k (Some r) less is)) ∙ lacks))
 
 past : (xs : List ℕ) (k : ℕ) → length xs ≤ k → drop k xs ≡ []
 past [] zero more = refl
@@ -55,5 +55,5 @@ past (x ∷ xs) zero more = absurd (omega (arith, more))
 past (x ∷ xs) (suc k) more = past xs k (omega (arith, more))
 
 -- after the last one nothing is missing
-pub all_put : (f : ℕ → List ℕ) (p : ℕ → Bool) (xs : List ℕ) (k : ℕ) (text whole : List ℕ) → length xs ≤ k → Lacks f p xs k text whole → text ≡ whole
-all_put f p xs k text whole more lacks = sym (append-nil text) ∙ (sym (ap (λ ys. text ++ flat_map f (filter p ys)) (past xs k more)) ∙ lacks)
+pub all_added : {A : Type 0} (f : ℕ → A) (p : ℕ → Bool) (xs : List ℕ) (k : ℕ) (sofar whole : List A) → length xs ≤ k → Lacks f p xs k sofar whole → sofar ≡ whole
+all_added f p xs k sofar whole more lacks = sym (append-nil sofar) ∙ (sym (ap (λ ys. sofar ++ map f (filter p ys)) (past xs k more)) ∙ lacks)

@@ -1,14 +1,10 @@
--- A decision and its line.
-use Rattle.std.specs.Prelude.{◌≡◌, ℕ, ◌++◌, List, Option}
+-- What a decision can be.
 use Rattle.sysmem_counts.specs.declared.field.Field.{Field}
 use Rattle.sysmem_image.specs.Corners.{RefusesCorner}
 use Rattle.sysmem_merge.specs.declared.settings.Settings.{Settings}
 use Rattle.verdict_claims.specs.declared.verdict.Verdict.{Verdict}
 use Rattle.verdict_claims.specs.declared.verdict.Verdict.TheVariants.{Chosen, IntersectionEmpty}
 use Rattle.verdict_claims.specs.declared.verdict.Verdict.TheVariants.{TooMany, Failed, NoMemory}
-use Rattle.negotiation_inputs.specs.Platform.{PlatformFacts}
-use Rattle.script_replay.specs.Lines.{domain_line}
-use Rattle.script_replay.specs.Report.{Tells}
 
 -- for no field the bounds of the settings are refused a corner
 abbrev pub HasCorner : Settings → Type 0
@@ -21,10 +17,3 @@ CanBeTold IntersectionEmpty = Unit {0}
 CanBeTold TooMany = Unit {0}
 CanBeTold Failed = ⊥
 CanBeTold NoMemory = ⊥
-
--- the line of a verdict was put after a text
-pub record TellsIn (platform : PlatformFacts) (path : List ℕ) (verdict : Option Verdict)
-    (before after : List ℕ) : Type 0 where
-  pub what : List ℕ
-  pub tells : Tells platform verdict what
-  pub put : after ≡ before ++ domain_line path what

@@ -1,10 +1,11 @@
 pub mod Answer
 pub mod Deciding
+pub mod Events
 pub mod Lines
 pub mod Marks
 pub mod Outcome
+pub mod Proving
 pub mod Replayed
-pub mod Replies
 pub mod Report
 pub mod Runner
 pub mod Searching

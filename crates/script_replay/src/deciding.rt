@@ -1,31 +1,36 @@
-//! The decision of the first domain that waits, and its line.
+//! The decision of the first domain that waits, and what is told of it.
 
-ghost use Rattle.std.specs.Prelude.{◌≡◌, Some, option_map, IfOk, IfSome, OnOk};
+ghost use Rattle.std.specs.Prelude.{◌≡◌, Some, option_map, IfOk, IfSome};
 ghost use Rattle.std.specs.Arc.{arc_value};
-ghost use Rattle.std.specs.String.{string_bytes};
 ghost use Rattle.sysmem_alloc.specs.Claims.{HasProof};
-ghost use Rattle.sysmem_alloc.specs.Decision.{verdict_in};
 ghost use Rattle.sysmem_alloc.specs.Entry.{Decided};
 ghost use Rattle.sysmem_alloc.specs.History.{Allows};
 ghost use Rattle.sysmem_alloc.specs.Sound.{MayWait};
 ghost use Rattle.sysmem_alloc.specs.State.{next_ready};
 ghost use Rattle.verdict_claims.specs.Base.{IsGivenBase};
 ghost use Rattle.verdict_claims.specs.Claim.{IsTrueClaim};
-ghost use Rattle.verdict_claims.specs.declared.verdict.Verdict.TheVariants as verdicts;
-ghost use Rattle.sysmem_tree.specs.Domain.{HasDomain};
-ghost use Rattle.sysmem_tree.specs.Path.{path_of};
-ghost use Rattle.script_replay.specs.Deciding.{CanBeTold, HasCorner, TellsIn};
+ghost use Rattle.sysmem_image.specs.Corners.{IsCorner};
+ghost use Rattle.script_replay.specs.Deciding.{CanBeTold, HasCorner};
+ghost use Rattle.script_replay.specs.Events.{CanBeShown, IsDecidedBy, fate_seen};
 
-use crate::domain_line::{put_chosen, put_word};
+use crate::event::{Decision, DomainFate};
 use negotiation_inputs::Platform;
 use std::alloc::{AllocError, Global};
 use std::sync::Arc;
 use sysmem_alloc::Book;
-use sysmem_image::corner;
 use sysmem_image::laws::no_corner;
+use sysmem_image::{Corner, corner};
 use sysmem_search::{NoGate, prove, search};
-use sysmem_tree::{DomainId, Path, Tree};
+use sysmem_tree::{DomainId, Tree};
 use verdict_claims::{Base, Chosen, Claim, Proof, Verdict};
+
+/// What stands for the corner where no settings were chosen.
+const NO_IMAGE: Corner = Corner {
+    width: 0,
+    height: 0,
+    bytes_per_row: 0,
+    bytes: 0,
+};
 
 /// An optimal verdict of the first domain that waits, without what proves it; `None` where memory
 /// is refused. The prefixes that its search visits are added to those visited before.
@@ -107,66 +112,54 @@ fn proved_claim(
     })
 }
 
-/// Puts the line of a decision that the book allows after the text.
-pub(crate) fn put_decision(
-    text: &mut String,
+/// What becomes of a domain by a decision that the book allows.
+pub(crate) fn decided_by(
     book: &Book,
     domain: DomainId,
     claim: &Option<Arc<Claim>>,
-) -> Result<(), AllocError>
-    requires there { HasDomain book.now.state.tree.nodes domain }
-    requires allowed { Allows book.now.platform book.now.state (Decided (record {
+) -> Result<DomainFate, AllocError>
+    requires { Allows book.now.platform book.now.state (Decided (record {
       domain = domain;
       claim = option_map (λ shared. arc_value shared) claim.now;
     })) }
-    ensures { OnOk result (TellsIn book.now.platform (path_of book.now.state.tree.nodes domain)
-        (verdict_in (option_map (λ shared. arc_value shared) claim.now))
-        (string_bytes text.old) (string_bytes text.new)) }
+    ensures { IfOk result (λ fate.
+        IsDecidedBy (option_map (λ shared. arc_value shared) claim.now) (fate_seen fate)) }
 {
     no_corner();
-    let platform = book.platform();
-    let tree = book.tree();
-    let path = tree.path_of(tree.root_of(domain))?;
-    match claim {
-        Some(shared) => put_verdict(text, platform, &path, &shared.verdict),
-        None => put_word(text, &path, "no_memory"),
-    }
+    book.recall_legal();
+    let Some(shared) = claim else {
+        return Ok(DomainFate::Decided(Decision {
+            claim: None,
+            corner: NO_IMAGE,
+        }));
+    };
+    let corner = corner_in(&shared.verdict);
+    let claim = Some(Arc::try_clone(shared)?);
+    Ok(DomainFate::Decided(Decision { claim, corner }))
 }
 
-/// Puts the line of a verdict that a decision can have after the text.
-fn put_verdict(
-    text: &mut String,
-    platform: &Platform,
-    path: &Path,
-    verdict: &Verdict,
-) -> Result<(), AllocError>
+/// The corner of what a verdict chooses, that a decision can have.
+fn corner_in(verdict: &Verdict) -> Corner
     requires { CanBeTold verdict.now }
-    ensures { OnOk result (TellsIn platform.now path.now (Some verdict.now)
-        (string_bytes text.old) (string_bytes text.new)) }
+    ensures { CanBeShown (Some verdict.now) result }
 {
     match verdict {
-        Verdict::Chosen(chosen) => put_choice(text, platform, path, chosen),
-        Verdict::IntersectionEmpty => put_word(text, path, "empty"),
-        Verdict::TooMany => put_word(text, path, "too_many"),
-        Verdict::Failed => Ok(()),
-        Verdict::NoMemory => Ok(()),
+        Verdict::Chosen(chosen) => corner_of(chosen),
+        Verdict::IntersectionEmpty => NO_IMAGE,
+        Verdict::TooMany => NO_IMAGE,
+        Verdict::Failed => NO_IMAGE,
+        Verdict::NoMemory => NO_IMAGE,
     }
 }
 
-/// Puts the line of a choice after the text.
-fn put_choice(
-    text: &mut String,
-    platform: &Platform,
-    path: &Path,
-    chosen: &Chosen,
-) -> Result<(), AllocError>
+/// The corner of what is chosen.
+fn corner_of(chosen: &Chosen) -> Corner
     requires { HasCorner chosen.now.settings }
-    ensures { OnOk result (TellsIn platform.now path.now (Some (verdicts.Chosen chosen.now))
-        (string_bytes text.old) (string_bytes text.new)) }
+    ensures { IsCorner chosen.now.settings.offer chosen.now.settings.bounds result }
 {
     let settings = chosen.settings();
     match corner(&settings.bounds, &settings.offer) {
-        Ok(corner) => put_chosen(text, platform, path, chosen, corner),
-        Err(_) => Ok(()),
+        Ok(corner) => corner,
+        Err(_) => NO_IMAGE,
     }
 }

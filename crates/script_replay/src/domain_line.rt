@@ -1,21 +1,20 @@
 //! The lines of domains, each put after the text so far.
 
-ghost use Rattle.std.specs.Prelude.{◌≡◌, ◌++◌, codes, option_map, slice_get};
+ghost use Rattle.std.specs.Prelude.{◌≡◌, ◌++◌, codes, option_map, slice_get, IfOk};
 ghost use Rattle.std.specs.Fmt.{decimal};
+ghost use Rattle.std.specs.String.{string_bytes};
 ghost use Rattle.certificate_text.specs.Paths.{path_text};
 ghost use Rattle.script_replay.specs.Lines.{Puts, chosen_text, domain_line, heap_text, image_text, marked, selection_text, settings_text};
-ghost use Rattle.sysmem_tree.specs.Domain.{HasDomain};
-ghost use Rattle.sysmem_tree.specs.Path.{path_of};
 
 use certificate_text::push_path;
 use negotiation_inputs::Platform;
-use std::alloc::AllocError;
+use std::alloc::{AllocError, Global};
 use std::fmt::Write;
 use sysmem_formats::{ColourSpace, Offer, Pair};
 use sysmem_image::Corner;
 use sysmem_memory::HeapInfo;
 use sysmem_merge::Settings;
-use sysmem_tree::{DomainId, Path, Tree};
+use sysmem_tree::Path;
 use verdict_claims::Chosen;
 
 /// Puts the line of a domain that was decided after the text: `domain /0 chosen 1 count 2 size
@@ -31,12 +30,26 @@ pub fn put_chosen(
         (domain_line path.now (chosen_text platform.now chosen.now corner)) }
 {
     put_path(text, path)?;
-    text.push_str(" chosen ")?;
+    text.push_str(" ")?;
+    put_chosen_text(text, platform, chosen, corner)?;
+    text.push_str("\n")?;
+    Ok(())
+}
+
+/// Puts what was chosen after the text: `chosen 1 count 2 size 4096 place ram#0 cpu image none`.
+pub(crate) fn put_chosen_text(
+    text: &mut String,
+    platform: &Platform,
+    chosen: &Chosen,
+    corner: Corner,
+) -> Result<(), AllocError>
+    ensures { Puts result text.old text.new (chosen_text platform.now chosen.now corner) }
+{
+    text.push_str("chosen ")?;
     put_selection(text, chosen.selection().choices())?;
     text.push_str(" ")?;
     put_settings(text, platform, chosen.settings())?;
     put_image(text, chosen.settings().offer, corner)?;
-    text.push_str("\n")?;
     Ok(())
 }
 
@@ -49,21 +62,6 @@ pub fn put_word(text: &mut String, path: &Path, word: &str) -> Result<(), AllocE
     Ok(())
 }
 
-/// Puts the line that says this word of a domain of the tree after the text: `domain /0 failed`.
-pub(crate) fn put_domain(
-    text: &mut String,
-    tree: &Tree,
-    domain: DomainId,
-    word: &str,
-) -> Result<(), AllocError>
-    requires { HasDomain tree.now.nodes domain }
-    ensures { Puts result text.old text.new
-        (domain_line (path_of tree.now.nodes domain) word.now) }
-{
-    let path = tree.path_of(tree.root_of(domain))?;
-    put_word(text, &path, word)
-}
-
 /// Puts the name of a domain after the text, by the path of its root: `domain /0`.
 pub fn put_path(text: &mut String, path: &Path) -> Result<(), AllocError>
     ensures { Puts result text.old text.new (codes "domain " ++ path_text path.now) }
@@ -71,6 +69,15 @@ pub fn put_path(text: &mut String, path: &Path) -> Result<(), AllocError>
     text.push_str("domain ")?;
     push_path(text, path.ordinals())?;
     Ok(())
+}
+
+/// A path as a text: `/0/1`.
+pub fn text_of_path(alloc: Global, path: &Path) -> Result<String, AllocError>
+    ensures { IfOk result (λ text. string_bytes text ≡ path_text path.now) }
+{
+    let mut text = String::new(alloc);
+    push_path(&mut text, path.ordinals())?;
+    Ok(text)
 }
 
 fn put_selection(text: &mut String, choices: &[u8]) -> Result<(), AllocError>

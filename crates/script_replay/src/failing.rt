@@ -1,14 +1,13 @@
-//! Which domains have failed, and the lines of those that an event made fail.
+//! Which domains have failed, and which of them a call or a decision made fail.
 
 ghost use Rattle.std.specs.Prelude.{◌≡◌, ◌<◌, ℕ, None, false, get_or, IfSome};
 ghost use Rattle.script_reading.specs.Seen.{act_seen};
 ghost use Rattle.script_replay.specs.Answer.{AsksVerdict};
-ghost use Rattle.script_replay.specs.Lines.{Puts};
+ghost use Rattle.script_replay.specs.Events.{Adds, events_of, failed_events};
 ghost use Rattle.script_replay.specs.Marks.{AreMarksOf, failed_at, failed_unmarked_at};
-ghost use Rattle.script_replay.specs.Report.{failed_lines};
 ghost use Rattle.sysmem_tree.specs.Domain.{HasDomain, TreeFacts};
 
-use crate::domain_line::put_domain;
+use crate::event::{DomainFate, Events};
 use script_reading::Act;
 use std::alloc::AllocError;
 use sysmem_tree::{DomainId, MOST_NODES, Tree};
@@ -43,38 +42,37 @@ fn newly_failed_at(
     if is_new { tree.domain_at(index) } else { None }
 }
 
-/// Puts the line of each domain that has failed and isn't marked after the text, in order of
-/// creation of their roots.
-pub(crate) fn put_failed(
-    text: &mut String,
+/// Adds each domain that has failed and isn't marked, in order of creation of their roots.
+pub(crate) fn add_failed(
+    events: &mut Events<'_>,
     tree: &Tree,
     marks: &[bool; MOST_NODES],
 ) -> Result<(), AllocError>
     ensures { (old : TreeFacts) → AreMarksOf old tree.now marks.now
-        → Puts result text.old text.new (failed_lines old tree.now) }
+        → Adds result events.old events.new (failed_events old tree.now) }
 {
     let have_failed = tree.failed_domains();
     for index in 0..tree.domain_count() {
         let Some(domain) = newly_failed_at(tree, &have_failed, marks, index) else {
             continue;
         };
-        put_domain(text, tree, domain, "failed")?;
+        events.add_domain(tree, domain, DomainFate::Failed)?;
     }
     Ok(())
 }
 
-/// Puts these lines where there are marks; without any it leaves the text.
-pub(crate) fn put_failed_since(
-    text: &mut String,
+/// Adds these where there are marks; without any it adds none.
+pub(crate) fn add_failed_since(
+    events: &mut Events<'_>,
     tree: &Tree,
     marks: &Option<[bool; MOST_NODES]>,
 ) -> Result<(), AllocError>
     ensures some { IfSome marks.now (λ set. (old : TreeFacts) → AreMarksOf old tree.now set
-        → Puts result text.old text.new (failed_lines old tree.now)) }
-    ensures none { marks.now ≡ None → text.new ≡ text.old }
+        → Adds result events.old events.new (failed_events old tree.now)) }
+    ensures none { marks.now ≡ None → events_of events.new ≡ events_of events.old }
 {
     match marks {
-        Some(set) => put_failed(text, tree, set),
+        Some(set) => add_failed(events, tree, set),
         None => Ok(()),
     }
 }

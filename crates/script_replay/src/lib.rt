@@ -10,10 +10,11 @@
 mod decider;
 mod deciding;
 mod domain_line;
+mod event;
 mod failing;
 mod line;
+mod proving;
 mod replayed;
-mod replaying;
 mod reply;
 mod report;
 mod runner;
@@ -22,9 +23,11 @@ mod telling;
 
 pub use decider::{Decider, Objection, Stop};
 pub use deciding::{claim_for, proved_claim_for};
-pub use domain_line::{put_chosen, put_path, put_word};
-pub use replayed::{ReplayedCalls, replay};
-pub use replaying::replies_of;
+pub use domain_line::{put_chosen, put_path, put_word, text_of_path};
+pub use event::{CallEvent, Decision, DomainEvent, DomainFate, Event, Events, put_fate};
+pub use line::put_reply_text;
+pub use proving::Proving;
+pub use replayed::{ReplayedCalls, replay, replayed_of};
 pub use reply::Reply;
 pub use report::{Report, report_of};
 pub use searching::Searching;

@@ -57,24 +57,27 @@ fn put_name(text: &mut String, name: &str) -> Result<(), AllocError>
 fn put_reply(text: &mut String, reply: Reply) -> Result<(), AllocError>
     ensures { Puts result text.old text.new (codes " " ++ reply_text reply ++ codes "\n") }
 {
+    text.push_str(" ")?;
+    put_reply_text(text, reply)?;
+    text.push_str("\n")
+}
+
+/// Puts a reply after the text: `ok`, `E7`, `S2 usage`.
+pub fn put_reply_text(text: &mut String, reply: Reply) -> Result<(), AllocError>
+    ensures { Puts result text.old text.new (reply_text reply) }
+{
     match reply {
-        Reply::Accepted => text.push_str(" ok\n"),
-        Reply::Refused(refusal) => put_end(text, refusal.name()),
+        Reply::Accepted => text.push_str("ok"),
+        Reply::Refused(refusal) => text.push_str(refusal.name()),
         Reply::Misread(fault) => put_fault(text, fault),
-        Reply::Skipped => text.push_str(" skipped\n"),
+        Reply::Skipped => text.push_str("skipped"),
     }
 }
 
-fn put_end(text: &mut String, words: &str) -> Result<(), AllocError>
-    ensures { Puts result text.old text.new (codes " " ++ words.now ++ codes "\n") }
-{
-    writeln!(text, " {words}")
-}
-
 fn put_fault(text: &mut String, fault: Fault) -> Result<(), AllocError>
-    ensures { Puts result text.old text.new (codes " " ++ fault_text fault ++ codes "\n") }
+    ensures { Puts result text.old text.new (fault_text fault) }
 {
     let code = fault.code.name();
     let at = fault.at.name();
-    writeln!(text, " {code} {at}")
+    write!(text, "{code} {at}")
 }

@@ -3,14 +3,14 @@
 ghost use Rattle.std.specs.Prelude.{◌≡◌, [], map, IfErr, IfOk, IfSome};
 ghost use Rattle.std.specs.String.{string_bytes};
 ghost use Rattle.script_reading.specs.Seen.{call_seen};
-ghost use Rattle.script_replay.specs.Lines.{Puts};
+ghost use Rattle.script_replay.specs.Events.{Adds, pending_events};
 ghost use Rattle.script_replay.specs.Marks.{pending_at};
-ghost use Rattle.script_replay.specs.Report.{IsReported, pending_lines};
+ghost use Rattle.script_replay.specs.Report.{IsReported};
 ghost use Rattle.script_replay.specs.Stop.{IfObjects, IsStopped};
 ghost use Rattle.sysmem_tree.specs.Domain.{HasDomain};
 
 use crate::decider::{Decider, Stop};
-use crate::domain_line::put_domain;
+use crate::event::{DomainFate, Events};
 use crate::replayed::replayed_of;
 use negotiation_inputs::Platform;
 use script_reading::Call;
@@ -63,17 +63,16 @@ fn pending_at(book: &Book, index: u32) -> Option<DomainId>
     }
 }
 
-/// Puts the line of each domain without a verdict after the text, in order of creation of their
-/// roots.
-pub(crate) fn put_pending(text: &mut String, book: &Book) -> Result<(), AllocError>
-    ensures { Puts result text.old text.new (pending_lines book.now.state) }
+/// Adds each domain without a verdict, in order of creation of their roots.
+pub(crate) fn add_pending(events: &mut Events<'_>, book: &Book) -> Result<(), AllocError>
+    ensures { Adds result events.old events.new (pending_events book.now.state) }
 {
     let tree = book.tree();
     for index in 0..tree.domain_count() {
         let Some(domain) = pending_at(book, index) else {
             continue;
         };
-        put_domain(text, tree, domain, "pending")?;
+        events.add_domain(tree, domain, DomainFate::Pending)?;
     }
     Ok(())
 }

@@ -2,12 +2,11 @@
 
 ghost use Rattle.std.specs.Prelude.{◌≡◌, ◌+◌, ◌≤◌, ◌++◌, ◌||◌, ℕ, [], ◌∷◌, Some, None, true, false, length, option_map, slice_get, unwrap_or, IfErr, IfOk, IfSome, OnOk};
 ghost use Rattle.std.specs.Arc.{arc_value};
-ghost use Rattle.std.specs.String.{string_bytes};
 ghost use Rattle.serde_json.specs.View.{view};
 ghost use Rattle.script_reading.specs.Call.{states};
 ghost use Rattle.script_reading.specs.Seen.{act_seen, call_seen};
 ghost use Rattle.script_replay.specs.Answer.{AsksFor, Replies, is_want};
-ghost use Rattle.script_replay.specs.Replies.{RepliesAlone};
+ghost use Rattle.script_replay.specs.Events.{events_of};
 ghost use Rattle.script_replay.specs.Report.{with_decision};
 ghost use Rattle.script_replay.specs.Steps.{DecidesIn, EntersIn, GoesIn, RepliesIn};
 ghost use Rattle.script_replay.specs.State.{AreThere, first_run_state, names_given, node_named};
@@ -23,11 +22,10 @@ ghost use Rattle.sysmem_tree.specs.Domain.{HasDomain};
 ghost use Rattle.sysmem_tree.specs.Nodes.{HasNode};
 
 use crate::decider::{Decider, Stop};
-use crate::deciding::put_decision;
-use crate::failing::{failed_before, put_failed, put_failed_since};
-use crate::line::put_call;
+use crate::deciding::decided_by;
+use crate::event::{CallEvent, Events};
+use crate::failing::{add_failed, add_failed_since, failed_before};
 use crate::reply::Reply;
-use crate::searching::Searching;
 use crate::telling::told;
 use negotiation_inputs::Platform;
 use record_reading::{Code, Fault};
@@ -84,19 +82,19 @@ impl Runner {
         self.starved
     }
 
-    /// Makes a call where no domain waits, decides each domain that waits then, and puts the lines
-    /// of all that after the text.
-    pub(crate) fn take<D: Decider>(
+    /// Makes a call where no domain waits, decides each domain that waits then, and adds all that
+    /// to what happened.
+    pub(crate) fn take<'a, D: Decider>(
         &mut self,
         alloc: Global,
         number: usize,
-        call: &Call<'_>,
+        call: &Call<'a>,
         decider: &mut D,
-        text: &mut String,
+        events: &mut Events<'a>,
     ) -> Result<(), Stop>
         requires idle { next_ready (state_of self.old).book ≡ None }
         ensures goes { OnOk result (GoesIn number (state_of self.old) (call_seen call.now ∷ [])
-            (state_of self.new) (string_bytes text.old) (string_bytes text.new)
+            (state_of self.new) (events_of events.old) (events_of events.new)
             (D.gave decider.old self.old.book.platform)
             (D.gave decider.new self.old.book.platform)) }
         ensures idle { OnOk result (next_ready (state_of self.new).book ≡ None) }
@@ -106,50 +104,43 @@ impl Runner {
             (D.gave decider.new self.old.book.platform) (D.objects decider.new))) }
         ensures given { D.given decider.new ≡ D.given decider.old }
     {
-        self.reply(alloc, number, call, text)?;
-        self.decide_waiting(alloc, decider, text)
+        self.reply(alloc, number, call, events)?;
+        self.decide_waiting(alloc, decider, events)
     }
 
-    /// Makes a call, decides each domain that waits then, and gives the reply.
-    pub(crate) fn reply_to(&mut self, alloc: Global, call: &Call<'_>) -> Result<Reply, Stop>
-        ensures { IfOk result (λ reply. RepliesAlone (state_of self.old) (call_seen call.now) reply
-            (state_of self.new)) }
-    {
-        let answered = self.answer(alloc, call)?;
-        let mut unsaid = String::new(alloc);
-        self.decide_waiting(alloc, &mut Searching::new(), &mut unsaid)?;
-        Ok(answered)
-    }
-
-    /// Makes a call, and puts its line and those of the domains that it makes fail after the text.
-    fn reply(
+    /// Makes a call, and adds it and the domains that it makes fail to what happened.
+    fn reply<'a>(
         &mut self,
         alloc: Global,
         number: usize,
-        call: &Call<'_>,
-        text: &mut String,
+        call: &Call<'a>,
+        events: &mut Events<'a>,
     ) -> Result<(), AllocError>
         ensures { OnOk result (RepliesIn number (state_of self.old) (call_seen call.now)
-            (state_of self.new) (string_bytes text.old) (string_bytes text.new)) }
+            (state_of self.new) (events_of events.old) (events_of events.new)) }
     {
         legal_is_sound();
         self.book.recall_legal();
         let had_failed = failed_before(self.book.tree(), &call.act);
         let reply = self.answer(alloc, call)?;
-        put_call(text, number, call, reply)?;
-        put_failed_since(text, self.book.tree(), &had_failed)?;
+        events.add_call(CallEvent {
+            number,
+            call: *call,
+            reply,
+        })?;
+        add_failed_since(events, self.book.tree(), &had_failed)?;
         Ok(())
     }
 
-    /// Decides as long as a domain waits, and puts the lines of the decisions after the text.
+    /// Decides as long as a domain waits, and adds the decisions to what happened.
     fn decide_waiting<D: Decider>(
         &mut self,
         alloc: Global,
         decider: &mut D,
-        text: &mut String,
+        events: &mut Events<'_>,
     ) -> Result<(), Stop>
         ensures goes { OnOk result ((number : ℕ) → GoesIn number (state_of self.old) []
-            (state_of self.new) (string_bytes text.old) (string_bytes text.new)
+            (state_of self.new) (events_of events.old) (events_of events.new)
             (D.gave decider.old self.old.book.platform)
             (D.gave decider.new self.old.book.platform)) }
         ensures idle { OnOk result (next_ready (state_of self.new).book ≡ None) }
@@ -160,23 +151,23 @@ impl Runner {
         ensures given { D.given decider.new ≡ D.given decider.old }
     {
         while let Some(domain) = self.book.next_ready() {
-            self.decide(alloc, domain, decider, text)?;
+            self.decide(alloc, domain, decider, events)?;
         }
         Ok(())
     }
 
-    /// Decides the first domain that waits, and puts the lines of the decision after the text.
+    /// Decides the first domain that waits, and adds the decision to what happened.
     fn decide<D: Decider>(
         &mut self,
         alloc: Global,
         domain: DomainId,
         decider: &mut D,
-        text: &mut String,
+        events: &mut Events<'_>,
     ) -> Result<(), Stop>
         requires next { next_ready (state_of self.old).book ≡ Some domain }
         requires waits { MayWait (state_of self.old).book.tree domain }
         ensures lines { OnOk result (DecidesIn (state_of self.old) (state_of self.new)
-            (string_bytes text.old) (string_bytes text.new)
+            (events_of events.old) (events_of events.new)
             (D.gave decider.old self.old.book.platform)
             (D.gave decider.new self.old.book.platform)) }
         ensures grows { OnOk result (length self.new.book.history
@@ -189,16 +180,17 @@ impl Runner {
         ensures given { D.given decider.new ≡ D.given decider.old }
     {
         let claim = decider.decide(alloc, &self.book, domain)?;
-        self.tell(domain, claim, text)?;
+        self.tell(domain, claim, events)?;
         Ok(())
     }
 
-    /// Enters a decision that the book allows, and puts its lines after the text.
+    /// Enters a decision that the book allows, and adds it and the domains that it makes fail to what
+    /// happened.
     fn tell(
         &mut self,
         domain: DomainId,
         claim: Option<Arc<Claim>>,
-        text: &mut String,
+        events: &mut Events<'_>,
     ) -> Result<(), AllocError>
         requires there { HasDomain (state_of self.old).book.tree.nodes domain }
         requires allowed { Allows self.old.book.platform self.old.book.state (Decided (record {
@@ -208,16 +200,17 @@ impl Runner {
         ensures lines { OnOk result (EntersIn (state_of self.old) (state_of self.new) (record {
           domain = domain;
           claim = option_map (λ shared. arc_value shared) claim;
-        }) (string_bytes text.old) (string_bytes text.new)) }
+        }) (events_of events.old) (events_of events.new)) }
         ensures grows { OnOk result (length self.new.book.history
             ≡ length self.old.book.history + 1) }
         ensures few { OnOk result (length self.new.book.history ≤ 639) }
     {
         few_entries();
-        put_decision(text, &self.book, domain, &claim)?;
+        let fate = decided_by(&self.book, domain, &claim)?;
+        events.add_domain(self.book.tree(), domain, fate)?;
         let had_failed = self.book.tree().failed_domains();
         self.enter(domain, claim);
-        put_failed(text, self.book.tree(), &had_failed)?;
+        add_failed(events, self.book.tree(), &had_failed)?;
         self.book.recall_legal();
         Ok(())
     }

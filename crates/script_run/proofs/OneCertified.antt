@@ -1,17 +1,14 @@
 -- One decision more in a certificate, and with its proof.
-use Rattle.std.proofs.Common.{◌≡◌, ℕ, ◌++◌, List, [], ◌∷◌, Option, Some, None, sym, ◌∙◌, ap}
-use Rattle.std.specs.Prelude.{IfSome, option_map}
+use Rattle.std.proofs.Common.{◌≡◌, ℕ, ◌++◌, List, [], ◌∷◌, Option, sym, ◌∙◌, ap}
 use Rattle.std.proofs.lemmas.List.{map-append}
-use Rattle.std.proofs.lemmas.List.Elements.{All-append, All-cons, All-nil}
 use Rattle.certificate_text.specs.Told.{decision_data}
 use Rattle.serde_json.specs.Data.{Data}
 use Rattle.serde_json.specs.Written.{compact_text}
-use Rattle.sysmem_alloc.specs.Claims.{HasProof}
 use Rattle.verdict_claims.specs.declared.certificate.Claim.{Claim}
 use Rattle.negotiation_inputs.specs.Platform.{PlatformFacts}
 use Rattle.certificate_pieces.specs.Texts.{pieces_text}
 use Rattle.certificate_pieces.proofs.CallerLemmas.{list_told}
-use Rattle.script_run.specs.Certificate.{AreProved, IsProved, certificate_of, texts_of}
+use Rattle.script_run.specs.Certificate.{certificate_of, texts_of}
 use Rattle.script_replay.specs.Report.{Certified}
 
 -- the texts of decisions with one more, however it was lent
@@ -26,14 +23,3 @@ text_push platform p cs path given claim old new a b taken more =
 -- the texts of decisions make up their certificate
 pub certificate_said : (platform : PlatformFacts) (cs : List Certified) → pieces_text (texts_of platform cs) ≡ certificate_of platform cs
 certificate_said platform cs = ap (λ (s : List ℕ). s ++ 10 ∷ []) (list_told (λ (c : Certified). decision_data platform c.0 c.1) cs)
-
--- one more that has its proof
-pub proved_push : (cs : List Certified) (path : List ℕ) (claim : Option Claim) → AreProved cs → IfSome claim HasProof → AreProved (cs ++ (path, claim) ∷ [])
-proved_push cs path claim all has =
-    let one : Certified = (path, claim) in
-    All-append IsProved cs (one ∷ []) all (All-cons IsProved one [] has (All-nil IsProved))
-
--- what is true of what is there is true of its value
-pub if_mapped : {X Y : Type 0} (f : X → Y) (P : Y → Type 0) (o : Option X) → IfSome o (λ x. P (f x)) → IfSome (option_map f o) P
-if_mapped f P None h = h
-if_mapped f P (Some x) h = h

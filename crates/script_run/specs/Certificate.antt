@@ -1,24 +1,17 @@
 -- The certificate of a script's decisions.
-use Rattle.std.specs.Prelude.{◌≡◌, ℕ, All, IfSome, List, map, Bool, Result, Ok, Err}
+use Rattle.std.specs.Prelude.{◌≡◌, ℕ, List, map, Bool, Result, Ok, Err}
 use Rattle.certificate_pieces.specs.Texts.{pieces_text}
 use Rattle.certificate_text.specs.Certificate.{certificate_text}
 use Rattle.certificate_text.specs.Told.{decision_data}
 use Rattle.serde_json.specs.Data.{Data}
 use Rattle.serde_json.specs.Written.{compact_text}
-use Rattle.sysmem_alloc.specs.Claims.{HasProof}
 use Rattle.negotiation_inputs.specs.Platform.{PlatformFacts}
 use Rattle.script_reading.specs.declared.fault.ScriptFault.{ScriptFault}
 use Rattle.script_run.specs.declared.running.CertifiedReport.{CertifiedReport}
 use Rattle.script_replay.specs.Outcome.{RunsTo, RunsWith}
+use Rattle.script_replay.specs.Proving.{AreProved}
 use Rattle.script_replay.specs.Report.{Certified}
 use Rattle.std.specs.String.{string_bytes}
-
--- a decision has its proof, where it has a claim
-abbrev pub IsProved : Certified → Type 0
-IsProved c = IfSome c.1 HasProof
-
-abbrev pub AreProved : List Certified → Type 0
-AreProved decisions = All IsProved decisions
 
 -- decisions as data, each with its path
 abbrev pub data_of : PlatformFacts → List Certified → List Data

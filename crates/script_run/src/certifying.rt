@@ -2,7 +2,8 @@
 
 ghost use Rattle.std.specs.Prelude.{◌≡◌, ◌++◌, List, [], ◌∷◌, option_map, IfOk, OnOk};
 ghost use Rattle.std.specs.Arc.{arc_value};
-ghost use Rattle.script_run.specs.Certificate.{AreProved, texts_of};
+ghost use Rattle.script_replay.specs.Proving.{AreProved};
+ghost use Rattle.script_run.specs.Certificate.{texts_of};
 ghost use Rattle.script_replay.specs.Report.{Certified};
 ghost use Rattle.sysmem_tree.specs.Domain.{HasDomain};
 ghost use Rattle.sysmem_tree.specs.Path.{path_of};

@@ -16,5 +16,5 @@ pub use ending::{Ending, ending_of};
 pub use fault::{Disagreement, RunFault};
 pub use running::{
     CertifiedReport, RunOutcome, certified_of_bytes, report_of_bytes, run, run_leaving,
-    run_with_proof,
+    run_with_proof, run_with_proof_leaving,
 };

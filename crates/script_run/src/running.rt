@@ -101,8 +101,30 @@ pub fn run_with_proof<R: Source, W: Sink, P: Sink>(
         (both_counts (W.failures writer.old) (P.failures proof.old))
         (both_counts (W.failures writer.new) (P.failures proof.new)) }
 {
+    let mut left = None;
+    run_with_proof_leaving(alloc, reader, writer, proof, &mut left)
+}
+
+/// `run_with_proof`, which leaves the value that the bytes spell, if they do, in `left`: where the
+/// process ends next, it needn't be dropped.
+pub fn run_with_proof_leaving<R: Source, W: Sink, P: Sink>(
+    alloc: Global,
+    reader: &mut R,
+    writer: &mut W,
+    proof: &mut P,
+    left: &mut Option<Value>,
+) -> Result<RunOutcome, RunFault>
+    ensures ran { RanWithProof result (R.remaining reader.old)
+        (W.contents writer.old) (W.contents writer.new)
+        (P.contents proof.old) (P.contents proof.new) }
+    ensures read_fault { IsCausedBy (result ≡ Err RunFault.Read)
+        (R.failures reader.old) (R.failures reader.new) }
+    ensures write_fault { IsCausedBy (result ≡ Err RunFault.Write)
+        (both_counts (W.failures writer.old) (P.failures proof.old))
+        (both_counts (W.failures writer.new) (P.failures proof.new)) }
+{
     let bytes = read_up_to_limit(alloc, reader, LONGEST)?;
-    let certified = certified_of_bytes(alloc, &bytes)?;
+    let certified = certified_leaving(alloc, bytes, left)?;
     let CertifiedReport {
         report,
         certificate,
@@ -138,6 +160,28 @@ pub fn certified_of_bytes(alloc: Global, bytes: &[u8]) -> Result<CertifiedReport
         return Err(ParseFault::NoMemory);
     };
     let report = match report_on(alloc, bytes, &mut certifying) {
+        Ok(report) => report,
+        Err(fault) => return Err(fault),
+    };
+    Ok(CertifiedReport {
+        report,
+        certificate: certifying.finish(),
+    })
+}
+
+/// The same of bytes that are dropped once they are read. The value that they spell, if they do,
+/// is left in `left`.
+fn certified_leaving(
+    alloc: Global,
+    bytes: Vec<u8>,
+    left: &mut Option<Value>,
+) -> Result<CertifiedReport, ParseFault>
+    ensures { GivesOneOf certified_seen result (CertifiesTo bytes.items) }
+{
+    let Ok(mut certifying) = Certifying::new(alloc) else {
+        return Err(ParseFault::NoMemory);
+    };
+    let report = match report_leaving(alloc, bytes, &mut certifying, left) {
         Ok(report) => report,
         Err(fault) => return Err(fault),
     };

@@ -1,1 +1,1 @@
-pub mod Stripping
+mod Keeping

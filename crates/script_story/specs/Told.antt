@@ -1,36 +1,48 @@
--- What reports say of domains.
-use Rattle.std.specs.Prelude.{◌≡◌, ◌++◌, ◌⊎◌, ℕ, All, Contains, List, [], codes, false}
-use Rattle.std.specs.Str.Lines.{lines}
+-- What becomes of domains, as reports say it.
+use Rattle.std.specs.Prelude.{◌≡◌, ◌⊎◌, ℕ, All, Contains, List, [], false}
+use Rattle.certificate_text.specs.Paths.{path_text}
 use Rattle.negotiation_inputs.specs.Platform.{PlatformFacts}
 use Rattle.script_reading.specs.Script.{CallFacts}
+use Rattle.script_replay.specs.Events.{EventFacts, FateFacts, HappensTo, becomes}
+use Rattle.script_replay.specs.Events.{events_text, fate_text}
 use Rattle.script_replay.specs.Report.{Certified, IsReport}
+use Rattle.script_replay.specs.State.{RunState}
 use Rattle.script_story.specs.Paths.{path_at}
 use Rattle.script_story.specs.declared.story.Domain.{Domain}
 use Rattle.script_story.specs.declared.story.Node.{Node}
 use Rattle.script_story.specs.declared.story.Story.{Story}
+use Rattle.std.specs.String.{string_bytes}
 
--- the line, without its end, that says this of the domain at a path
-abbrev pub line_on : List ℕ → List ℕ → List ℕ
-line_on path what = codes "domain " ++ path ++ codes " " ++ what
+-- this becomes of the domain at the path with this text
+pub record BecomesOn (events : List EventFacts) (path : List ℕ) (fate : FateFacts) : Type 0 where
+  pub root : List ℕ
+  pub at : path_text root ≡ path
+  pub event : Contains events (becomes root fate)
 
--- the report of these calls on a new collection, to which no memory was refused, has a line that
--- says this of the domain at a path
+-- a report says this of the domain at a path, as it becomes of it
+pub record IsSaidOn (platform : PlatformFacts) (events : List EventFacts) (path what : List ℕ)
+    : Type 0 where
+  pub fate : FateFacts
+  pub becomes : BecomesOn events path fate
+  pub said : what ≡ fate_text platform fate
+
+-- where these calls are made on a new collection, and no memory is refused to them, their report,
+-- which has the lines of what happens, says this of the domain at a path
 pub record IsReportedOn (platform : PlatformFacts) (rs : List CallFacts)
     (path what : List ℕ) : Type 0 where
-  pub text : List ℕ
+  pub events : List EventFacts
+  pub last : RunState
   pub decisions : List Certified
-  pub report : IsReport platform rs text decisions false
-  pub line : Contains (lines text) (line_on path what)
+  pub happens : HappensTo platform rs events last
+  pub report : IsReport platform rs (events_text platform events) decisions false
+  pub says : IsSaidOn platform events path what
 
--- a line says this of a domain
-abbrev pub IsOn : List Node → Domain → List ℕ → List ℕ → Type 0
-IsOn nodes domain line what = line ≡ line_on (path_at nodes domain.root) what
+-- what is told of a domain became of it, or nothing is
+abbrev pub IsTold : PlatformFacts → List EventFacts → List Node → Domain → Type 0
+IsTold platform events nodes domain = (string_bytes domain.told ≡ [])
+    ⊎ IsSaidOn platform events (path_at nodes domain.root) (string_bytes domain.told)
 
--- a domain's line is one of these, or there was none
-abbrev pub IsTold : List (List ℕ) → List Node → Domain → Type 0
-IsTold said nodes domain = (domain.told.now ≡ [])
-    ⊎ Contains said (line_on (path_at nodes domain.root) domain.told.now)
-
--- those of all domains are
-abbrev pub AreTold : List (List ℕ) → Story → Type 0
-AreTold said story = All (IsTold said story.nodes.items) story.domains.items
+-- that of all domains did
+abbrev pub AreTold : PlatformFacts → List EventFacts → Story → Type 0
+AreTold platform events story =
+    All (IsTold platform events story.nodes.items) story.domains.items

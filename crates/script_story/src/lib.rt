@@ -15,12 +15,11 @@ mod refused;
 mod scenario;
 mod story;
 mod telling;
-mod words;
 
 pub use asked::{asked_by, asked_in};
 pub use effort::Effort;
 pub use moves::{Move, moves_in};
 pub use refused::{left_out, list_refused, put_domain, refused_calls, refused_words};
 pub use scenario::Scenario;
-pub use story::{Domain, MadeCall, Milestone, Milestones, Node, Story, first_word};
+pub use story::{Became, Domain, MadeCall, Milestone, Milestones, Node, Story};
 pub use telling::story_of;

@@ -5,7 +5,7 @@ use crate::story::{MadeCall, Milestone, Story};
 use explanation_text::ListBuilder;
 use script_reading::Act;
 use std::alloc::{AllocError, Global};
-use sysmem_tree::NodeKind;
+use sysmem_tree::{NodeKind, Refusal};
 
 /// A call that is to stand after another, both by number.
 #[derive(Clone, Copy)]
@@ -39,7 +39,8 @@ fn add_moves(moves: &mut ListBuilder<Move>, story: &Story<'_>, call: &MadeCall<'
 
 /// Whether a call was refused that needs a token.
 fn needs_token(call: &MadeCall<'_>) -> bool {
-    matches!(call.act, Act::Duplicate(_) | Act::CreateGroup(_)) && call.code() == "E2"
+    matches!(call.act, Act::Duplicate(_) | Act::CreateGroup(_))
+        && call.is_refused_as(Refusal::WrongState)
 }
 
 /// Whether no call after that of a number was refused since it needs the same token.
@@ -84,7 +85,7 @@ fn binding(story: &Story<'_>, call: &MadeCall<'_>, number: usize) -> Option<usiz
     let node = call.node?;
     let suits = match call.act {
         Act::SetConstraints(_) | Act::AttachToken(_) | Act::Check | Act::Wait => {
-            call.code() == "E2"
+            call.is_refused_as(Refusal::WrongState)
         }
         _ => false,
     };

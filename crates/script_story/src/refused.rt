@@ -1,15 +1,14 @@
 //! Why calls were refused.
 
-use crate::story::{MadeCall, Milestone, Story};
+use crate::story::{Became, MadeCall, Milestone, Story};
 use explanation_text::wording::{MOST_NAMES, mark_after, put_few, put_joined};
 use explanation_text::{Items, ListBuilder, Name, Step, Text, TextBuilder};
-use record_reading::{Code, Fault};
+use record_reading::{Code, Fault, FaultPlace};
 use script_faults::{Document, add_record_fault};
 use script_reading::Act;
+use script_replay::Reply;
 use std::alloc::{AllocError, Global};
-use sysmem_counts::Field;
-use sysmem_sanitise::read_constraints;
-use sysmem_tree::NodeKind;
+use sysmem_tree::{NodeKind, Refusal};
 
 /// How many rows of refused calls are told.
 const MOST_ROWS: usize = 12;
@@ -40,16 +39,24 @@ pub fn refused_calls(story: &Story<'_>) -> usize {
 }
 
 fn is_refused(call: &MadeCall<'_>) -> bool {
-    !call.is_accepted() && (!call.asks() || call.code() == "E2" || call.code() == "skipped")
+    match call.reply {
+        Reply::Accepted => false,
+        Reply::Refused(Refusal::WrongState) | Reply::Skipped => true,
+        Reply::Refused(_) | Reply::Misread(_) => !call.asks(),
+    }
 }
 
 /// Whether a call is to be looked at: the answers that its domain's own section tells are left out.
 fn is_told(story: &Story<'_>, call: &MadeCall<'_>) -> bool {
-    let code = call.code();
-    if call.is_accepted() || code == "E7" || code == "E8" {
-        return false;
+    match call.reply {
+        Reply::Accepted
+        | Reply::Refused(Refusal::ConstraintsIntersectionEmpty)
+        | Reply::Refused(Refusal::TooManyGroupChildCombinations) => false,
+        Reply::Refused(Refusal::Pending) => {
+            matches!(call.node, Some(node) if end_of(story, node).is_some())
+        }
+        _ => true,
     }
-    code != "E9" || matches!(call.node, Some(node) if end_of(story, node).is_some())
 }
 
 /// The call after which the domain of a node was decided or failed.
@@ -136,7 +143,7 @@ fn row_of(
     call: &MadeCall<'_>,
     number: usize,
 ) -> Result<RefusedCalls, AllocError> {
-    let fault = fault_of(alloc, call)?;
+    let fault = fault_of(call)?;
     let mut words = TextBuilder::new(alloc);
     put_cause(&mut words, story, call, number);
     Ok(RefusedCalls {
@@ -171,10 +178,10 @@ fn is_like(story: &Story<'_>, a: &RefusedCalls, b: &RefusedCalls) -> bool {
         && a.cause == b.cause
 }
 
-fn reply_of<'a>(story: &Story<'a>, row: &RefusedCalls) -> &'a str {
+fn reply_of(story: &Story<'_>, row: &RefusedCalls) -> Option<Reply> {
     match story.call(number_of(row)) {
-        Some(call) => call.reply,
-        None => "",
+        Some(call) => Some(call.reply),
+        None => None,
     }
 }
 
@@ -184,17 +191,11 @@ fn number_of(row: &RefusedCalls) -> usize {
 }
 
 /// The fault of the constraints that a call states, of one that was refused for it.
-fn fault_of(alloc: Global, call: &MadeCall<'_>) -> Result<Option<Fault>, AllocError> {
-    let Act::SetConstraints(Some(value)) = call.act else {
-        return Ok(None);
-    };
-    if !call.code().starts_with('S') {
-        return Ok(None);
-    }
-    match read_constraints(alloc, value) {
-        Ok(_) => Ok(None),
-        Err(fault) if matches!(fault.code, Code::WantOfMemory) => Err(AllocError),
-        Err(fault) => Ok(Some(fault)),
+fn fault_of(call: &MadeCall<'_>) -> Result<Option<Fault>, AllocError> {
+    match call.reply {
+        Reply::Misread(fault) if matches!(fault.code, Code::WantOfMemory) => Err(AllocError),
+        Reply::Misread(fault) => Ok(Some(fault)),
+        _ => Ok(None),
     }
 }
 
@@ -232,35 +233,28 @@ fn row_text(
 ) -> TextBuilder {
     let mut words = TextBuilder::new(alloc);
     put_calls(&mut words, story, call, &row.numbers);
-    let (code, reply) = (call.code(), call.reply);
     words.put(": ");
-    let answer = match row.fault {
-        None => {
-            words.put_text(&row.cause);
-            reply
-        }
-        Some(_) => {
-            put_fault(&mut words, code, reply);
-            code
-        }
+    let Some(fault) = row.fault else {
+        words.put_text(&row.cause).put(" (");
+        call.put_reply(&mut words);
+        words.put(")");
+        return words;
     };
-    words.put(" (").put(answer).put(")");
+    put_fault(&mut words, fault);
+    words.put(" (").put(fault.code.name()).put(")");
     words
 }
 
-/// Puts the fault that a reply names after a text: `S4 usage`.
-fn put_fault(text: &mut TextBuilder, code: &str, reply: &str) {
-    if code == "S2" {
+/// Puts a fault after a text: `a fault in usage`.
+fn put_fault(text: &mut TextBuilder, fault: Fault) {
+    if let Code::UnknownField = fault.code {
         text.put("a key that isn't known");
         return;
     }
     text.put("a fault in ");
-    match reply.split_once(' ') {
-        Some((_, name)) if name != "whole" => match Field::from_name(name) {
-            Some(field) => text.field(field),
-            None => text.put(name),
-        },
-        _ => text.put("its constraints"),
+    match fault.at {
+        FaultPlace::At(field) => text.field(field),
+        FaultPlace::Whole => text.put("its constraints"),
     };
 }
 
@@ -318,27 +312,28 @@ fn put_cause(text: &mut TextBuilder, story: &Story<'_>, call: &MadeCall<'_>, num
     let Some(node) = call.node else {
         return put_unmade(text, story, call.on);
     };
-    match call.code() {
-        "E2" => put_wrong_state(text, story, call, node, number),
-        "E4" => {
+    let Reply::Refused(refusal) = call.reply else {
+        text.put("its constraints have a fault, so it wasn't made");
+        return;
+    };
+    match refusal {
+        Refusal::WrongState => put_wrong_state(text, story, call, node, number),
+        Refusal::NoChildren => {
             call.put_on(text);
             text.put(" has no child: create_child comes first");
         }
-        "E5" => put_left_out(text, story, node),
-        "E6" => put_ended(text, story, node),
-        "E9" => put_too_early(text, story, node, number),
-        code => {
-            text.put(plain_cause(code));
+        Refusal::NotSelected => put_left_out(text, story, node),
+        Refusal::DomainFailed => put_ended(text, story, node),
+        Refusal::Pending => put_too_early(text, story, node, number),
+        Refusal::NoMemory => {
+            text.put("memory was refused");
         }
-    }
-}
-
-/// The cause that the code of a reply alone tells.
-fn plain_cause(code: &str) -> &'static str {
-    match code {
-        "E1" => "memory was refused",
-        "E3" => "there are 128 nodes already, those that are gone included",
-        _ => "its constraints have a fault, so it wasn't made",
+        Refusal::TooManyNodes => {
+            text.put("there are 128 nodes already, those that are gone included");
+        }
+        Refusal::ConstraintsIntersectionEmpty
+        | Refusal::TooManyGroupChildCombinations
+        | Refusal::Strange => {}
     }
 }
 
@@ -368,12 +363,11 @@ fn put_ended(text: &mut TextBuilder, story: &Story<'_>, node: usize) {
     };
     put_domain(text, story, domain.root);
     let number = domain.ended.unwrap_or(0);
-    let verdict = domain.verdict();
-    if verdict == "failed" {
+    if domain.became == Became::Failed {
         text.put(" failed after call ").call(number);
     } else {
         text.put(" was decided after call ").call(number);
-        text.put(": ").put(verdict);
+        text.put(": ").put(domain.became.word());
     }
 }
 
@@ -441,7 +435,7 @@ fn put_too_early(text: &mut TextBuilder, story: &Story<'_>, node: usize, number:
         return;
     };
     // Later there is no verdict to be had either.
-    if domain.verdict() == "failed" {
+    if domain.became == Became::Failed {
         return;
     }
     let last = domain.ended.unwrap_or(0);

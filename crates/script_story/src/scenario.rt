@@ -1,19 +1,18 @@
 //! What is tried: the script's calls with others after them or in their place.
 
-ghost use Rattle.std.specs.Prelude.{map, Contains, IfOk, IfSome};
-ghost use Rattle.std.specs.Str.Lines.{lines};
+ghost use Rattle.std.specs.Prelude.{◌≡◌, map, IfOk, IfSome};
 ghost use Rattle.std.specs.String.{string_bytes};
 ghost use Rattle.script_reading.specs.Seen.{call_seen};
+ghost use Rattle.script_replay.specs.Events.{HappensTo, events_of, events_text, fate_seen, fate_text};
 ghost use Rattle.script_replay.specs.Outcome.{anyhow};
 ghost use Rattle.script_replay.specs.Replayed.{LeavesIn, end_of};
 ghost use Rattle.script_replay.specs.Report.{IsReported};
-ghost use Rattle.script_story.specs.Told.{IsReportedOn, line_on};
+ghost use Rattle.script_story.specs.Told.{BecomesOn, IsReportedOn};
 
 use crate::effort::Effort;
-use crate::words::said_on;
 use negotiation_inputs::Platform;
 use script_reading::Call;
-use script_replay::{ReplayedCalls, replay};
+use script_replay::{DomainFate, Event, Events, ReplayedCalls, put_fate, replay, text_of_path};
 use std::alloc::{AllocError, Global};
 
 /// A script's platform and its calls, with what its runs cost so far.
@@ -26,16 +25,25 @@ pub struct Scenario<'a> {
 
 impl<'a> Scenario<'a> {
     /// What these calls do on the platform: the report of a script with them, and its collection.
-    pub fn tell(&self, alloc: Global, calls: &[Call<'_>]) -> Result<ReplayedCalls, AllocError>
+    pub fn tell<'c>(
+        &self,
+        alloc: Global,
+        calls: &[Call<'c>],
+    ) -> Result<ReplayedCalls<'c>, AllocError>
         ensures report { IfOk result (λ told. IsReported self.now.platform.now
             (map call_seen calls.now) (anyhow self.now.platform.now)
             (string_bytes told.report.text) told.report.starved) }
         ensures leaves { IfOk result (λ told. LeavesIn self.now.platform.now
             (map call_seen calls.now) (string_bytes told.report.text) (end_of told)) }
+        ensures happens { IfOk result (λ told. HappensTo self.now.platform.now
+            (map call_seen calls.now) (events_of told.events) (end_of told)) }
+        ensures text { IfOk result (λ told. string_bytes told.report.text
+            ≡ events_text self.now.platform.now (events_of told.events)) }
+        ensures starved { IfOk result (λ told. told.report.starved ≡ (end_of told).starved) }
     {
         let platform = self.platform.copy()?;
         let told = replay(alloc, platform, calls)?;
-        self.effort.add_run(told.visits);
+        add_run(self.effort, &told);
         Ok(told)
     }
 
@@ -58,22 +66,48 @@ impl<'a> Scenario<'a> {
         if told.report.starved {
             return Err(AllocError);
         }
-        match said_last(told.report.text.as_str(), path) {
-            Some(what) => Ok(Some(String::from_str(alloc, what)?)),
+        match last_on(&told.events, alloc, path)? {
+            Some(fate) => Ok(Some(fate_text(alloc, told.book().platform(), fate)?)),
             None => Ok(None),
         }
     }
 }
 
-/// What a report says last of the domain at a path; `None` where it has no such line.
-fn said_last<'a>(report: &'a str, path: &str) -> Option<&'a str>
-    ensures { IfSome result (λ what. Contains (lines report.now) (line_on path.now what.now)) }
+/// Adds the cost of a run.
+fn add_run(effort: &Effort, told: &ReplayedCalls<'_>) {
+    effort.add_run(told.visits);
+}
+
+/// What becomes of the domain at a path at last; `None` where nothing does.
+fn last_on<'a>(
+    events: &'a Events<'_>,
+    alloc: Global,
+    path: &str,
+) -> Result<Option<&'a DomainFate>, AllocError>
+    ensures { IfOk result (λ said. IfSome said (λ fate.
+        BecomesOn (events_of events.now) path.now (fate_seen fate.now))) }
 {
     let mut last = None;
-    for line in report.lines() {
-        if let Some(what) = said_on(line, path) {
-            last = Some(what);
+    for event in events.as_slice() {
+        if let Event::Domain(one) = event
+            && text_of_path(alloc, &one.path)?.as_str() == path
+        {
+            last = Some(&one.fate);
         }
     }
-    last
+    Ok(last)
+}
+
+/// What a report says where this becomes of a domain.
+pub(crate) fn fate_text(
+    alloc: Global,
+    platform: &Platform,
+    fate: &DomainFate,
+) -> Result<String, AllocError>
+    ensures { IfOk result (λ what.
+        string_bytes what ≡ fate_text platform.now (fate_seen fate.now)) }
+{
+    let mut what = String::new(alloc);
+    put_fate(&mut what, platform, fate)?;
+    Ok(what)
 }

@@ -6,9 +6,10 @@ ghost use Rattle.script_story.specs.Paths.{path_at};
 use explanation_text::{Name, TextBuilder};
 use negotiation_inputs::Constraints;
 use script_reading::Act;
+use script_replay::Reply;
 use std::alloc::{AllocError, Global};
 use sysmem_merge::Settings;
-use sysmem_tree::{NodeKind, NodeState};
+use sysmem_tree::{NodeKind, NodeState, Refusal};
 
 /// A call, with its answer.
 #[derive(Clone, Copy)]
@@ -20,8 +21,7 @@ pub struct MadeCall<'a> {
     pub actor: &'a str,
     /// The node on which it is made, by number, if there is one.
     pub node: Option<usize>,
-    /// What the report says of it.
-    pub reply: &'a str,
+    pub reply: Reply,
 }
 
 impl<'a> MadeCall<'a> {
@@ -38,7 +38,22 @@ impl<'a> MadeCall<'a> {
 
     /// Whether it was made.
     pub fn is_accepted(&self) -> bool {
-        self.reply == "ok"
+        matches!(self.reply, Reply::Accepted)
+    }
+
+    /// Whether it was refused so.
+    pub fn is_refused_as(&self, refusal: Refusal) -> bool {
+        matches!(self.reply, Reply::Refused(found) if found == refusal)
+    }
+
+    /// Puts its reply after a text, as a report has it.
+    pub fn put_reply(&self, text: &mut TextBuilder) {
+        match self.reply {
+            Reply::Accepted => text.put("ok"),
+            Reply::Refused(refusal) => text.put(refusal.name()),
+            Reply::Misread(fault) => text.put(fault.code.name()).put(" ").put(fault.at.name()),
+            Reply::Skipped => text.put("skipped"),
+        };
     }
 
     /// Whether it asks for a verdict alone.
@@ -49,14 +64,6 @@ impl<'a> MadeCall<'a> {
     /// Its name.
     pub fn name(&self) -> &'static str {
         self.act.name()
-    }
-
-    /// The code of its reply: `ok`, `E2`.
-    pub fn code(&self) -> &'a str {
-        match self.reply.split_once(' ') {
-            Some((code, _)) => code,
-            None => self.reply,
-        }
     }
 }
 
@@ -137,41 +144,55 @@ pub struct Node<'a> {
     pub milestones: Milestones,
 }
 
-/// The front of a text up to its first space.
-pub fn first_word(text: &str) -> &str {
-    match text.split_once(' ') {
-        Some((word, _)) => word,
-        None => text,
+/// What became of a domain.
+#[derive(Clone, Copy, PartialEq, Eq)]
+pub enum Became {
+    /// It waits for no decision yet.
+    Pending,
+    Chosen,
+    /// No settings meet its participants.
+    Empty,
+    TooMany,
+    /// Memory was refused to its decision.
+    NoMemory,
+    Failed,
+}
+
+impl Became {
+    /// The word that a report has for it.
+    pub fn word(self) -> &'static str {
+        match self {
+            Became::Pending => "pending",
+            Became::Chosen => "chosen",
+            Became::Empty => "empty",
+            Became::TooMany => "too_many",
+            Became::NoMemory => "no_memory",
+            Became::Failed => "failed",
+        }
     }
 }
 
 /// A domain, as the last call left it.
-#[derive(Clone, Copy)]
-pub struct Domain<'a> {
+#[derive(Drop)]
+pub struct Domain {
     /// Its root, by number.
     pub root: usize,
     /// The node to which its root was attached, by number; `None` of the initial one.
     pub host: Option<usize>,
+    pub became: Became,
     /// What the report says of it after its path: of a verdict the word, and what was chosen.
-    pub told: &'a str,
+    pub told: String,
     /// The call after which that came; `None` where it has no verdict.
     pub ended: Option<usize>,
     /// The settings that were chosen.
     pub settings: Option<Settings>,
 }
 
-impl<'a> Domain<'a> {
-    /// The word of its verdict, or `pending`.
-    pub fn verdict(&self) -> &'a str {
-        first_word(self.told)
-    }
-}
-
 /// What a script's calls did.
 pub struct Story<'a> {
     pub calls: Vec<MadeCall<'a>>,
     pub nodes: Vec<Node<'a>>,
-    pub domains: Vec<Domain<'a>>,
+    pub domains: Vec<Domain>,
     /// The domains by index, in the order of the report.
     pub order: Vec<usize>,
 }
@@ -369,7 +390,7 @@ impl<'a> Story<'a> {
     }
 
     /// The domain of a node.
-    pub fn domain_of(&self, node: usize) -> Option<&Domain<'a>> {
+    pub fn domain_of(&self, node: usize) -> Option<&Domain> {
         match self.nodes.get(node) {
             Some(node) => self.domains.get(node.domain),
             None => None,

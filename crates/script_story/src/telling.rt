@@ -1,19 +1,21 @@
 //! The story of a script's calls, told from their replay.
 
-ghost use Rattle.std.specs.Prelude.{◌≡◌, All, Contains, [], IfOk, IfSome, List, OnOk, slice_get, ℕ};
-ghost use Rattle.std.specs.Str.Lines.{lines};
+ghost use Rattle.std.specs.Prelude.{◌≡◌, All, Contains, [], IfOk, IfSome, IsTrue, List, OnOk, slice_get};
 ghost use Rattle.std.specs.String.{string_bytes};
-ghost use Rattle.script_story.specs.Told.{AreTold, IsOn};
+ghost use Rattle.script_replay.specs.Events.{EventFacts, becomes, events_of, fate_seen};
+ghost use Rattle.script_replay.specs.Replayed.{end_of};
+ghost use Rattle.script_story.specs.Paths.{path_at};
+ghost use Rattle.script_story.specs.Told.{AreTold};
 ghost use Rattle.sysmem_tree.specs.Domain.{HasDomain};
 ghost use Rattle.sysmem_tree.specs.Nodes.{HasNode};
 
-use crate::story::{Domain, MadeCall, Milestones, Node, Story, first_word};
-use crate::words::{is_domain_line, reply_in, said_on};
-use certificate_text::push_path;
+use crate::scenario::fate_text;
+use crate::story::{Became, Domain, MadeCall, Milestones, Node, Story};
 use explanation_text::ListBuilder;
+use negotiation_inputs::Platform;
 use script_faults::actor_of;
 use script_reading::Call;
-use script_replay::ReplayedCalls;
+use script_replay::{DomainEvent, DomainFate, Event, ReplayedCalls, Reply, text_of_path};
 use serde_json::Value;
 use std::alloc::{AllocError, Global};
 use sysmem_alloc::Book;
@@ -26,9 +28,9 @@ pub fn story_of<'a>(
     alloc: Global,
     value: &'a Value,
     calls: &[Call<'a>],
-    told: &'a ReplayedCalls,
+    told: &'a ReplayedCalls<'_>,
 ) -> Result<Story<'a>, AllocError>
-    ensures { IfOk result (AreTold (lines (string_bytes told.now.report.text))) }
+    ensures { IfOk result (AreTold (end_of told.now).platform (events_of told.now.events)) }
 {
     let mut nodes = nodes_of(alloc, told.book().tree())?;
     name_nodes(&mut nodes, calls, told);
@@ -40,7 +42,7 @@ pub fn story_of<'a>(
         domains: domains_of(alloc, told.book())?,
         order: Vec::new(alloc),
     };
-    read_lines(&mut story, &told.report.text)?;
+    keep_fates(&mut story, told)?;
     Ok(story)
 }
 
@@ -49,33 +51,46 @@ fn calls_of<'a>(
     alloc: Global,
     value: &'a Value,
     calls: &[Call<'a>],
-    told: &'a ReplayedCalls,
+    told: &ReplayedCalls<'_>,
 ) -> Result<Vec<MadeCall<'a>>, AllocError> {
     let mut made = Vec::new(alloc);
     let values = match value.get("calls") {
         Some(Value::Array(values)) => values.as_slice(),
         _ => &[],
     };
-    let mut lines = told.report.text.lines();
-    for (index, call) in calls.iter().enumerate() {
-        let line = lines.find(|line| !is_domain_line(line)).unwrap_or("");
-        let actor = match values.get(index) {
-            Some(value) => actor_of(value),
-            None => "",
+    for event in told.events.as_slice() {
+        let Event::Call(called) = event else {
+            continue;
         };
-        made.push(MadeCall {
-            act: call.act,
-            on: call.on,
-            place: call.place,
-            actor,
-            node: match told.node_named(call.place) {
-                Some(number) => Some(number as usize),
-                None => None,
-            },
-            reply: reply_in(line, call.act.name_made().is_some()),
-        })?;
+        let index = called.number.saturating_sub(1);
+        if let Some(call) = calls.get(index) {
+            made.push(made_of(values.get(index), told, call, called.reply))?;
+        }
     }
     Ok(made)
+}
+
+/// A call with its answer, whose actor the value of the call names.
+fn made_of<'a>(
+    value: Option<&'a Value>,
+    told: &ReplayedCalls<'_>,
+    call: &Call<'a>,
+    reply: Reply,
+) -> MadeCall<'a> {
+    MadeCall {
+        act: call.act,
+        on: call.on,
+        place: call.place,
+        actor: match value {
+            Some(value) => actor_of(value),
+            None => "",
+        },
+        node: match told.node_named(call.place) {
+            Some(number) => Some(number as usize),
+            None => None,
+        },
+        reply,
+    }
 }
 
 fn nodes_of<'a>(alloc: Global, tree: &'a Tree) -> Result<Vec<Node<'a>>, AllocError> {
@@ -92,11 +107,9 @@ fn node_of<'a>(alloc: Global, tree: &'a Tree, node: NodeId) -> Result<Node<'a>, 
     requires { HasNode tree.now.nodes node }
 {
     let place = tree.path_of(node)?;
-    let mut path = String::new(alloc);
-    push_path(&mut path, place.ordinals())?;
     Ok(Node {
         name: "",
-        path,
+        path: text_of_path(alloc, &place)?,
         parent: parent_of(tree, place.ordinals()),
         domain: index_of(tree, tree.domain_of(node)),
         state: tree.state(node),
@@ -125,7 +138,7 @@ fn index_of(tree: &Tree, domain: DomainId) -> usize {
 }
 
 /// Gives each node the name that the script has for it.
-fn name_nodes<'a>(nodes: &mut [Node<'a>], calls: &[Call<'a>], told: &ReplayedCalls) {
+fn name_nodes<'a>(nodes: &mut [Node<'a>], calls: &[Call<'a>], told: &ReplayedCalls<'_>) {
     if let Some(root) = nodes.first_mut() {
         root.name = "root";
     }
@@ -158,23 +171,24 @@ fn note_deeds(nodes: &mut [Node<'_>], calls: &[MadeCall<'_>]) {
 }
 
 /// The domains, of which nothing is told yet.
-fn domains_of<'a>(alloc: Global, book: &Book) -> Result<Vec<Domain<'a>>, AllocError>
-    ensures { IfOk result (λ domains. All (λ domain. domain.told.now ≡ []) domains.items) }
+fn domains_of(alloc: Global, book: &Book) -> Result<Vec<Domain>, AllocError>
+    ensures { IfOk result (λ domains.
+        All (λ domain. string_bytes domain.told ≡ []) domains.items) }
 {
     let tree = book.tree();
     let mut domains = Vec::new(alloc);
     for index in 0..tree.domain_count() {
         if let Some(domain) = tree.domain_at(index) {
-            domains.push(domain_of(book, domain))?;
+            domains.push(domain_of(alloc, book, domain))?;
         }
     }
     Ok(domains)
 }
 
 /// A domain of which nothing is told yet.
-fn domain_of<'a>(book: &Book, domain: DomainId) -> Domain<'a>
+fn domain_of(alloc: Global, book: &Book, domain: DomainId) -> Domain
     requires { HasDomain book.now.state.tree.nodes domain }
-    ensures { result.told.now ≡ [] }
+    ensures { string_bytes result.told ≡ [] }
 {
     let tree = book.tree();
     let host = match tree.host_of(domain) {
@@ -184,7 +198,8 @@ fn domain_of<'a>(book: &Book, domain: DomainId) -> Domain<'a>
     Domain {
         root: tree.number_of(tree.root_of(domain)) as usize,
         host,
-        told: "",
+        became: Became::Pending,
+        told: String::new(alloc),
         ended: None,
         settings: settings_in(book.verdict_of(domain)),
     }
@@ -198,55 +213,99 @@ fn settings_in(verdict: Option<&Verdict>) -> Option<Settings> {
     }
 }
 
-/// Reads of the report what became of each domain, and after which call.
-fn read_lines<'a>(story: &mut Story<'a>, report: &'a str) -> Result<(), AllocError>
-    requires { AreTold (lines report.now) story.old }
-    ensures { OnOk result (AreTold (lines report.now) story.new) }
+/// Keeps what became of each domain, and after which call.
+fn keep_fates(story: &mut Story<'_>, told: &ReplayedCalls<'_>) -> Result<(), AllocError>
+    requires { AreTold (end_of told.now).platform (events_of told.now.events) story.old }
+    ensures { OnOk result
+        (AreTold (end_of told.now).platform (events_of told.now.events) story.new) }
 {
+    let platform = told.book().platform();
     let mut number = 0usize;
-    for line in report.lines() {
-        if is_domain_line(line) {
-            keep_line(story, line, number)?;
-        } else {
-            number = number.saturating_add(1);
+    for event in told.events.as_slice() {
+        match event {
+            Event::Call(called) => number = called.number,
+            Event::Domain(one) => keep_fate(story, platform, one, number)?,
         }
     }
     Ok(())
 }
 
-/// Keeps what a line of the report says of a domain, and the call after which it stands.
-fn keep_line<'a>(story: &mut Story<'a>, line: &'a str, number: usize) -> Result<(), AllocError>
-    ensures { OnOk result ((said : List (List ℕ)) → Contains said line.now
-        → AreTold said story.old → AreTold said story.new) }
+/// Keeps what becomes of a domain after the call of a number.
+fn keep_fate(
+    story: &mut Story<'_>,
+    platform: &Platform,
+    one: &DomainEvent,
+    number: usize,
+) -> Result<(), AllocError>
+    ensures { OnOk result ((events : List EventFacts)
+        → Contains events (becomes one.now.path (fate_seen one.now.fate))
+        → AreTold platform.now events story.old → AreTold platform.now events story.new) }
 {
-    let Some((index, told)) = told_in(story, line) else {
+    let alloc = *story.order.allocator();
+    let path = text_of_path(alloc, &one.path)?;
+    let Some(index) = index_at(story, &path) else {
         return Ok(());
     };
     story.order.push(index)?;
-    if index < story.domains.len() {
-        let domain = story.domains[index];
-        let ended = match first_word(told) {
-            "pending" => domain.ended,
-            _ => Some(number),
-        };
-        story.domains[index] = Domain {
-            told,
-            ended,
-            ..domain
-        };
-    }
+    let told = fate_text(alloc, platform, &one.fate)?;
+    let Some(domain) = story.domains.get(index) else {
+        return Ok(());
+    };
+    let next = with_fate(domain, told, became_by(&one.fate), number);
+    story.domains[index] = next;
     Ok(())
 }
 
-/// The index of the domain of which a line tells, and what it says of it.
-fn told_in<'a>(story: &Story<'_>, line: &'a str) -> Option<(usize, &'a str)>
-    ensures { IfSome result (λ found. IfSome (slice_get story.now.domains.items found.0)
-        (λ domain. IsOn story.now.nodes.items domain line.now found.1.now)) }
+/// A domain once this became of it after the call of a number, of which this is told.
+fn with_fate(domain: &Domain, told: String, became: Became, number: usize) -> Domain
+    ensures root { result.root ≡ domain.now.root }
+    ensures told { result.told ≡ told }
+{
+    let ended = match became {
+        Became::Pending => domain.ended,
+        _ => Some(number),
+    };
+    Domain {
+        root: domain.root,
+        host: domain.host,
+        became,
+        told,
+        ended,
+        settings: domain.settings,
+    }
+}
+
+/// What became of a domain by its fate.
+fn became_by(fate: &DomainFate) -> Became {
+    match fate {
+        DomainFate::Pending => Became::Pending,
+        DomainFate::Failed => Became::Failed,
+        DomainFate::Decided(one) => match one.verdict() {
+            Some(Verdict::Chosen(_)) => Became::Chosen,
+            Some(Verdict::IntersectionEmpty) => Became::Empty,
+            Some(Verdict::TooMany) => Became::TooMany,
+            Some(Verdict::Failed) => Became::Failed,
+            Some(Verdict::NoMemory) | None => Became::NoMemory,
+        },
+    }
+}
+
+/// The index of the domain whose root is at a path.
+fn index_at(story: &Story<'_>, path: &str) -> Option<usize>
+    ensures { IfSome result (λ index. IfSome (slice_get story.now.domains.items index)
+        (λ domain. path.now ≡ path_at story.now.nodes.items domain.root)) }
 {
     for (index, domain) in story.domains.iter().enumerate() {
-        if let Some(told) = said_on(line, story.path(domain.root)) {
-            return Some((index, told));
+        if is_at(story, domain.root, path) {
+            return Some(index);
         }
     }
     None
+}
+
+/// Whether a node, by number, is at a path.
+fn is_at(story: &Story<'_>, node: usize, path: &str) -> bool
+    ensures { IsTrue result → path.now ≡ path_at story.now.nodes.items node }
+{
+    story.path(node) == path
 }

@@ -13,7 +13,7 @@ use crate::playing::{PlayReport, play};
 use byte_transfer::{Sink, Source, read_up_to_limit, write_fully};
 use negotiation_inputs::Platform;
 use script_reading::{Call, LONGEST, Script, parse_script, read_script_apart};
-use script_replay::replies_of;
+use script_replay::{Event, Events, Reply, replay};
 use script_run::{RunFault, RunOutcome};
 use serde_json::Value;
 use std::alloc::{AllocError, Global};
@@ -107,10 +107,25 @@ fn play_script<T: Threads + Wait + Sync>(
     play::<Brand, T>(rt, alloc, Blank::new(PARTS), platform, &calls)
 }
 
-/// Makes checks of the waits that could last for ever.
+/// Makes checks of the waits that could last for ever, by what the calls answer in the order of the
+/// script. It fails where memory is refused, to a reply or a decision too.
 fn planned(alloc: Global, platform: &Platform, calls: &mut [Call<'_>]) -> Result<(), AllocError> {
-    let copy = platform.copy()?;
-    let replies = replies_of(alloc, copy, calls)?;
+    let replayed = replay(alloc, platform.copy()?, calls)?;
+    if replayed.report.starved {
+        return Err(AllocError);
+    }
+    let replies = replies_in(alloc, &replayed.events)?;
     settle_waits(calls, &replies);
     Ok(())
+}
+
+/// The replies of calls.
+fn replies_in(alloc: Global, events: &Events<'_>) -> Result<Vec<Reply>, AllocError> {
+    let mut replies = Vec::new(alloc);
+    for event in events.as_slice() {
+        if let Event::Call(called) = event {
+            replies.push(called.reply)?;
+        }
+    }
+    Ok(replies)
 }

@@ -74,10 +74,10 @@ impl Scene<'_, '_> {
         values.done()
     }
 
-    fn domain_value(&self, alloc: Global, domain: &Domain<'_>) -> Result<Value, AllocError> {
+    fn domain_value(&self, alloc: Global, domain: &Domain) -> Result<Value, AllocError> {
         let mut object = Object::new(alloc);
         self.put_node(&mut object, "domain", domain.root)?;
-        object.say("verdict", domain.verdict())?;
+        object.say("verdict", domain.became.word())?;
         Ok(object.into_value())
     }
 }

@@ -96,7 +96,7 @@ impl<'a, 'b> Telling<'a, 'b> {
         for domain in &played.story.domains {
             if domain.root == root {
                 self.root = Some(root);
-                return object.say("verdict", domain.verdict());
+                return object.say("verdict", domain.became.word());
             }
         }
         Ok(())

@@ -1,16 +1,11 @@
 //! What proves each decision, counted where a second replay makes the proofs.
 
-ghost use Rattle.std.specs.Prelude.{[], ⊤};
-
 use crate::json::PlayedScript;
 use explanation_text::wording::put_count;
 use explanation_text::{ListBuilder, TextBuilder};
-use script_replay::{Decider, Stop, proved_claim_for, report_of};
+use script_replay::{DomainFate, Event, Proving, ReplayedCalls, replayed_of};
 use script_story::{Story, put_domain};
 use std::alloc::{AllocError, Global};
-use std::sync::Arc;
-use sysmem_alloc::Book;
-use sysmem_tree::DomainId;
 use verdict_claims::{Certificate, Claim, Conflict, EarlierChoices, Item, Proof, Refutation};
 
 /// How many conflicts there are, and lines in them.
@@ -47,51 +42,37 @@ fn lines_of(conflict: &Conflict) -> usize {
     }
 }
 
-/// Searches for each verdict and proves it, and tells what proves it.
-#[derive(Drop)]
-struct Telling<'a, 'b> {
-    story: &'b Story<'a>,
-    proofs: ListBuilder<String>,
-}
-
-impl Decider for Telling<'_, '_> {
-    ghost gave = { λ _ platform decisions. ⊤ };
-
-    ghost objects = { λ _ platform book domain objection. ⊥ };
-
-    ghost given = { λ _. [] };
-
-    fn decide(
-        &mut self,
-        alloc: Global,
-        book: &Book,
-        domain: DomainId,
-    ) -> Result<Option<Arc<Claim>>, Stop> {
-        let claim = proved_claim_for(alloc, book, domain);
-        if let Some(shared) = &claim {
-            let tree = book.tree();
-            let root = tree.number_of(tree.root_of(domain)) as usize;
-            let words = proof_of(alloc, self.story, root, &**shared);
-            self.proofs.add_words(words);
-        }
-        Ok(claim)
-    }
-}
-
 /// A sentence for each decision of a script. `AllocError` also where memory was refused to one.
 pub(crate) fn proofs_of(
     alloc: Global,
     played: PlayedScript<'_, '_>,
 ) -> Result<Vec<String>, AllocError> {
-    let mut telling = Telling {
-        story: played.story,
-        proofs: ListBuilder::new(alloc),
-    };
     let platform = played.platform.copy()?;
-    match report_of(alloc, platform, played.calls, &mut telling) {
-        Ok(report) if !report.starved => telling.proofs.done(),
+    match replayed_of(alloc, platform, played.calls, &mut Proving) {
+        Ok(replayed) if !replayed.report.starved => told_of(alloc, played.story, &replayed),
         _ => Err(AllocError),
     }
+}
+
+/// A sentence for each decision of a replay.
+fn told_of(
+    alloc: Global,
+    story: &Story<'_>,
+    replayed: &ReplayedCalls<'_>,
+) -> Result<Vec<String>, AllocError> {
+    let tree = replayed.book().tree();
+    let mut proofs = ListBuilder::new(alloc);
+    for event in replayed.events.as_slice() {
+        if let Event::Domain(domain) = event
+            && let DomainFate::Decided(one) = &domain.fate
+            && let Some(shared) = &one.claim
+            && let Some(root) = tree.node_at(domain.path.ordinals())
+        {
+            let root = tree.number_of(root) as usize;
+            proofs.add_words(proof_of(alloc, story, root, &**shared));
+        }
+    }
+    proofs.done()
 }
 
 /// What proves a claim about the domain of a root, in words.

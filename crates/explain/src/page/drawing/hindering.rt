@@ -2,7 +2,7 @@
 
 use explanation_text::ListBuilder;
 use negotiation_inputs::Platform;
-use script_story::{Domain, Story, asked_in};
+use script_story::{Became, Domain, Story, asked_in};
 use settings_reasons::{failing, in_the_way};
 use std::alloc::{AllocError, Global};
 use sysmem_merge::Settings;
@@ -18,7 +18,7 @@ pub(crate) fn in_the_way_of(
 ) -> Result<Vec<usize>, AllocError> {
     let mut nodes = ListBuilder::new(alloc);
     for (index, domain) in story.domains.iter().enumerate() {
-        if domain.verdict() != "empty" || has_groups(story, index) {
+        if domain.became != Became::Empty || has_groups(story, index) {
             continue;
         }
         let participants = asked_in(alloc, story, index, false)?;
@@ -40,7 +40,7 @@ fn has_groups(story: &Story<'_>, index: usize) -> bool {
 }
 
 /// The settings that were decided before, of a domain that was attached.
-fn settings_above(story: &Story<'_>, domain: &Domain<'_>) -> Option<Settings> {
+fn settings_above(story: &Story<'_>, domain: &Domain) -> Option<Settings> {
     story.domain_of(domain.host?)?.settings
 }
 

@@ -5,7 +5,7 @@ use bitflags::Flags;
 use explanation_text::wording::{put_count, put_few};
 use explanation_text::{Standing, TextBuilder};
 use negotiation_inputs::Constraints;
-use script_story::{Milestone, Story};
+use script_story::{Became, Milestone, Story};
 use std::alloc::{AllocError, Global};
 use sysmem_counts::Usage;
 use sysmem_image::Entry;
@@ -23,13 +23,13 @@ pub(crate) fn standing_of<'b>(
     let Some(domain) = story.domain_of(node) else {
         return (Standing::Plain, "");
     };
-    match domain.verdict() {
-        "pending" if story.is_awaited(node, usize::MAX) => (Standing::Open, "awaited"),
-        "pending" => (Standing::Plain, ""),
-        "chosen" if story.is_selected(node) => (Standing::Chosen, "selected"),
-        "chosen" => (Standing::Plain, "not selected"),
-        "empty" if is_in_the_way => (Standing::Bad, "in the way"),
-        verdict if domain.root == node => (Standing::Bad, verdict),
+    match domain.became {
+        Became::Pending if story.is_awaited(node, usize::MAX) => (Standing::Open, "awaited"),
+        Became::Pending => (Standing::Plain, ""),
+        Became::Chosen if story.is_selected(node) => (Standing::Chosen, "selected"),
+        Became::Chosen => (Standing::Plain, "not selected"),
+        Became::Empty if is_in_the_way => (Standing::Bad, "in the way"),
+        other if domain.root == node => (Standing::Bad, other.word()),
         _ => (Standing::Plain, ""),
     }
 }

@@ -3,7 +3,7 @@
 use crate::page::drawing::joints::add_joints;
 use explanation_text::{Drawing, Line, Standing, TextBuilder};
 use negotiation_inputs::Platform;
-use script_story::{Domain, MadeCall, Story};
+use script_story::{Became, Domain, MadeCall, Story};
 use std::alloc::{AllocError, Global};
 
 /// What a page shows of a story, but for what proves its decisions.
@@ -65,16 +65,19 @@ fn add_decisions(
 }
 
 /// The report's line on a domain.
-fn line_of(alloc: Global, story: &Story<'_>, domain: &Domain<'_>) -> Result<Line, AllocError> {
+fn line_of(alloc: Global, story: &Story<'_>, domain: &Domain) -> Result<Line, AllocError> {
     let mut words = TextBuilder::of(alloc, "domain ");
-    words.put(story.path(domain.root)).put(" ").put(domain.told);
+    words
+        .put(story.path(domain.root))
+        .put(" ")
+        .put(&domain.told);
     Ok(Line {
         number: None,
         actor: 0,
         words: words.done()?,
-        standing: match domain.verdict() {
-            "chosen" => Standing::Chosen,
-            "pending" => Standing::Open,
+        standing: match domain.became {
+            Became::Chosen => Standing::Chosen,
+            Became::Pending => Standing::Open,
             _ => Standing::Bad,
         },
     })
@@ -88,7 +91,8 @@ fn words_of(alloc: Global, call: &MadeCall<'_>) -> TextBuilder {
         words.put(" ").put(made);
     }
     if !call.is_accepted() {
-        words.put(": ").put(call.reply);
+        words.put(": ");
+        call.put_reply(&mut words);
     }
     words
 }

@@ -1,7 +1,8 @@
 use Rattle.std.proofs.Common.{◌≡◌, Ok, ap, ◌∙◌}
 use Rattle.std.proofs.lemmas.List.Elements.{All-nil}
 use Rattle.certificate_pieces.specs.Texts.{pieces_text}
-use Rattle.script_run.specs.Certificate.{AreProved, IsCertifiedBy, IsProved, texts_of}
+use Rattle.script_replay.specs.Proving.{AreProved, IsProved}
+use Rattle.script_run.specs.Certificate.{IsCertifiedBy, texts_of}
 use Rattle.script_replay.specs.Outcome.{report_seen}
 use Rattle.script_run.proofs.CallerLemmas.{runs-so}
 use Rattle.script_run.proofs.OneCertified.{certificate_said}

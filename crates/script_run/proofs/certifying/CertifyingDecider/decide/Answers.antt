@@ -1,6 +1,6 @@
 use Rattle.std.specs.Arc.{arc_value}
 use Rattle.sysmem_alloc.specs.Claims.{HasProof}
-use Rattle.script_run.proofs.OneCertified.{if_mapped, proved_push}
+use Rattle.script_replay.proofs.CallerLemmas.{if_mapped, proved_push}
 use Rattle.script_run.proofs.certifying.CertifyingDecider.decide.Goals as goal
 
 pub returns-clause-gave : goal.returns-clause-gave
