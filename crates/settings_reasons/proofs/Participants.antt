@@ -1,21 +1,19 @@
 -- One more participant of a list.
-use Rattle.std.proofs.Common.{◌≡◌, ◌==◌, ℕ, ◌+◌, ◌<◌, Bool, false, not, filter, List, [], ◌∷◌, ◌++◌, length, get_or, take, map, All, Contains, Option, Some, None, is_some, IfNone, Result, Ok, Err, IfErr, IsTrue, sym, ap, subst, ◌∙◌}
+use Rattle.std.proofs.Common.{◌≡◌, ◌==◌, ℕ, ◌+◌, ◌<◌, Bool, true, false, cond, not, arith, filter, filter_map, List, [], ◌∷◌, ◌++◌, length, get_or, take, map, All, Contains, Option, Some, None, is_some, IfNone, Result, Ok, Err, IfErr, IsTrue, sym, ap, subst, ◌∙◌}
 use Rattle.std.specs.Result.{is_err}
-use Rattle.std.proofs.lemmas.List.{map-append, take_more}
-use Rattle.std.proofs.lemmas.List.Elements.{All-contains_itself, All-filter, All-push}
+use Rattle.std.proofs.lemmas.List.{append-nil, length-map, map-append, take_more}
+use Rattle.std.proofs.lemmas.List.Elements.{All-contains_itself, All-filter, All-push, filter-append, filter_map-append}
+use Rattle.sysmem_counts.specs.declared.field.Field.{Field}
 use Rattle.sysmem_counts.specs.declared.usage.Usage.{Usage}
-use Rattle.sysmem_formats.specs.declared.offer.Offer.{Offer}
 use Rattle.sysmem_memory.specs.declared.domain.CoherencyDomain.{CoherencyDomain}
 use Rattle.sysmem_memory.specs.Heap.{HeapFacts}
 use Rattle.sysmem_memory.specs.PlaceTable.{PlaceDemand}
 use Rattle.sysmem_memory.specs.Wishes.{MemoryWishes}
 use Rattle.sysmem_merge.specs.Best.{IsUnmet}
-use Rattle.offer_fits.specs.Demands.{offer_demands, place_demand, place_demands}
-use Rattle.sysmem_merge.specs.OfferRead.{IsRefusingLine}
+use Rattle.offer_fits.specs.Demands.{place_demand, place_demands}
 use Rattle.negotiation_inputs.specs.Participant.{Participant}
 use Rattle.negotiation_inputs.specs.Platform.{PlatformFacts}
-use Rattle.settings_reasons.specs.declared.rows.Reason.{Reason}
-use Rattle.settings_reasons.specs.True.{AreInTheWay, IsLineReason, IsPlaceReason}
+use Rattle.settings_reasons.specs.True.{AreInTheWay, PlaceRefusal, refused_to}
 use Rattle.value_sources.specs.declared.participant.NamedParticipant.{NamedParticipant}
 use Rattle.value_sources.specs.Sources.{all_asked}
 
@@ -55,13 +53,6 @@ pub err_means : {A E : Type 0} (r : Result A E) (P : Type 0) (b : Bool) → b �
 err_means (Err e) P b same holds is = holds
 err_means (Ok x) P b same holds is = absurd (cc)
 
--- one more line, which is true of all
-pub line_more : (whole : Bool) (offer : Offer) (old new : List Reason) (reason : Reason) (participants : List NamedParticipant) → new ≡ old ++ reason ∷ [] → reason.participants.items ≡ participants → All (IsLineReason whole offer) old
-    → IsRefusingLine whole offer (offer_demands (all_asked participants)) reason.field → All (IsLineReason whole offer) new
-line_more whole offer old new reason participants pushed named all line =
-    subst (All (IsLineReason whole offer)) (sym pushed)
-    (All-push (IsLineReason whole offer) old reason all (subst (λ ps. IsRefusingLine whole offer (offer_demands (all_asked ps)) reason.field) (sym named) line))
-
 -- the same participants are in the way
 pub same_in_the_way : (platform : PlatformFacts) (participants some other : List NamedParticipant) → other ≡ some → AreInTheWay platform participants some → AreInTheWay platform participants other
 same_in_the_way platform participants some other same way = subst (AreInTheWay platform participants) (sym same) way
@@ -78,8 +69,67 @@ fewer_in_the_way platform participants node kept these rest those same left same
   among = subst (All (Contains participants)) (sym (left ∙ ap (filter (λ one. not (one.node == node))) same)) (All-filter (λ one. not (one.node == node)) (Contains participants) kept way.among);
 }
 
--- one more field, which refuses the place to each
-pub place_more : (heap : HeapFacts) (domain : CoherencyDomain) (old new : List Reason) (reason : Reason) → new ≡ old ++ reason ∷ [] → All (IsPlaceReason heap domain) old
-    → IsPlaceReason heap domain reason → All (IsPlaceReason heap domain) new
-place_more heap domain old new reason pushed all here =
-    subst (All (IsPlaceReason heap domain)) (sym pushed) (All-push (IsPlaceReason heap domain) old reason all here)
+-- one more who is asked, and passes a test or not
+filter_asked : (test : Participant → Bool) (participants : List NamedParticipant) (i : ℕ) (one : NamedParticipant) (b : Bool) → i < length participants → one ≡ get_or participants i one → test one.asked.now ≡ b
+    → filter test (all_asked (take i participants)) ++ cond b (one.asked.now ∷ []) [] ≡ filter test (all_asked (take (i + 1) participants))
+filter_asked test participants i one b there is passes =
+    ap (λ b. filter test (all_asked (take i participants)) ++ cond b (one.asked.now ∷ []) []) (sym passes)
+    ∙ (sym (filter-append test (all_asked (take i participants)) (one.asked.now ∷ [])) ∙ ap (filter test) (all_more participants i one there is))
+
+-- what those ask, with one more
+asked_push : (those more : List NamedParticipant) (one : NamedParticipant) → more ≡ those ++ one ∷ [] → all_asked more ≡ all_asked those ++ one.asked.now ∷ []
+asked_push those more one pushed = ap all_asked pushed ∙ map-append (λ o. o.asked.now) those (one ∷ [])
+
+-- one who passes the test is kept
+pub one_kept : (test : Participant → Bool) (participants those more : List NamedParticipant) (i : ℕ) (one : NamedParticipant) → i < length participants → one ≡ get_or participants i one → test one.asked.now ≡ true → more ≡ those ++ one ∷ []
+    → all_asked those ≡ filter test (all_asked (take i participants)) → all_asked more ≡ filter test (all_asked (take (i + 1) participants))
+one_kept test participants those more i one there is passes pushed kept =
+    asked_push those more one pushed ∙ (ap (λ asked. asked ++ one.asked.now ∷ []) kept ∙ filter_asked test participants i one true there is passes)
+
+-- one who doesn't isn't
+pub one_left : (test : Participant → Bool) (participants those : List NamedParticipant) (i : ℕ) (one : NamedParticipant) → i < length participants → one ≡ get_or participants i one → test one.asked.now ≡ false
+    → all_asked those ≡ filter test (all_asked (take i participants)) → all_asked those ≡ filter test (all_asked (take (i + 1) participants))
+one_left test participants those i one there is passes kept =
+    kept ∙ (sym (append-nil (filter test (all_asked (take i participants)))) ∙ filter_asked test participants i one false there is passes)
+
+-- one more of whom something is true
+pub one_true : (P : Participant → Type 0) (those more : List NamedParticipant) (one : NamedParticipant) → more ≡ those ++ one ∷ [] → All P (all_asked those) → P one.asked.now → All P (all_asked more)
+one_true P those more one pushed all here =
+    subst (All P) (sym (asked_push those more one pushed)) (All-push P (all_asked those) one.asked.now all here)
+
+-- a list that isn't empty asks something
+pub some_asked : (those : List NamedParticipant) → 0 < length those → 0 < length (all_asked those)
+some_asked those some = subst (λ n. 0 < n) (sym (length-map those (λ o. o.asked.now))) some
+
+-- a reason of these parts
+abbrev refusal : HeapFacts → CoherencyDomain → Field → List Participant → PlaceRefusal
+refusal h d f ps = record { heap = h; domain = d; field = f; participants = ps }
+
+-- the field refuses the place to nobody
+pub refused_none : (heap : HeapFacts) (domain : CoherencyDomain) (field : Field) (those : List NamedParticipant) (asked : List Participant) → all_asked those ≡ asked → length those ≡ 0 → None ≡ refused_to heap domain field asked
+refused_none heap domain field [] asked same none = ap (refused_to heap domain field) same
+refused_none heap domain field (one ∷ others) asked same none = absurd (cc)
+
+-- it refuses it to these
+pub refused_some : (heap : HeapFacts) (domain : CoherencyDomain) (field : Field) (those : List NamedParticipant) (asked : List Participant) → all_asked those ≡ asked → 0 < length those
+    → Some (refusal heap domain field (all_asked those)) ≡ refused_to heap domain field asked
+refused_some heap domain field [] asked same some = absurd (omega arith)
+refused_some heap domain field (one ∷ others) asked same some = ap (refused_to heap domain field) same
+
+-- what the next field gives
+next_field : (h : Field → Option PlaceRefusal) (fields : List Field) (i : ℕ) (d : Field) (o : Option PlaceRefusal) → i < length fields → o ≡ h (get_or fields i d)
+    → filter_map h (take i fields) ++ filter_map (λ (f : Field). o) (d ∷ []) ≡ filter_map h (take (i + 1) fields)
+next_field h fields i d o there same =
+    ap (λ o. filter_map h (take i fields) ++ filter_map (λ (f : Field). o) (d ∷ [])) same
+    ∙ sym (ap (filter_map h) (take_more fields i d there) ∙ filter_map-append h (take i fields) (get_or fields i d ∷ []))
+
+-- one more field with a reason
+pub field_more : (h : Field → Option PlaceRefusal) (fields : List Field) (i : ℕ) (d : Field) (reason : PlaceRefusal) (old new : List PlaceRefusal) → i < length fields → Some reason ≡ h (get_or fields i d) → new ≡ old ++ reason ∷ []
+    → old ≡ filter_map h (take i fields) → new ≡ filter_map h (take (i + 1) fields)
+field_more h fields i d reason old new there same pushed so_far =
+    pushed ∙ (ap (λ l. l ++ reason ∷ []) so_far ∙ next_field h fields i d (Some reason) there same)
+
+-- one more without
+pub field_none : (h : Field → Option PlaceRefusal) (fields : List Field) (i : ℕ) (d : Field) (old : List PlaceRefusal) → i < length fields → None ≡ h (get_or fields i d) → old ≡ filter_map h (take i fields) → old ≡ filter_map h (take (i + 1) fields)
+field_none h fields i d old there same so_far =
+    so_far ∙ (sym (append-nil (filter_map h (take i fields))) ∙ next_field h fields i d None there same)

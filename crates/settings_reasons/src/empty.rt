@@ -11,6 +11,7 @@ use crate::offering::{are_refused, offers_of};
 use crate::placing::{has_no_place, places_of};
 use crate::refusing::{offer_rows, place_rows};
 use crate::rows::{add_rows, nearest};
+use crate::unmet::InTheWay;
 use explanation_text::wording::MOST_NAMES;
 use explanation_text::{Items, TextBuilder};
 use negotiation_inputs::Platform;
@@ -191,35 +192,32 @@ fn add_in_the_way(
     participants: &[NamedParticipant<'_>],
 ) -> Result<(), AllocError> {
     let alloc = items.alloc();
-    let Some(kept) = in_the_way(alloc, platform, participants)? else {
+    let Some(unmet) = InTheWay::among(alloc, platform, participants)? else {
         return Ok(());
     };
+    let kept = unmet.participants();
     let others = participants.len().saturating_sub(kept.len());
-    let text = unmet_text(alloc, "in the way", platform, &kept, others);
+    let text = unmet_text(alloc, "in the way", &unmet, others);
     items.say(depth, "", text);
-    add_others_in_the_way(items, depth, platform, participants, &kept)
+    add_others_in_the_way(items, depth, platform, participants, kept)
 }
 
 /// Who leave no settings by themselves, whatever so many others ask; of one who is given no place
 /// that the platform lacks one.
-fn unmet_text(
-    alloc: Global,
-    start: &str,
-    platform: &Platform,
-    participants: &[NamedParticipant<'_>],
-    others: usize,
-) -> TextBuilder {
+fn unmet_text(alloc: Global, start: &str, unmet: &InTheWay<'_, '_>, others: usize) -> TextBuilder {
+    let participants = unmet.participants();
     let mut text = TextBuilder::of(alloc, start);
     text.put(": ");
-    put_unmet(&mut text, participants, others);
-    if participants.len() == 1 && has_no_place(platform, participants) {
+    put_unmet(&mut text, unmet, others);
+    if participants.len() == 1 && has_no_place(unmet.platform(), participants) {
         text.put(": the platform has no place for it");
     }
     text
 }
 
 /// Puts who leave no settings by themselves, whatever so many others ask, after a text.
-fn put_unmet(text: &mut TextBuilder, participants: &[NamedParticipant<'_>], others: usize) {
+fn put_unmet(text: &mut TextBuilder, unmet: &InTheWay<'_, '_>, others: usize) {
+    let participants = unmet.participants();
     put_participants(text, participants);
     match (participants.len(), others) {
         (1, _) => {
@@ -238,10 +236,10 @@ fn put_unmet(text: &mut TextBuilder, participants: &[NamedParticipant<'_>], othe
 }
 
 /// Tells others who leave no settings by themselves: without one of those who are told, and so on.
-fn add_others_in_the_way<'a>(
+fn add_others_in_the_way<'a, 'b>(
     items: &mut Items,
     depth: usize,
-    platform: &Platform,
+    platform: &'b Platform,
     participants: &[NamedParticipant<'a>],
     told: &[NamedParticipant<'a>],
 ) -> Result<(), AllocError> {
@@ -250,24 +248,25 @@ fn add_others_in_the_way<'a>(
         let Some(others) = &last else {
             break;
         };
-        last = add_next(items, depth, platform, &others.rest, &others.kept)?;
+        let (rest, kept) = (&others.rest, others.unmet.participants());
+        last = add_next(items, depth, platform, rest, kept)?;
     }
     Ok(())
 }
 
 /// Tells who leave no settings by themselves without one of some; `None` where nobody does, or too
 /// many to be told.
-fn add_next<'a>(
+fn add_next<'a, 'b>(
     items: &mut Items,
     depth: usize,
-    platform: &Platform,
+    platform: &'b Platform,
     participants: &[NamedParticipant<'a>],
     some: &[NamedParticipant<'a>],
-) -> Result<Option<Others<'a>>, AllocError> {
+) -> Result<Option<Others<'a, 'b>>, AllocError> {
     let alloc = items.alloc();
     match without_one(alloc, platform, participants, some)? {
-        Some(others) if others.kept.len() <= MOST_NAMES => {
-            let text = unmet_text(alloc, "also in the way", platform, &others.kept, 0);
+        Some(others) if others.unmet.participants().len() <= MOST_NAMES => {
+            let text = unmet_text(alloc, "also in the way", &others.unmet, 0);
             items.say(depth, "", text);
             Ok(Some(others))
         }
@@ -277,23 +276,23 @@ fn add_next<'a>(
 
 /// Participants, and some of them who leave no settings by themselves.
 #[derive(Drop)]
-struct Others<'a> {
+struct Others<'a, 'b> {
     rest: Vec<NamedParticipant<'a>>,
-    kept: Vec<NamedParticipant<'a>>,
+    unmet: InTheWay<'a, 'b>,
 }
 
 /// Participants without one of some, and who of them leave no settings; `None` where without each
 /// there are some.
-fn without_one<'a>(
+fn without_one<'a, 'b>(
     alloc: Global,
-    platform: &Platform,
+    platform: &'b Platform,
     participants: &[NamedParticipant<'a>],
     some: &[NamedParticipant<'a>],
-) -> Result<Option<Others<'a>>, AllocError> {
+) -> Result<Option<Others<'a, 'b>>, AllocError> {
     for one in some {
         let rest = all_but(alloc, participants, one.node)?;
-        if let Some(kept) = in_the_way(alloc, platform, &rest)? {
-            return Ok(Some(Others { rest, kept }));
+        if let Some(unmet) = InTheWay::among(alloc, platform, &rest)? {
+            return Ok(Some(Others { rest, unmet }));
         }
     }
     Ok(None)

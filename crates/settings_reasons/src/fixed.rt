@@ -4,8 +4,11 @@ ghost use Rattle.std.specs.Prelude.{All, IfOk};
 ghost use Rattle.sysmem_merge.specs.Failing.{FailsOn};
 
 use crate::amounts::{amount_at, put_amount};
+use crate::misfit::Misfit;
+use crate::offer_reason::OfferReason;
 use crate::offer_words::{offer_name, put_offer_reason};
 use crate::offering::{are_refused, offers_of};
+use crate::place_reason::PlaceReason;
 use crate::placing::{put_place, put_place_reason};
 use crate::refusing::add_offers;
 use explanation_text::{Items, ListBuilder, TextBuilder};
@@ -65,9 +68,11 @@ fn add_misfit(
     before: &[NamedParticipant<'_>],
     settings: &Settings,
 ) -> Result<(), AllocError> {
-    let fields = failing(items.alloc(), platform, settings, participant.asked)?;
-    for field in &fields {
-        let text = misfit_text(items.alloc(), platform, settings, participant, *field);
+    for field in FIELDS.iter().chain(PLACE_FIELDS.iter()) {
+        let Some(misfit) = Misfit::of(platform, settings, participant, *field) else {
+            continue;
+        };
+        let text = misfit_text(items.alloc(), &misfit);
         items.say(1, "misfit", text);
         if matches!(field, Field::PixelFormat | Field::ColorSpaces) {
             add_refused_images(items, platform, participant, before)?;
@@ -77,15 +82,9 @@ fn add_misfit(
 }
 
 /// A sentence on a field in which settings fail a participant.
-fn misfit_text(
-    alloc: Global,
-    platform: &Platform,
-    settings: &Settings,
-    participant: &NamedParticipant<'_>,
-    field: Field,
-) -> TextBuilder {
+fn misfit_text(alloc: Global, misfit: &Misfit<'_, '_>) -> TextBuilder {
     let mut text = TextBuilder::new(alloc);
-    put_misfit(&mut text, platform, settings, participant, field);
+    put_misfit(&mut text, misfit);
     text
 }
 
@@ -166,58 +165,50 @@ pub fn failing(
 }
 
 /// Puts a sentence on a field in which settings fail a participant into an empty text.
-fn put_misfit(
-    text: &mut TextBuilder,
-    platform: &Platform,
-    settings: &Settings,
-    participant: &NamedParticipant<'_>,
-    field: Field,
-) {
-    match field {
-        Field::PixelFormat | Field::ColorSpaces => put_offer(text, settings, participant, field),
-        Field::MinSizeBytes => put_size(text, settings, participant, field),
-        Field::MaxSizeBytes => put_size(text, settings, participant, field),
-        _ if PLACE_FIELDS.contains(&field) => put_heap(
-            text,
-            platform,
-            settings,
-            participant,
-            field,
-        ),
-        _ => put_bound(text, settings, participant, field),
+fn put_misfit(text: &mut TextBuilder, misfit: &Misfit<'_, '_>) {
+    match misfit.field() {
+        Field::PixelFormat | Field::ColorSpaces => put_offer(text, misfit),
+        Field::MinSizeBytes | Field::MaxSizeBytes => put_size(text, misfit),
+        field if PLACE_FIELDS.contains(&field) => put_heap(text, misfit),
+        _ => put_bound(text, misfit),
     }
 }
 
-fn put_offer(
-    text: &mut TextBuilder,
-    settings: &Settings,
-    participant: &NamedParticipant<'_>,
-    field: Field,
-) {
-    put_offer_reason(text, &settings.offer, field, &[*participant]);
-    let holds = offer_name(text.alloc(), &settings.offer);
+fn put_offer(text: &mut TextBuilder, misfit: &Misfit<'_, '_>) {
+    let alloc = text.alloc();
+    let (settings, one) = (misfit.settings(), [misfit.participant()]);
+    let offer = &settings.offer;
+    let reason = match misfit.field() {
+        Field::PixelFormat => OfferReason::without_entry(alloc, offer, &one, false),
+        _ => OfferReason::without_colour(alloc, offer, &one, false),
+    };
+    match reason {
+        Ok(Some(reason)) => put_offer_reason(text, &reason),
+        Ok(None) => {}
+        Err(AllocError) => text.refuse(),
+    }
+    let holds = offer_name(text.alloc(), offer);
     text.put("; the buffers are ").put_words(&holds);
 }
 
-fn put_heap(
-    text: &mut TextBuilder,
-    platform: &Platform,
-    settings: &Settings,
-    participant: &NamedParticipant<'_>,
-    field: Field,
-) {
-    put_place_reason(text, field, &[*participant]);
+fn put_heap(text: &mut TextBuilder, misfit: &Misfit<'_, '_>) {
+    let (platform, place) = (misfit.platform(), misfit.settings().place);
+    if let Some(heap) = platform.heaps().get(place.heap) {
+        let (field, one) = (misfit.field(), [misfit.participant()]);
+        match PlaceReason::of(text.alloc(), heap, place.coherency, field, &one) {
+            Ok(Some(reason)) => put_place_reason(text, &reason),
+            Ok(None) => {}
+            Err(AllocError) => text.refuse(),
+        }
+    }
     text.put(": the buffers lie in ");
-    put_place(text, platform, settings.place)
+    put_place(text, platform, place)
 }
 
-fn put_size(
-    text: &mut TextBuilder,
-    settings: &Settings,
-    participant: &NamedParticipant<'_>,
-    field: Field,
-) {
+fn put_size(text: &mut TextBuilder, misfit: &Misfit<'_, '_>) {
+    let participant = misfit.participant();
     let memory = participant.asked.memory();
+    let field = misfit.field();
     let mine = match field {
         Field::MinSizeBytes => memory.min_size_bytes,
         _ => memory.max_size_bytes,
@@ -228,16 +219,13 @@ fn put_size(
         .put(" ")
         .put_number(mine);
     text.put(": the buffers have ")
-        .put_number(settings.size_bytes)
+        .put_number(misfit.settings().size_bytes)
         .put(" bytes");
 }
 
-fn put_bound(
-    text: &mut TextBuilder,
-    settings: &Settings,
-    participant: &NamedParticipant<'_>,
-    field: Field,
-) {
+fn put_bound(text: &mut TextBuilder, misfit: &Misfit<'_, '_>) {
+    let (participant, settings) = (misfit.participant(), misfit.settings());
+    let field = misfit.field();
     text.name(participant.called())
         .put(" says ")
         .field(field)

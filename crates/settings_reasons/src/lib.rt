@@ -17,11 +17,15 @@ mod fixed;
 mod lacking;
 mod later;
 mod listed;
+mod misfit;
+mod offer_reason;
 mod offer_words;
 mod offering;
+mod place_reason;
 mod placing;
 mod refusing;
 mod rows;
+mod unmet;
 mod unused;
 
 pub use chosen::add_settings;

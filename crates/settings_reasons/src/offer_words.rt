@@ -3,6 +3,7 @@
 use crate::amounts::{amount_at, put_amount};
 use crate::later::{put_later, put_later_size};
 use crate::listed::has_format;
+use crate::offer_reason::{OfferGround, OfferReason};
 use crate::rows::{mark_after, put_those};
 use explanation_text::wording::{put_few, put_joined};
 use explanation_text::{ListBuilder, Text, TextBuilder};
@@ -43,21 +44,29 @@ pub(crate) fn pair_name(
     words
 }
 
-/// Puts the sentence of a reason against an offer, with the numbers of all participants, into an
+/// Puts the sentence of a reason against an offer, with the numbers of those whom it names, into an
 /// empty text.
-pub(crate) fn put_offer_reason(
-    text: &mut TextBuilder,
-    offer: &Offer,
-    field: Field,
-    participants: &[NamedParticipant<'_>],
-) {
-    let wishes = Wishes {
-        participants,
-        offer: *offer,
-    };
+pub(crate) fn put_offer_reason(text: &mut TextBuilder, reason: &OfferReason<'_>) {
+    let offer = reason.offer();
+    let participants = reason.participants();
+    match reason.ground() {
+        OfferGround::NoEntry => put_no_entry(text, &offer, participants),
+        OfferGround::NoColour => put_colours(text, &offer, participants),
+        OfferGround::Line(field) => put_line(
+            text,
+            Wishes {
+                participants,
+                offer,
+            },
+            field,
+        ),
+    }
+}
+
+/// Puts the sentence of a line against an offer into an empty text.
+fn put_line(text: &mut TextBuilder, wishes: Wishes<'_, '_>, field: Field) {
+    let participants = wishes.participants;
     match field {
-        Field::PixelFormat => put_no_entry(text, offer, participants),
-        Field::ColorSpaces => put_colours(text, offer, participants),
         Field::UnnamedPixelFormat => put_unnamed(text, participants, "format"),
         Field::UnnamedPixelFormatModifier => put_unnamed(text, participants, "modifier"),
         Field::UnnamedColorSpace => put_unnamed(text, participants, "colour space"),

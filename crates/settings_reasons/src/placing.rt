@@ -1,20 +1,18 @@
 //! Which places of a platform participants refuse, and by which field.
 
-ghost use Rattle.std.specs.Prelude.{All, IfOk, OnOk, IsTrue};
-ghost use Rattle.settings_reasons.specs.True.{IsPlaceReason, Refuses};
+ghost use Rattle.std.specs.Prelude.{IsTrue};
 ghost use Rattle.sysmem_memory.specs.Place.{HasNoPlace};
 ghost use Rattle.offer_fits.specs.Demands.{place_demands};
 ghost use Rattle.value_sources.specs.Sources.{all_asked};
 
-use crate::rows::{Reason, put_those};
+use crate::place_reason::PlaceReason;
+use crate::rows::put_those;
 use explanation_text::wording::put_visible;
 use explanation_text::{ListBuilder, TextBuilder};
 use negotiation_inputs::Platform;
 use std::alloc::{AllocError, Global};
 use sysmem_counts::Field;
-use sysmem_memory::{
-    CoherencyDomain, Heap, HeapInfo, MemoryBounds, PLACE_FIELDS, Place, refuses_in,
-};
+use sysmem_memory::{CoherencyDomain, Heap, HeapInfo, MemoryBounds, Place};
 use value_sources::{NamedParticipant, put_has};
 
 /// The places of a platform, in its order.
@@ -36,85 +34,6 @@ fn add_places(places: &mut ListBuilder<Place>, heap: usize, info: &HeapInfo) {
             });
         }
     }
-}
-
-/// Those who refuse a place by a field.
-fn refusing<'a>(
-    alloc: Global,
-    heap: &HeapInfo,
-    place: Place,
-    field: Field,
-    participants: &[NamedParticipant<'a>],
-) -> Result<Vec<NamedParticipant<'a>>, AllocError>
-    ensures { IfOk result (λ those. All (Refuses field heap.now place.coherency) those.items) }
-{
-    let mut those = Vec::new(alloc);
-    for participant in participants {
-        let memory = participant.asked.memory();
-        if refuses_in(
-            field,
-            memory,
-            participant.asked.usage(),
-            heap,
-            place.coherency,
-        ) {
-            those.push(*participant)?;
-        }
-    }
-    Ok(those)
-}
-
-/// Each field by which a place is refused, with all who refuse it so.
-pub(crate) fn place_reasons<'a>(
-    alloc: Global,
-    platform: &Platform,
-    place: Place,
-    participants: &[NamedParticipant<'a>],
-) -> Result<Vec<Reason<'a>>, AllocError> {
-    match platform.heaps().get(place.heap) {
-        Some(heap) => reasons_in(alloc, heap, place, participants),
-        None => Ok(Vec::new(alloc)),
-    }
-}
-
-/// The same of a place in this heap.
-fn reasons_in<'a>(
-    alloc: Global,
-    heap: &HeapInfo,
-    place: Place,
-    participants: &[NamedParticipant<'a>],
-) -> Result<Vec<Reason<'a>>, AllocError>
-    ensures { IfOk result
-        (λ reasons. All (IsPlaceReason heap.now place.coherency) reasons.items) }
-{
-    let mut reasons = Vec::new(alloc);
-    for field in &PLACE_FIELDS {
-        let those = refusing(alloc, heap, place, *field, participants)?;
-        add_reason(&mut reasons, heap, place, *field, those)?;
-    }
-    Ok(reasons)
-}
-
-/// Adds a field by which these refuse a place in a heap, if they are some.
-fn add_reason<'a>(
-    reasons: &mut Vec<Reason<'a>>,
-    heap: &HeapInfo,
-    place: Place,
-    field: Field,
-    participants: Vec<NamedParticipant<'a>>,
-) -> Result<(), AllocError>
-    requires { All (Refuses field heap.now place.coherency) participants.items }
-    ensures { OnOk result (All (IsPlaceReason heap.now place.coherency) reasons.old.items
-        → All (IsPlaceReason heap.now place.coherency) reasons.new.items) }
-{
-    if participants.is_empty() {
-        return Ok(());
-    }
-    reasons.push(Reason {
-        field,
-        participants,
-    })?;
-    Ok(())
 }
 
 /// Whether each place of the platform is refused by somebody.
@@ -139,24 +58,26 @@ pub(crate) fn place_name(alloc: Global, platform: &Platform, place: Place) -> Te
 
 /// Puts the name of a place after a text.
 pub(crate) fn put_place(text: &mut TextBuilder, platform: &Platform, place: Place) {
-    let coherency = place.coherency.name();
     let Some(info) = platform.heaps().get(place.heap) else {
-        text.put(coherency);
+        text.put(place.coherency.name());
         return;
     };
-    put_visible(text, &info.heap.heap_type);
-    text.put("#")
-        .put_number(info.heap.id)
-        .put(" ")
-        .put(coherency);
+    put_heap_place(text, info, place.coherency)
 }
 
-/// Puts why participants refuse a place by a field into an empty text.
-pub(crate) fn put_place_reason(
-    text: &mut TextBuilder,
-    field: Field,
-    participants: &[NamedParticipant<'_>],
-) {
+/// Puts the name of a coherency domain of a heap after a text.
+pub(crate) fn put_heap_place(text: &mut TextBuilder, heap: &HeapInfo, coherency: CoherencyDomain) {
+    put_visible(text, &heap.heap.heap_type);
+    text.put("#")
+        .put_number(heap.heap.id)
+        .put(" ")
+        .put(coherency.name());
+}
+
+/// Puts the sentence of a reason against a place into an empty text.
+pub(crate) fn put_place_reason(text: &mut TextBuilder, reason: &PlaceReason<'_, '_>) {
+    let field = reason.field();
+    let participants = reason.participants();
     match field {
         Field::PermittedHeaps => put_permits(text, participants),
         Field::PhysicallyContiguousRequired => put_needs(text, participants, "contiguous", field),

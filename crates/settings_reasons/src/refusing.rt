@@ -1,15 +1,17 @@
 //! Rows of the places and offers that participants refuse.
 
+use crate::offer_reason::{OfferReason, offer_reasons};
 use crate::offer_words::{offer_name, pair_name, put_offer_reason};
-use crate::offering::{distance_of, offer_reasons};
-use crate::placing::{place_name, place_reasons, put_place_reason};
-use crate::rows::{FailureRow, Reason, add, add_rows};
+use crate::offering::distance_of;
+use crate::place_reason::{PlaceReason, place_reasons};
+use crate::placing::{put_heap_place, put_place_reason};
+use crate::rows::{FailureRow, add, add_rows};
 use explanation_text::{Items, ListBuilder, Text, TextBuilder};
 use negotiation_inputs::Platform;
 use std::alloc::{AllocError, Global};
 use std::mem;
 use sysmem_formats::Offer;
-use sysmem_memory::Place;
+use sysmem_memory::{CoherencyDomain, HeapInfo, Place};
 use value_sources::NamedParticipant;
 
 /// Rows of places that participants refuse. Where all reasons of all are asked for, the nearest
@@ -23,7 +25,9 @@ pub(crate) fn place_rows(
 ) -> Result<Vec<FailureRow>, AllocError> {
     let mut rows = Vec::new(alloc);
     for place in places {
-        add_place(&mut rows, platform, *place, participants, all)?;
+        if let Some(heap) = platform.heaps().get(place.heap) {
+            add_place(&mut rows, heap, place.coherency, participants, all)?;
+        }
     }
     Ok(rows)
 }
@@ -31,52 +35,49 @@ pub(crate) fn place_rows(
 /// Adds a place with the reasons against it.
 fn add_place(
     rows: &mut Vec<FailureRow>,
-    platform: &Platform,
-    place: Place,
+    heap: &HeapInfo,
+    coherency: CoherencyDomain,
     participants: &[NamedParticipant<'_>],
     all: bool,
 ) -> Result<(), AllocError> {
     let alloc = *rows.allocator();
-    let reasons = place_reasons(alloc, platform, place, participants)?;
+    let reasons = place_reasons(alloc, heap, coherency, participants)?;
     let far = if all { refusals(&reasons) } else { 0 };
-    let texts = texts_of(alloc, None, &reasons, all)?;
-    let name = place_name(alloc, platform, place).into_text()?;
-    add(rows, name, texts, far, 1)
+    let most = if all { reasons.len() } else { 1 };
+    let mut texts: ListBuilder<Text> = ListBuilder::new(alloc);
+    for reason in reasons.iter().take(most) {
+        let mut text = TextBuilder::new(alloc);
+        put_place_reason(&mut text, reason);
+        texts.add_text(text);
+    }
+    let mut name = TextBuilder::new(alloc);
+    put_heap_place(&mut name, heap, coherency);
+    add(rows, name.into_text()?, texts.done()?, far, 1)
 }
 
-/// The reasons against an offer, or against a place where there is none, in words; or the first of
-/// them.
+/// How many refusals these are: who refuses by two fields counts twice.
+fn refusals(reasons: &[PlaceReason<'_, '_>]) -> usize {
+    let mut count = 0usize;
+    for reason in reasons {
+        count = count.saturating_add(reason.participants().len());
+    }
+    count
+}
+
+/// The reasons against an offer in words, or the first of them.
 fn texts_of(
     alloc: Global,
-    offer: Option<&Offer>,
-    reasons: &[Reason<'_>],
+    reasons: &[OfferReason<'_>],
     all: bool,
 ) -> Result<Vec<Text>, AllocError> {
     let most = if all { reasons.len() } else { 1 };
     let mut texts: ListBuilder<Text> = ListBuilder::new(alloc);
     for reason in reasons.iter().take(most) {
-        texts.add_text(text_of(alloc, offer, reason));
+        let mut text = TextBuilder::new(alloc);
+        put_offer_reason(&mut text, reason);
+        texts.add_text(text);
     }
     texts.done()
-}
-
-/// A reason in words.
-fn text_of(alloc: Global, offer: Option<&Offer>, reason: &Reason<'_>) -> TextBuilder {
-    let mut text = TextBuilder::new(alloc);
-    match offer {
-        Some(offer) => put_offer_reason(&mut text, offer, reason.field, &reason.participants),
-        None => put_place_reason(&mut text, reason.field, &reason.participants),
-    }
-    text
-}
-
-/// How many refusals these are: who refuses by two fields counts twice.
-fn refusals(reasons: &[Reason<'_>]) -> usize {
-    let mut count = 0usize;
-    for reason in reasons {
-        count = count.saturating_add(reason.participants.len());
-    }
-    count
 }
 
 /// Rows of offers that participants refuse, in the same way. A pair that is refused in each of so
@@ -140,7 +141,7 @@ fn refused_by(
     };
     Ok(RefusedOffer {
         offer: *offer,
-        texts: texts_of(alloc, Some(offer), &reasons, all)?,
+        texts: texts_of(alloc, &reasons, all)?,
         distance,
     })
 }

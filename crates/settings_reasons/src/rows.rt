@@ -3,7 +3,6 @@
 use explanation_text::wording::put_few;
 use explanation_text::{Items, Text, TextBuilder};
 use std::alloc::{AllocError, Global};
-use sysmem_counts::Field;
 use value_sources::{NamedParticipant, put_has};
 
 /// How many rows of one kind are told; one more is shown rather than counted.
@@ -11,13 +10,6 @@ const MOST_ROWS: usize = 6;
 
 /// How many names of a row are told; one more is shown rather than counted.
 const MOST_ROW_NAMES: usize = 3;
-
-/// A field by which participants refuse something.
-#[derive(Drop)]
-pub(crate) struct Reason<'a> {
-    pub(crate) field: Field,
-    pub(crate) participants: Vec<NamedParticipant<'a>>,
-}
 
 /// What fails for the same reasons.
 pub(crate) struct FailureRow {

@@ -1,0 +1,260 @@
+//! Reasons against an offer.
+
+ghost use Rattle.std.specs.Prelude.{◌≡◌, All, IfOk, IfSome, IsTrue, List};
+ghost use Rattle.settings_reasons.specs.True.{IsAgainst, LacksColour, LacksEntry};
+ghost use Rattle.sysmem_formats.specs.declared.offer.Offer.{Offer as Offered};
+ghost use Rattle.offer_fits.specs.Demands.{OfferDemand, offer_demands};
+ghost use Rattle.sysmem_merge.specs.OfferRead.{IsOfferRead, IsRefusingLine};
+ghost use Rattle.value_sources.specs.Sources.{all_asked};
+
+use crate::offering::read_of;
+use std::alloc::{AllocError, Global};
+use std::marker::Model;
+use sysmem_counts::Field;
+use sysmem_formats::Offer;
+use sysmem_image::{bounds_lines, bounds_table, entry_for, takes_colour};
+use sysmem_merge::OfferRead;
+use value_sources::NamedParticipant;
+
+macro_rules! image_lines {
+    ($($line:ident)*) => {
+        &[$(Field::$line,)* Field::MaxSizeBytes]
+    };
+}
+
+/// The lines on the bounds of images, in the order of the conflict table.
+const LINES: &[Field] = bounds_table!(bounds_lines!(image_lines));
+
+const UNNAMED: &[Field] = &[
+    Field::UnnamedPixelFormat,
+    Field::UnnamedPixelFormatModifier,
+    Field::UnnamedColorSpace,
+];
+
+/// What is said against an offer.
+#[derive(Clone, Copy)]
+pub(crate) enum OfferGround {
+    /// Each has entries, and none for the offer.
+    NoEntry,
+    /// The entry of each for the offer doesn't take its colour space.
+    NoColour,
+    /// This line of the conflict table is true of all together.
+    Line(Field),
+}
+
+/// What is said against an offer, with participants of whom it is true. They are all that there
+/// are if `whole` says so.
+#[derive(Drop)]
+pub(crate) struct OfferReason<'a> {
+    offer: Offer,
+    whole: bool,
+    ground: OfferGround,
+    participants: Vec<NamedParticipant<'a>>,
+}
+
+impl<'a> Model for OfferReason<'a> {
+    ghost use Rattle.settings_reasons.specs.True.{IsOfferReason, OfferRefusal};
+    ghost use Rattle.value_sources.specs.Sources.{all_asked};
+
+    ghost Value = { OfferRefusal };
+
+    ghost view = { λ r. record {
+      offer = r.offer;
+      whole = r.whole;
+      ground = r.ground;
+      participants = all_asked r.participants.items;
+    } };
+
+    ghost invariant = { λ r. IsOfferReason (record {
+      offer = r.offer;
+      whole = r.whole;
+      ground = r.ground;
+      participants = all_asked r.participants.items;
+    }) };
+}
+
+impl<'a> OfferReason<'a> {
+    /// All who have entries and none for an offer; `None` where each has one.
+    pub(crate) fn without_entry(
+        alloc: Global,
+        offer: &Offer,
+        participants: &[NamedParticipant<'a>],
+        whole: bool,
+    ) -> Result<Option<OfferReason<'a>>, AllocError>
+        ensures { IfOk result (λ found. IfSome found (IsAgainst offer.now whole)) }
+    {
+        let participants = without_entry(alloc, offer, participants)?;
+        if participants.is_empty() {
+            return Ok(None);
+        }
+        Ok(Some(OfferReason {
+            offer: *offer,
+            whole,
+            ground: OfferGround::NoEntry,
+            participants,
+        }))
+    }
+
+    /// All whose entry for an offer doesn't take its colour space; `None` where nobody's is so.
+    pub(crate) fn without_colour(
+        alloc: Global,
+        offer: &Offer,
+        participants: &[NamedParticipant<'a>],
+        whole: bool,
+    ) -> Result<Option<OfferReason<'a>>, AllocError>
+        ensures { IfOk result (λ found. IfSome found (IsAgainst offer.now whole)) }
+    {
+        let participants = without_colour(alloc, offer, participants)?;
+        if participants.is_empty() {
+            return Ok(None);
+        }
+        Ok(Some(OfferReason {
+            offer: *offer,
+            whole,
+            ground: OfferGround::NoColour,
+            participants,
+        }))
+    }
+
+    /// A line with all participants, of whom this was read; `None` where it isn't true of them. One
+    /// on names counts where they are all that there are.
+    fn of_line(
+        alloc: Global,
+        offer: &Offer,
+        read: &OfferRead,
+        participants: &[NamedParticipant<'a>],
+        whole: bool,
+        field: Field,
+    ) -> Result<Option<OfferReason<'a>>, AllocError>
+        requires { IsOfferRead offer.now (offer_demands (all_asked participants.now)) read.now }
+        ensures { IfOk result (λ found. IfSome found (IsAgainst offer.now whole)) }
+    {
+        if !is_true(read, whole, field) {
+            return Ok(None);
+        }
+        Ok(Some(OfferReason {
+            offer: *offer,
+            whole,
+            ground: OfferGround::Line(field),
+            participants: Vec::from_slice(alloc, participants)?,
+        }))
+    }
+
+    /// The offer.
+    pub(crate) fn offer(&self) -> Offer
+        ensures { result ≡ self.now.offer }
+    {
+        self.offer
+    }
+
+    /// What is said against it.
+    pub(crate) fn ground(&self) -> OfferGround
+        ensures { result ≡ self.now.ground }
+    {
+        self.ground
+    }
+
+    /// Of whom it is true.
+    pub(crate) fn participants(&self) -> &[NamedParticipant<'a>]
+        ensures { all_asked result.now ≡ self.now.participants }
+    {
+        &self.participants
+    }
+}
+
+/// Those who have entries and none for an offer.
+fn without_entry<'a>(
+    alloc: Global,
+    offer: &Offer,
+    participants: &[NamedParticipant<'a>],
+) -> Result<Vec<NamedParticipant<'a>>, AllocError>
+    ensures { IfOk result (λ those. All (LacksEntry offer.now) (all_asked those.items)) }
+{
+    let mut those = Vec::new(alloc);
+    for participant in participants {
+        let entries = participant.asked.entries();
+        if !entries.is_empty() && entry_for(entries, offer).is_none() {
+            those.push(*participant)?;
+        }
+    }
+    Ok(those)
+}
+
+/// Those whose entry for an offer lacks its colour space.
+fn without_colour<'a>(
+    alloc: Global,
+    offer: &Offer,
+    participants: &[NamedParticipant<'a>],
+) -> Result<Vec<NamedParticipant<'a>>, AllocError>
+    ensures { IfOk result (λ those. All (LacksColour offer.now) (all_asked those.items)) }
+{
+    let mut those = Vec::new(alloc);
+    for participant in participants {
+        if let Some(entry) = entry_for(participant.asked.entries(), offer) {
+            if !takes_colour(entry, offer) {
+                those.push(*participant)?;
+            }
+        }
+    }
+    Ok(those)
+}
+
+/// Whether a line is true of what participants say; one on names where they are all that there are.
+fn is_true(read: &OfferRead, whole: bool, field: Field) -> bool
+    ensures { (offer : Offered) (ds : List OfferDemand) → IsOfferRead offer ds read.now
+        → IsTrue result → IsRefusingLine whole offer ds field }
+{
+    if read.is_line(field) {
+        return true;
+    }
+    if !whole {
+        return false;
+    }
+    read.is_unnamed(field)
+}
+
+/// What is true against an offer: all who have no entry for it; or else all who lack its colour
+/// space; or else each line of the bounds, of all; or else what nobody names, where they are all
+/// that there are.
+pub(crate) fn offer_reasons<'a>(
+    alloc: Global,
+    offer: &Offer,
+    participants: &[NamedParticipant<'a>],
+    whole: bool,
+) -> Result<Vec<OfferReason<'a>>, AllocError>
+    ensures { IfOk result (λ reasons. All (IsAgainst offer.now whole) reasons.items) }
+{
+    if let Some(reason) = OfferReason::without_entry(alloc, offer, participants, whole)? {
+        return Ok(vec![in alloc; reason]?);
+    }
+    if let Some(reason) = OfferReason::without_colour(alloc, offer, participants, whole)? {
+        return Ok(vec![in alloc; reason]?);
+    }
+    let lines = line_reasons(alloc, offer, participants, whole, LINES)?;
+    if !lines.is_empty() {
+        return Ok(lines);
+    }
+    line_reasons(alloc, offer, participants, whole, UNNAMED)
+}
+
+/// Each of some lines that is true of participants, with all of them; one on names where they are
+/// all that there are.
+fn line_reasons<'a>(
+    alloc: Global,
+    offer: &Offer,
+    participants: &[NamedParticipant<'a>],
+    whole: bool,
+    fields: &[Field],
+) -> Result<Vec<OfferReason<'a>>, AllocError>
+    ensures { IfOk result (λ reasons. All (IsAgainst offer.now whole) reasons.items) }
+{
+    let read = read_of(offer, participants);
+    let mut reasons = Vec::new(alloc);
+    for field in fields {
+        let found = OfferReason::of_line(alloc, offer, &read, participants, whole, *field)?;
+        if let Some(reason) = found {
+            reasons.push(reason)?;
+        }
+    }
+    Ok(reasons)
+}
