@@ -1,5 +1,5 @@
 -- What a participant asks after changes of its constraints.
-use Rattle.std.specs.Prelude.{ℕ, ◌+◌, ◌-◌, ◌++◌, List, [], ◌∷◌, map, set, take, drop, slice_get}
+use Rattle.std.specs.Prelude.{ℕ, ◌+◌, ◌-◌, ◌++◌, List, [], ◌∷◌, length, map, set, take, drop, slice_get}
 use Rattle.std.specs.Prelude.{fold, Bool, true, ◌==◌, Option, Some, None, option_map}
 use Rattle.std.specs.Prelude.{option_and_then, if◌then◌else◌}
 use Rattle.sysmem_counts.specs.declared.field.Field.TheVariants as field
@@ -56,6 +56,12 @@ with_entries p entries = option_map (λ es. record p { entries = es }) entries
 abbrev pub with_heaps : Participant → List HeapName → Option Participant
 with_heaps p heaps = Some (record p { memory = record p.memory { permitted_heaps = heaps } })
 
+-- what it asks where one heap more is permitted; None where it names none, as then each is
+abbrev pub permitting : HeapName → Participant → Option Participant
+permitting heap p =
+    if length p.memory.permitted_heaps == 0 then None
+    else with_heaps p (p.memory.permitted_heaps ++ heap ∷ [])
+
 -- two fields' values are exchanged: those of the counts, those of the memory, or in each entry
 -- those of bounds of which the first is above the second
 abbrev pub exchanged : Field → Field → Participant → Option Participant
@@ -83,8 +89,7 @@ after heaps c (edit.TakesPair pair) p =
     option_map (λ like. record p { entries = naming pair like ∷ p.entries })
     (slice_get p.entries c.start)
 after heaps c (edit.PermitsHeap index) p =
-    option_and_then (λ info. with_heaps p (p.memory.permitted_heaps ++ info.heap ∷ []))
-    (slice_get heaps index)
+    option_and_then (λ info. permitting info.heap p) (slice_get heaps index)
 after heaps c edit.NoCpu p =
     if uses_cpu p.usage then Some (record p { usage = without_cpu p.usage }) else None
 after heaps c (edit.LeastCount n) p =

@@ -1,9 +1,9 @@
 //! What a participant asks after changes, made of parts one after the other.
 
-ghost use Rattle.std.specs.Prelude.{◌≡◌, ◌++◌, [], ◌∷◌, map, set, slice_get, Some, None, option_and_then, option_map, if◌then◌else◌, IfOk, OnOk, IfSome, IsTrue};
+ghost use Rattle.std.specs.Prelude.{◌≡◌, [], ◌∷◌, map, set, slice_get, Some, None, option_and_then, option_map, if◌then◌else◌, IfOk, OnOk, IfSome, IsTrue};
 ghost use Rattle.sysmem_counts.specs.Usage.{uses_cpu};
 ghost use Rattle.constraint_edits.specs.Drafts.{drafted};
-ghost use Rattle.constraint_edits.specs.Edited.{edited, exchanged, naming, put_first, taking, with_counts, with_entries, with_heaps, with_memory, without_cpu};
+ghost use Rattle.constraint_edits.specs.Edited.{edited, exchanged, naming, permitting, put_first, taking, with_counts, with_entries, with_heaps, with_memory, without_cpu};
 ghost use Rattle.constraint_edits.specs.EditedNumbers.{counts_edited, memory_edited, supporting};
 ghost use Rattle.constraint_edits.specs.EditedBounds.{bound_edited, bounds_exchanged};
 
@@ -111,15 +111,17 @@ impl Draft {
         Ok(true)
     }
 
-    /// Lists the heap of an index too.
+    /// Permits the heap of an index too, where some are named.
     fn permit(&mut self, heaps: &[HeapInfo], index: usize) -> Result<bool, AllocError>
-        ensures { IfOk result (λ made. IsTrue made → option_and_then (λ info. with_heaps
-            (drafted self.old) (self.old.memory.permitted_heaps ++ info.heap ∷ []))
-            (slice_get heaps.now index) ≡ Some (drafted self.new)) }
+        ensures { IfOk result (λ made. IsTrue made → option_and_then (λ info. permitting info.heap
+            (drafted self.old)) (slice_get heaps.now index) ≡ Some (drafted self.new)) }
     {
         let Some(info) = heaps.get(index) else {
             return Ok(false);
         };
+        if self.memory.permitted_heaps.as_slice().is_empty() {
+            return Ok(false);
+        }
         let heap = copied_heap(&info.heap)?;
         self.memory.permitted_heaps.push(heap)?;
         Ok(true)

@@ -24,7 +24,10 @@ use input::{STDIN, is_one_file, open_input};
 use refusal::refusal_ending;
 pub use report_json::{run_as_json, run_as_json_with_proof};
 pub use script_check::check_file;
-pub use script_run::{Ending, RunFault, RunOutcome, ending_of, run, run_leaving, run_with_proof};
+pub use script_run::{
+    Ending, RunFault, RunOutcome, ending_of, run, run_leaving, run_with_proof,
+    run_with_proof_leaving,
+};
 pub use script_threads::run_threads;
 use std::alloc::Global;
 use std::fs::File;
@@ -146,7 +149,7 @@ fn run_file(rt: &HostRuntime, file: &str, proof: Option<&str>) -> Result<RunOutc
         return Err(RunFault::Write);
     };
     let mut certificate = Counted::new(certificate);
-    run_with_proof(rt.alloc(), &mut reader, &mut writer, &mut certificate)
+    prove_last(rt.alloc(), &mut reader, &mut writer, &mut certificate)
 }
 
 /// Replays, and leaves the script's value to the end of the process.
@@ -157,6 +160,19 @@ fn run_last<R: Source, W: Sink>(
 ) -> Result<RunOutcome, RunFault> {
     let mut left = None;
     let ended = run_leaving(alloc, reader, writer, &mut left);
+    mem::forget(left);
+    ended
+}
+
+/// The same with a certificate.
+fn prove_last<R: Source, W: Sink, P: Sink>(
+    alloc: Global,
+    reader: &mut R,
+    writer: &mut W,
+    proof: &mut P,
+) -> Result<RunOutcome, RunFault> {
+    let mut left = None;
+    let ended = run_with_proof_leaving(alloc, reader, writer, proof, &mut left);
     mem::forget(left);
     ended
 }
