@@ -54,8 +54,6 @@ CALLS_OF = specs("script_reading", "Call")
 CALLS = re.findall(r'bytes_eq name \(codes "(\w+)"\) then', CALLS_OF)
 MAKERS = re.findall(r'bytes_eq name \(codes "(\w+)"\) then option_map', CALLS_OF)
 REFUSALS = re.findall(r'"(E\d+) (\w+)"', specs("sysmem_tree", "Refusal"))
-# Of these a decision or an audit is answered, and not an action on a node.
-OF_DECISIONS = {"ConstraintsIntersectionEmpty", "TooManyGroupChildCombinations", "Strange"}
 # The faults of a record: the code of each, and its number in C.
 CODES = column(specs("record_reading", "Faults"), "code_name")
 NUMBERS = re.findall(r"^code_number codes\.(\w+) = (\d+)$", specs("live_calls", "Numbers"), re.M)
