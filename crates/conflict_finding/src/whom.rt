@@ -93,7 +93,7 @@ pub(crate) struct NamingLine {
     place: usize,
 }
 
-/// Whether both or neither names a participant, if there is one.
+/// Whether both or neither names a participant; where there is none, neither does.
 fn is_alike(one: Whom, other: Whom, asked: Option<&Constraints>) -> bool
     ensures { IsTrue result
         → option_map_or (names one) (option_map (λ one. one.now) asked.entry) false

@@ -9,6 +9,7 @@ use Rattle.script_reading.specs.Script.{CallFacts}
 use Rattle.script_replay.specs.Events.{EventFacts, FateFacts, HappensTo, becomes, event_seen, events_text, fate_text}
 use Rattle.script_replay.specs.declared.event.Event.{Event}
 use Rattle.script_replay.specs.Replayed.{LeavesIn}
+use Rattle.script_replay.specs.Outcome.{anyhow}
 use Rattle.script_replay.specs.Report.{Certified, IsReport}
 use Rattle.script_replay.specs.State.{RunState, first_run_state}
 use Rattle.script_replay.proofs.CallerLemmas.{goes_platform}
@@ -34,7 +35,7 @@ told_as platform events nodes old next root path fate here at same said has = in
 
 -- what is said of calls to which no memory was refused
 pub reported_on : (platform : PlatformFacts) (rs : List CallFacts) (text : List ℕ) (events : List EventFacts) (last : RunState) (decisions : List Certified) (path what : List ℕ) → text ≡ events_text platform events
-    → last.starved ≡ false → HappensTo platform rs events last → IsReport platform rs text decisions last.starved → IsSaidOn platform events path what → IsReportedOn platform rs path what
+    → last.starved ≡ false → HappensTo platform rs (anyhow platform) events last → IsReport platform rs text decisions last.starved → IsSaidOn platform events path what → IsReportedOn platform rs path what
 reported_on platform rs text events last decisions path what same fed happens report says = record {
   events = events;
   last = last;

@@ -5,6 +5,7 @@ use Rattle.negotiation_inputs.specs.Platform.{PlatformFacts}
 use Rattle.script_reading.specs.Script.{CallFacts}
 use Rattle.script_replay.specs.Events.{EventFacts, FateFacts, HappensTo, becomes}
 use Rattle.script_replay.specs.Events.{events_text, fate_text}
+use Rattle.script_replay.specs.Outcome.{anyhow}
 use Rattle.script_replay.specs.Report.{Certified, IsReport}
 use Rattle.script_replay.specs.State.{RunState}
 use Rattle.script_story.specs.Paths.{path_at}
@@ -19,7 +20,7 @@ pub record BecomesOn (events : List EventFacts) (path : List ℕ) (fate : FateFa
   pub at : path_text root ≡ path
   pub event : Contains events (becomes root fate)
 
--- a report says this of the domain at a path, as it becomes of it
+-- a report says this of the domain at a path, by what becomes of it
 pub record IsSaidOn (platform : PlatformFacts) (events : List EventFacts) (path what : List ℕ)
     : Type 0 where
   pub fate : FateFacts
@@ -33,16 +34,16 @@ pub record IsReportedOn (platform : PlatformFacts) (rs : List CallFacts)
   pub events : List EventFacts
   pub last : RunState
   pub decisions : List Certified
-  pub happens : HappensTo platform rs events last
+  pub happens : HappensTo platform rs (anyhow platform) events last
   pub report : IsReport platform rs (events_text platform events) decisions false
   pub says : IsSaidOn platform events path what
 
--- what is told of a domain became of it, or nothing is
+-- what is told of a domain is what a report says of it, or nothing is told
 abbrev pub IsTold : PlatformFacts → List EventFacts → List Node → Domain → Type 0
 IsTold platform events nodes domain = (string_bytes domain.told ≡ [])
     ⊎ IsSaidOn platform events (path_at nodes domain.root) (string_bytes domain.told)
 
--- that of all domains did
+-- so it is of all domains
 abbrev pub AreTold : PlatformFacts → List EventFacts → Story → Type 0
 AreTold platform events story =
     All (IsTold platform events story.nodes.items) story.domains.items

@@ -147,11 +147,12 @@ pub struct Node<'a> {
 /// What became of a domain.
 #[derive(Clone, Copy, PartialEq, Eq)]
 pub enum Became {
-    /// It waits for no decision yet.
+    /// It has no verdict.
     Pending,
     Chosen,
     /// No settings meet its participants.
     Empty,
+    /// It has too many selections.
     TooMany,
     /// Memory was refused to its decision.
     NoMemory,

@@ -8,8 +8,9 @@ use smallvec::SmallVec;
 use std::alloc::{AllocError, Global};
 use std::marker::Model;
 
-/// A path that several lists have is shared if it has more steps than these. With so many it takes
-/// no more memory in each list's own numbers than a few pointers, and is compared and read faster.
+/// A path is shared by the lists that have it if it has more steps than this. One with so many or
+/// fewer takes no more memory in each list's own numbers than a few pointers, and is compared and
+/// read faster.
 const SHORT: usize = 4;
 
 /// Paths. Those before the first that other lists may share stand in one list of numbers, however
@@ -70,8 +71,8 @@ impl PathList {
         Ok(PathList { numbers, shared })
     }
 
-    /// Puts the paths of the other list behind its own. `AllocError` where memory is refused; the
-    /// first of them may be put then.
+    /// Puts the paths of the other list behind its own. `AllocError` where memory is refused; some
+    /// of them, from the first on, may be put then.
     pub fn join(&mut self, other: &PathList) -> Result<(), AllocError>
         ensures { OnOk result (self.new ≡ self.old ++ other.now) }
     {
