@@ -8,7 +8,7 @@ UNPROVED ?=
 JOBS ?= $(shell awk -v n=$$(nproc) '/^MemAvailable/ { m = int($$2 / 4000000); n -= n > 3; print m < 1 ? 1 : m < n ? m : n }' /proc/meminfo)
 
 .PHONY: help needs build prove quick-test test built-test program-test lib lib-test install uninstall wrong-bodies \
-	shown-by-test threads-often live-often bench
+	shown-by-test threads-often live-often promises-often bench
 
 help:
 	@echo 'make build        the program and the library, not proved: 5 minutes or less, once'
@@ -128,6 +128,10 @@ shown-by-test:
 # these are compared with another implementation, and `--valgrind` plays rows under its tools.
 threads-often: prove
 	$(ALONE) tests/program/threads_often
+
+# Random scripts are explained, and each change that is promised is made in its script and run.
+promises-often: prove
+	$(ALONE) tests/program/promises_often
 
 # Live collections through the library's handles again and again, with sanitizers, tools of valgrind
 # and libFuzzer, for an hour or less.
