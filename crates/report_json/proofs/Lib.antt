@@ -1,1 +1,2 @@
+mod Certifying
 mod Input

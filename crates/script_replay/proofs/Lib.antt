@@ -1,6 +1,7 @@
 pub mod Answering
 pub mod CallerLemmas
 pub mod Corners
+pub mod Decided
 pub mod EventLines
 pub mod Failures
 pub mod Following

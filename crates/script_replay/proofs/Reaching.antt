@@ -121,10 +121,10 @@ reaches-last platform calls place s before after G H text all reached e f =
     }
 
 -- that is what happened
-pub reaches-all-events : (platform : PlatformFacts) (calls : List Call) (place : ℕ) (s : RunState) (before after : List EventFacts) (G H : Gave) → length calls ≤ place
+pub reaches-all-events : (platform : PlatformFacts) (calls : List Call) (place : ℕ) (s : RunState) (before after : List EventFacts) (G H : Gave) → length calls ≤ place → G []
     → Reaches platform (map call_seen calls) place s before G H → after ≡ before ++ pending_events s.book
-    → HappensTo platform (map call_seen calls) after s
-reaches-all-events platform calls place s before after G H all reached e =
+    → HappensTo platform (map call_seen calls) H after s
+reaches-all-events platform calls place s before after G H all given reached e =
     let goes = reaches-all platform calls place s before G H all reached in
     record {
       decisions = goes.decisions;
@@ -132,6 +132,7 @@ reaches-all-events platform calls place s before after G H all reached e =
       happens = goes.goes;
       done = reached.idle;
       put = e ∙ ap (λ es. es ++ pending_events s.book) goes.put;
+      gave = goes.gave [] given;
     }
 
 -- what is added for a book that was lent is added for the book

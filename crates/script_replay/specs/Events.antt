@@ -1,4 +1,4 @@
--- What happens where a script's calls are made: the facts that the lines of a report are of.
+-- What happens where a script's calls are made: the facts that the lines of a report tell.
 use Rattle.std.specs.Prelude.{◌≡◌, ℕ, ◌+◌, ◌++◌, List, [], ◌∷◌, Option, Some, None, OnOk}
 use Rattle.std.specs.Prelude.{Result, codes, flat_map, map, option_map}
 use Rattle.std.specs.Arc.{arc_value}
@@ -26,7 +26,7 @@ use Rattle.script_replay.specs.declared.event.DomainFate.TheVariants.{Decided, F
 use Rattle.script_replay.specs.declared.reply.Reply.{Reply}
 use Rattle.script_replay.specs.Answer.{Replies}
 use Rattle.script_replay.specs.Lines.{call_line, chosen_text, domain_line}
-use Rattle.script_replay.specs.Report.{Certified, certified, pending_in, with_decision}
+use Rattle.script_replay.specs.Report.{Certified, Gave, certified, pending_in, with_decision}
 use Rattle.script_replay.specs.State.{RunState, collection_tree, first_run_state}
 
 -- what becomes of a domain: it is decided by this claim, or by none where memory was wanted, with
@@ -139,11 +139,12 @@ pub data Happens : ℕ → RunState → List CallFacts → List EventFacts → L
       → Happens number s rs (decision_events s c fate ++ events) (certified s c ∷ cs) t
 
 -- what happens where calls are made on a new collection, until no domain waits: it is left in this
--- state
-pub record HappensTo (platform : PlatformFacts) (rs : List CallFacts) (events : List EventFacts)
-    (last : RunState) : Type 0 where
+-- state, and this is said of the decisions
+pub record HappensTo (platform : PlatformFacts) (rs : List CallFacts) (says : Gave)
+    (events : List EventFacts) (last : RunState) : Type 0 where
   pub decisions : List Certified
   pub happened : List EventFacts
   pub happens : Happens 1 (first_run_state platform) rs happened decisions last
   pub done : next_ready last.book ≡ None
   pub put : events ≡ happened ++ pending_events last.book
+  pub gave : says decisions

@@ -1,3 +1,4 @@
+pub mod Among
 pub mod Answer
 pub mod Deciding
 pub mod Events

@@ -138,7 +138,7 @@ pub(crate) fn decided_by(
     Ok(DomainFate::Decided(Decision { claim, corner }))
 }
 
-/// The corner of what a verdict chooses, that a decision can have.
+/// The corner of what is chosen by a verdict that a decision can have.
 fn corner_in(verdict: &Verdict) -> Corner
     requires { CanBeTold verdict.now }
     ensures { CanBeShown (Some verdict.now) result }

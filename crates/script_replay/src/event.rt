@@ -1,4 +1,4 @@
-//! What happens where a script's calls are made: what the lines of a report are of.
+//! What happens where a script's calls are made: what the lines of a report tell.
 
 ghost use Rattle.std.specs.Prelude.{◌≡◌, [], ◌∷◌, map, option_map};
 ghost use Rattle.std.specs.Arc.{arc_value};
@@ -34,7 +34,7 @@ pub struct CallEvent<'a> {
 pub struct Decision {
     /// The verdict with what proves it; `None` where memory was refused to it.
     pub claim: Option<Arc<Claim>>,
-    /// The smallest image that the chosen settings admit; of no size where none were chosen.
+    /// The smallest image that the chosen settings admit; it tells nothing where none were chosen.
     pub corner: Corner,
 }
 
@@ -68,7 +68,7 @@ pub struct DomainEvent {
     pub fate: DomainFate,
 }
 
-/// What a line of a report is of.
+/// What a line of a report tells.
 #[derive(Debug, Drop)]
 pub enum Event<'a> {
     /// A call was made or refused.
@@ -83,7 +83,7 @@ pub struct Events<'a> {
 }
 
 impl<'a> Events<'a> {
-    /// Begins before anything happens.
+    /// Nothing has happened yet.
     pub(crate) fn new(alloc: Global) -> Events<'a>
         ensures { events_of result ≡ [] }
     {

@@ -11,7 +11,7 @@ use sysmem_alloc::Book;
 use sysmem_tree::DomainId;
 use verdict_claims::Claim;
 
-/// Searches for each verdict, and proves it. Where memory is refused to that, it is the decision.
+/// Searches for each verdict, and proves it. Memory that is refused to either is the decision.
 #[derive(Clone, Copy)]
 pub struct Proving;
 

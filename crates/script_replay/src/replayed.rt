@@ -23,7 +23,7 @@ use sysmem_alloc::Book;
 #[derive(Debug)]
 pub struct ReplayedCalls<'a> {
     pub report: Report,
-    /// What its lines are of.
+    /// What its lines tell.
     pub events: Events<'a>,
     /// How many prefixes its searches visited, at most `u64::MAX`.
     pub visits: u64,
@@ -85,7 +85,7 @@ pub fn replay<'a>(
     ensures leaves { IfOk result (λ replayed. LeavesIn platform (map call_seen calls.now)
         (string_bytes replayed.report.text) (end_of replayed)) }
     ensures happens { IfOk result (λ replayed. HappensTo platform (map call_seen calls.now)
-        (events_of replayed.events) (end_of replayed)) }
+        (anyhow platform) (events_of replayed.events) (end_of replayed)) }
     ensures starved { IfOk result (λ replayed.
         replayed.report.starved ≡ (end_of replayed).starved) }
     ensures text { IfOk result (λ replayed.
@@ -116,7 +116,7 @@ pub fn replayed_of<'a, D: Decider>(
     ensures leaves { IfOk result (λ replayed. LeavesIn platform (map call_seen calls.now)
         (string_bytes replayed.report.text) (end_of replayed)) }
     ensures happens { IfOk result (λ replayed. HappensTo platform (map call_seen calls.now)
-        (events_of replayed.events) (end_of replayed)) }
+        (D.gave decider.new platform) (events_of replayed.events) (end_of replayed)) }
     ensures starved { IfOk result (λ replayed.
         replayed.report.starved ≡ (end_of replayed).starved) }
     ensures text { IfOk result (λ replayed.

@@ -184,8 +184,8 @@ impl Runner {
         Ok(())
     }
 
-    /// Enters a decision that the book allows, and adds it and the domains that it makes fail to what
-    /// happened.
+    /// Enters a decision that the book allows, and adds it and the domains that it makes fail to
+    /// what happened.
     fn tell(
         &mut self,
         domain: DomainId,

@@ -31,7 +31,8 @@ module _ (says : SaysOf) where
   runs-fault bytes NoMemory said = tt
   runs-fault bytes (Refused fault) said = no_value bytes fault said
 
-  spells : (bytes : List ℕ) (d : Data) (read : Result Data ScriptFault) (answer : Result ReportFacts ScriptFault) → read ≡ Ok d → Outcome IsValue bytes read → ValueRunsTo says d answer → RunsWith says bytes answer
+  -- the answer of bytes is that of the value that they spell
+  pub spells : (bytes : List ℕ) (d : Data) (read : Result Data ScriptFault) (answer : Result ReportFacts ScriptFault) → read ≡ Ok d → Outcome IsValue bytes read → ValueRunsTo says d answer → RunsWith says bytes answer
   spells bytes d _ answer e (too_long long) said = absurd (cc)
   spells bytes d _ answer e (not_json short none) said = absurd (cc)
   spells bytes d _ answer e (spelled value short json _ is) said =

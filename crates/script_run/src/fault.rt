@@ -1,10 +1,11 @@
 //! The faults that end a run.
 ghost use Rattle.std.specs.Prelude.{◌≡◌};
 ghost use Rattle.script_run.specs.Faults.{fault_of_parse, fault_of_read};
-ghost use Rattle.script_run.specs.declared.fault.RunFault.TheVariants.{Write};
+ghost use Rattle.script_run.specs.declared.fault.RunFault.TheVariants.{NoMemory, Write};
 
 use byte_transfer::{ReadFault, WriteFault};
 use script_reading::{ParseFault, ScriptFault};
+use std::alloc::AllocError;
 use thiserror::Error;
 
 /// What the audit of a collection on threads found not to agree.
@@ -52,6 +53,14 @@ impl From<ReadFault> for RunFault {
             ReadFault::Failed => RunFault::Read,
             ReadFault::NoMemory => RunFault::NoMemory,
         }
+    }
+}
+
+impl From<AllocError> for RunFault {
+    ghost from_gives = { λ _ e. e ≡ NoMemory };
+
+    fn from(_e: AllocError) -> RunFault {
+        RunFault::NoMemory
     }
 }
 

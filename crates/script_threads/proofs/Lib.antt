@@ -1,3 +1,4 @@
 pub mod Spelling
 pub mod Ending
 mod Lines
+mod Replying

@@ -1,8 +1,10 @@
 //! The run of a script on threads, from its bytes to what is told of it.
 
-ghost use Rattle.std.specs.Prelude.{◌≡◌, Err, IfOk};
+ghost use Rattle.std.specs.Prelude.{◌≡◌, ◌++◌, [], ◌∷◌, Err, IfOk, OnOk};
 ghost use Rattle.std.specs.String.{string_bytes};
 ghost use Rattle.serde_json.specs.View.{view};
+ghost use Rattle.script_replay.specs.Among.{replies_in};
+ghost use Rattle.script_replay.specs.Events.{event_seen, events_of};
 ghost use Rattle.script_run.specs.Run.{IsCausedBy};
 ghost use Rattle.script_threads.specs.Run.{Played, TellsOf, TellsOfValue};
 ghost use Rattle.script_threads.specs.Text.{IsTold};
@@ -119,13 +121,27 @@ fn planned(alloc: Global, platform: &Platform, calls: &mut [Call<'_>]) -> Result
     Ok(())
 }
 
-/// The replies of calls.
-fn replies_in(alloc: Global, events: &Events<'_>) -> Result<Vec<Reply>, AllocError> {
+/// The replies to calls, in their order.
+fn replies_in(alloc: Global, events: &Events<'_>) -> Result<Vec<Reply>, AllocError>
+    ensures { IfOk result (λ replies. replies.items ≡ replies_in (events_of events.now)) }
+{
     let mut replies = Vec::new(alloc);
     for event in events.as_slice() {
-        if let Event::Call(called) = event {
-            replies.push(called.reply)?;
-        }
+        put_reply(&mut replies, event)?;
     }
     Ok(replies)
+}
+
+/// Puts the reply behind those to the calls before, if the event is a call.
+fn put_reply(replies: &mut Vec<Reply>, event: &Event<'_>) -> Result<(), AllocError>
+    ensures { OnOk result (replies.new.items
+        ≡ replies.old.items ++ replies_in (event_seen event.now ∷ [])) }
+{
+    match event {
+        Event::Call(called) => {
+            replies.push(called.reply)?;
+            Ok(())
+        }
+        Event::Domain(_) => Ok(()),
+    }
 }

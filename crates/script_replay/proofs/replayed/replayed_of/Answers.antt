@@ -61,7 +61,7 @@ returns-clause-leaves g c =
 pub returns-clause-happens : goal.returns-clause-happens
 returns-clause-happens g c =
     let all : length c.args.calls.now ≤ c.loop-index.index = omega arith in
-    reaches-all-events _ c.args.calls.now c.loop-index.index (state_of c.loop-index.runner) (events_of c.loop-index.events) _ _ _ all c.loop-index.invariant.0
+    reaches-all-events _ c.args.calls.now c.loop-index.index (state_of c.loop-index.runner) (events_of c.loop-index.events) _ _ _ all c.requires c.loop-index.invariant.0
     (added_to _ _ _ _ (state_of c.loop-index.runner) c.book.ensures c.in_ok-add_pending.ensures refl)
 
 pub returns-clause-text : goal.returns-clause-text
