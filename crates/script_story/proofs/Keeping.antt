@@ -9,9 +9,11 @@ use Rattle.script_reading.specs.Script.{CallFacts}
 use Rattle.script_replay.specs.Events.{EventFacts, FateFacts, HappensTo, becomes, event_seen, events_text, fate_text}
 use Rattle.script_replay.specs.declared.event.Event.{Event}
 use Rattle.script_replay.specs.Replayed.{LeavesIn}
+use Rattle.script_replay.specs.Outcome.{anyhow}
 use Rattle.script_replay.specs.Report.{Certified, IsReport}
 use Rattle.script_replay.specs.State.{RunState, first_run_state}
 use Rattle.script_replay.proofs.CallerLemmas.{goes_platform}
+use Rattle.script_story.specs.Became.{became_of}
 use Rattle.script_story.specs.Paths.{path_at}
 use Rattle.script_story.specs.Told.{IsReportedOn, IsSaidOn, IsTold}
 use Rattle.script_story.specs.declared.story.Domain.{Domain}
@@ -25,16 +27,17 @@ event_there list events i one same below is =
 
 -- what becomes of a domain is told of it
 pub told_as : (platform : PlatformFacts) (events : List EventFacts) (nodes : List Node) (old next : Domain) (root path : List ℕ) (fate : FateFacts) → path ≡ path_text root → path ≡ path_at nodes old.root
-    → next.root ≡ old.root → string_bytes next.told ≡ fate_text platform fate → Contains events (becomes root fate) → IsTold platform events nodes next
-told_as platform events nodes old next root path fate here at same said has = inr (record {
+    → next.root ≡ old.root → string_bytes next.told ≡ fate_text platform fate → next.became ≡ became_of fate → Contains events (becomes root fate) → IsTold platform events nodes next
+told_as platform events nodes old next root path fate here at same said became has = inr (record {
   fate = fate;
   becomes = record { root = root; at = sym here ∙ (at ∙ ap (path_at nodes) (sym same)); event = has };
-  said = said;
+  told = said;
+  became = became;
 })
 
 -- what is said of calls to which no memory was refused
 pub reported_on : (platform : PlatformFacts) (rs : List CallFacts) (text : List ℕ) (events : List EventFacts) (last : RunState) (decisions : List Certified) (path what : List ℕ) → text ≡ events_text platform events
-    → last.starved ≡ false → HappensTo platform rs events last → IsReport platform rs text decisions last.starved → IsSaidOn platform events path what → IsReportedOn platform rs path what
+    → last.starved ≡ false → HappensTo platform rs (anyhow platform) events last → IsReport platform rs text decisions last.starved → IsSaidOn platform events path what → IsReportedOn platform rs path what
 reported_on platform rs text events last decisions path what same fed happens report says = record {
   events = events;
   last = last;

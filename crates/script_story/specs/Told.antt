@@ -5,9 +5,12 @@ use Rattle.negotiation_inputs.specs.Platform.{PlatformFacts}
 use Rattle.script_reading.specs.Script.{CallFacts}
 use Rattle.script_replay.specs.Events.{EventFacts, FateFacts, HappensTo, becomes}
 use Rattle.script_replay.specs.Events.{events_text, fate_text}
+use Rattle.script_replay.specs.Outcome.{anyhow}
 use Rattle.script_replay.specs.Report.{Certified, IsReport}
 use Rattle.script_replay.specs.State.{RunState}
+use Rattle.script_story.specs.Became.{became_of}
 use Rattle.script_story.specs.Paths.{path_at}
+use Rattle.script_story.specs.declared.story.Became.TheVariants.{Pending}
 use Rattle.script_story.specs.declared.story.Domain.{Domain}
 use Rattle.script_story.specs.declared.story.Node.{Node}
 use Rattle.script_story.specs.declared.story.Story.{Story}
@@ -19,7 +22,7 @@ pub record BecomesOn (events : List EventFacts) (path : List ℕ) (fate : FateFa
   pub at : path_text root ≡ path
   pub event : Contains events (becomes root fate)
 
--- a report says this of the domain at a path, as it becomes of it
+-- a report says this of the domain at a path, by what becomes of it
 pub record IsSaidOn (platform : PlatformFacts) (events : List EventFacts) (path what : List ℕ)
     : Type 0 where
   pub fate : FateFacts
@@ -33,16 +36,28 @@ pub record IsReportedOn (platform : PlatformFacts) (rs : List CallFacts)
   pub events : List EventFacts
   pub last : RunState
   pub decisions : List Certified
-  pub happens : HappensTo platform rs events last
+  pub happens : HappensTo platform rs (anyhow platform) events last
   pub report : IsReport platform rs (events_text platform events) decisions false
   pub says : IsSaidOn platform events path what
 
+-- nothing is told of a domain yet
+abbrev pub IsUntold : Domain → Type 0
+IsUntold domain = (string_bytes domain.told ≡ []) × (domain.became ≡ Pending)
+
+-- a domain keeps what becomes of it at a path, told as a report says it
+pub record IsKept (platform : PlatformFacts) (events : List EventFacts) (path : List ℕ)
+    (domain : Domain) : Type 0 where
+  pub fate : FateFacts
+  pub becomes : BecomesOn events path fate
+  pub told : string_bytes domain.told ≡ fate_text platform fate
+  pub became : domain.became ≡ became_of fate
+
 -- what is told of a domain became of it, or nothing is
 abbrev pub IsTold : PlatformFacts → List EventFacts → List Node → Domain → Type 0
-IsTold platform events nodes domain = (string_bytes domain.told ≡ [])
-    ⊎ IsSaidOn platform events (path_at nodes domain.root) (string_bytes domain.told)
+IsTold platform events nodes domain =
+    IsUntold domain ⊎ IsKept platform events (path_at nodes domain.root) domain
 
--- that of all domains did
+-- so it is of all domains
 abbrev pub AreTold : PlatformFacts → List EventFacts → Story → Type 0
 AreTold platform events story =
     All (IsTold platform events story.nodes.items) story.domains.items

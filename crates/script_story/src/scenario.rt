@@ -36,7 +36,8 @@ impl<'a> Scenario<'a> {
         ensures leaves { IfOk result (λ told. LeavesIn self.now.platform.now
             (map call_seen calls.now) (string_bytes told.report.text) (end_of told)) }
         ensures happens { IfOk result (λ told. HappensTo self.now.platform.now
-            (map call_seen calls.now) (events_of told.events) (end_of told)) }
+            (map call_seen calls.now) (anyhow self.now.platform.now) (events_of told.events)
+            (end_of told)) }
         ensures text { IfOk result (λ told. string_bytes told.report.text
             ≡ events_text self.now.platform.now (events_of told.events)) }
         ensures starved { IfOk result (λ told. told.report.starved ≡ (end_of told).starved) }
@@ -98,7 +99,7 @@ fn last_on<'a>(
     Ok(last)
 }
 
-/// What a report says where this becomes of a domain.
+/// What a report says of a domain of which this becomes.
 pub(crate) fn fate_text(
     alloc: Global,
     platform: &Platform,

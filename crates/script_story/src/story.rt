@@ -1,12 +1,15 @@
 //! What a script's calls did, call by call and node by node.
 
-ghost use Rattle.std.specs.Prelude.{◌≡◌};
+ghost use Rattle.std.specs.Prelude.{◌≡◌, IfOk};
+ghost use Rattle.std.specs.String.{string_bytes};
+ghost use Rattle.script_replay.specs.Lines.{reply_text};
+ghost use Rattle.script_story.specs.Became.{became_word};
 ghost use Rattle.script_story.specs.Paths.{path_at};
 
 use explanation_text::{Name, TextBuilder};
 use negotiation_inputs::Constraints;
 use script_reading::Act;
-use script_replay::Reply;
+use script_replay::{Reply, put_reply_text};
 use std::alloc::{AllocError, Global};
 use sysmem_merge::Settings;
 use sysmem_tree::{NodeKind, NodeState, Refusal};
@@ -48,12 +51,21 @@ impl<'a> MadeCall<'a> {
 
     /// Puts its reply after a text, as a report has it.
     pub fn put_reply(&self, text: &mut TextBuilder) {
-        match self.reply {
-            Reply::Accepted => text.put("ok"),
-            Reply::Refused(refusal) => text.put(refusal.name()),
-            Reply::Misread(fault) => text.put(fault.code.name()).put(" ").put(fault.at.name()),
-            Reply::Skipped => text.put("skipped"),
-        };
+        match self.reply_words(text.alloc()) {
+            Ok(words) => {
+                text.put(&words);
+            }
+            Err(AllocError) => text.refuse(),
+        }
+    }
+
+    /// Its reply, as a report has it: `ok`, `E9 Pending`.
+    fn reply_words(&self, alloc: Global) -> Result<String, AllocError>
+        ensures { IfOk result (λ words. string_bytes words ≡ reply_text self.now.reply) }
+    {
+        let mut words = String::new(alloc);
+        put_reply_text(&mut words, self.reply)?;
+        Ok(words)
     }
 
     /// Whether it asks for a verdict alone.
@@ -147,11 +159,12 @@ pub struct Node<'a> {
 /// What became of a domain.
 #[derive(Clone, Copy, PartialEq, Eq)]
 pub enum Became {
-    /// It waits for no decision yet.
+    /// It has no verdict.
     Pending,
     Chosen,
     /// No settings meet its participants.
     Empty,
+    /// It has too many selections.
     TooMany,
     /// Memory was refused to its decision.
     NoMemory,
@@ -160,7 +173,9 @@ pub enum Became {
 
 impl Became {
     /// The word that a report has for it.
-    pub fn word(self) -> &'static str {
+    pub fn word(self) -> &'static str
+        ensures { result.now ≡ became_word self }
+    {
         match self {
             Became::Pending => "pending",
             Became::Chosen => "chosen",

@@ -1,11 +1,11 @@
 //! The story of a script's calls, told from their replay.
 
-ghost use Rattle.std.specs.Prelude.{◌≡◌, All, Contains, [], IfOk, IfSome, IsTrue, List, OnOk, slice_get};
-ghost use Rattle.std.specs.String.{string_bytes};
+ghost use Rattle.std.specs.Prelude.{◌≡◌, All, Contains, IfOk, IfSome, IsTrue, List, OnOk, option_map, slice_get};
 ghost use Rattle.script_replay.specs.Events.{EventFacts, becomes, events_of, fate_seen};
 ghost use Rattle.script_replay.specs.Replayed.{end_of};
+ghost use Rattle.script_story.specs.Became.{became_by, became_of};
 ghost use Rattle.script_story.specs.Paths.{path_at};
-ghost use Rattle.script_story.specs.Told.{AreTold};
+ghost use Rattle.script_story.specs.Told.{AreTold, IsUntold};
 ghost use Rattle.sysmem_tree.specs.Domain.{HasDomain};
 ghost use Rattle.sysmem_tree.specs.Nodes.{HasNode};
 
@@ -172,8 +172,7 @@ fn note_deeds(nodes: &mut [Node<'_>], calls: &[MadeCall<'_>]) {
 
 /// The domains, of which nothing is told yet.
 fn domains_of(alloc: Global, book: &Book) -> Result<Vec<Domain>, AllocError>
-    ensures { IfOk result (λ domains.
-        All (λ domain. string_bytes domain.told ≡ []) domains.items) }
+    ensures { IfOk result (λ domains. All IsUntold domains.items) }
 {
     let tree = book.tree();
     let mut domains = Vec::new(alloc);
@@ -188,7 +187,7 @@ fn domains_of(alloc: Global, book: &Book) -> Result<Vec<Domain>, AllocError>
 /// A domain of which nothing is told yet.
 fn domain_of(alloc: Global, book: &Book, domain: DomainId) -> Domain
     requires { HasDomain book.now.state.tree.nodes domain }
-    ensures { string_bytes result.told ≡ [] }
+    ensures { IsUntold result }
 {
     let tree = book.tree();
     let host = match tree.host_of(domain) {
@@ -251,7 +250,7 @@ fn keep_fate(
     let Some(domain) = story.domains.get(index) else {
         return Ok(());
     };
-    let next = with_fate(domain, told, became_by(&one.fate), number);
+    let next = with_fate(domain, told, became_of(&one.fate), number);
     story.domains[index] = next;
     Ok(())
 }
@@ -260,6 +259,7 @@ fn keep_fate(
 fn with_fate(domain: &Domain, told: String, became: Became, number: usize) -> Domain
     ensures root { result.root ≡ domain.now.root }
     ensures told { result.told ≡ told }
+    ensures became { result.became ≡ became }
 {
     let ended = match became {
         Became::Pending => domain.ended,
@@ -276,17 +276,26 @@ fn with_fate(domain: &Domain, told: String, became: Became, number: usize) -> Do
 }
 
 /// What became of a domain by its fate.
-fn became_by(fate: &DomainFate) -> Became {
+fn became_of(fate: &DomainFate) -> Became
+    ensures { result ≡ became_of (fate_seen fate.now) }
+{
     match fate {
         DomainFate::Pending => Became::Pending,
         DomainFate::Failed => Became::Failed,
-        DomainFate::Decided(one) => match one.verdict() {
-            Some(Verdict::Chosen(_)) => Became::Chosen,
-            Some(Verdict::IntersectionEmpty) => Became::Empty,
-            Some(Verdict::TooMany) => Became::TooMany,
-            Some(Verdict::Failed) => Became::Failed,
-            Some(Verdict::NoMemory) | None => Became::NoMemory,
-        },
+        DomainFate::Decided(one) => became_by(one.verdict()),
+    }
+}
+
+/// What became of a domain by its verdict, or by none where memory was refused.
+fn became_by(verdict: Option<&Verdict>) -> Became
+    ensures { result ≡ became_by (option_map (λ verdict. verdict.now) verdict.entry) }
+{
+    match verdict {
+        Some(Verdict::Chosen(_)) => Became::Chosen,
+        Some(Verdict::IntersectionEmpty) => Became::Empty,
+        Some(Verdict::TooMany) => Became::TooMany,
+        Some(Verdict::Failed) => Became::Failed,
+        Some(Verdict::NoMemory) | None => Became::NoMemory,
     }
 }
 

@@ -23,4 +23,4 @@ returns c =
     subst (λ o. IfSome o (λ (d : Domain). path ≡ path_at nodes d.root)) at c.in-Some.ensures in
     λ events has told. All-set (IsTold c.args.platform.now events nodes) domains c.in-Some.index _
     (told_as c.args.platform.now events nodes old c.with_fate-next.result c.args.one.now.path path (fate_seen c.args.one.now.fate) (c.deref.ensures ∙ c.in_ok-path.ensures) on
-    c.with_fate-next.ensures.root (ap string_bytes c.with_fate-next.ensures.told ∙ c.in_ok-told.ensures) has) told
+    c.with_fate-next.ensures.root (ap string_bytes c.with_fate-next.ensures.told ∙ c.in_ok-told.ensures) (c.with_fate-next.ensures.became ∙ c.became_of.ensures) has) told
