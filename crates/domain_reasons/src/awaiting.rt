@@ -235,7 +235,11 @@ fn help_of(
         return help_after(alloc, story, node, kind, number).into_text();
     }
     let help = match kind {
-        NodeKind::Token => "bind it and set_constraints, or release it",
+        NodeKind::Token => if story.children(alloc, node)?.is_empty() {
+            "bind it and set_constraints, or release it"
+        } else {
+            "release it if it only passes others on, or bind it and set_constraints"
+        },
         NodeKind::Collection => "set_constraints, or release it",
         NodeKind::Group => if story.children(alloc, node)?.is_empty() {
             "create_child, then all_children_present"

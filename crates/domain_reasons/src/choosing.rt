@@ -1,7 +1,8 @@
 //! What was chosen in a domain, and what decided it.
 
 use crate::passed_over::add_passed_over;
-use crate::selecting::{DomainView, add_left_out};
+use crate::room::add_left;
+use crate::selecting::{Choice, DomainView, add_left_out, choices_of};
 use explanation_text::wording::put_few;
 use explanation_text::{Items, ListBuilder, Text, TextBuilder};
 use negotiation_inputs::Platform;
@@ -20,10 +21,10 @@ pub(crate) fn add_choice(
     index: usize,
     domain: &Domain,
 ) -> Result<(), AllocError> {
-    add_children(items, story, index)?;
+    add_children(items, story, domain)?;
     if let Some(host) = domain.host {
         add_from(items, story, host);
-        return Ok(());
+        return add_left(items, story, index);
     }
     let selections = DomainView {
         platform,
@@ -50,9 +51,9 @@ fn add_from(items: &mut Items, story: &Story<'_>, host: usize) {
 }
 
 /// Tells which child was chosen of each group that is selected.
-fn add_children(items: &mut Items, story: &Story<'_>, index: usize) -> Result<(), AllocError> {
+fn add_children(items: &mut Items, story: &Story<'_>, domain: &Domain) -> Result<(), AllocError> {
     let alloc = items.alloc();
-    let texts = choices_of(alloc, story, index)?;
+    let texts = children_of(alloc, story, domain)?;
     if texts.is_empty() {
         return Ok(());
     }
@@ -62,13 +63,12 @@ fn add_children(items: &mut Items, story: &Story<'_>, index: usize) -> Result<()
     Ok(())
 }
 
-/// The child that was chosen of each group of a domain that is selected.
-fn choices_of(alloc: Global, story: &Story<'_>, index: usize) -> Result<Vec<Text>, AllocError> {
+/// The child that was chosen of each group of a domain that is selected, in the order of the
+/// report's line.
+fn children_of(alloc: Global, story: &Story<'_>, domain: &Domain) -> Result<Vec<Text>, AllocError> {
     let mut texts: ListBuilder<Text> = ListBuilder::new(alloc);
-    for group in &groups_in(alloc, story, index)? {
-        if let Some(words) = choice_of(alloc, story, *group)? {
-            texts.add_text(words);
-        }
+    for choice in &choices_of(alloc, story, domain.root, &domain.told)? {
+        texts.add_text(choice_text(alloc, story, *choice)?);
     }
     texts.done()
 }
@@ -88,37 +88,18 @@ pub(crate) fn groups_in(
     Ok(groups)
 }
 
-/// The child that was chosen of a group, if the group is selected: `layouts: tiled (first of 2)`.
-fn choice_of(
-    alloc: Global,
-    story: &Story<'_>,
-    group: usize,
-) -> Result<Option<TextBuilder>, AllocError> {
-    if !story.is_selected(group) {
-        return Ok(None);
-    }
-    let children = story.children(alloc, group)?;
-    for (place, child) in children.iter().enumerate() {
-        if story.is_selected(*child) {
-            let count = if place == 0 { children.len() } else { 0 };
-            return Ok(Some(choice_text(alloc, story, group, *child, count)));
-        }
-    }
-    Ok(None)
-}
-
-/// A group with its chosen child: the first of so many, if several are counted.
+/// A group with its chosen child: `layouts: tiled (first of 2)`.
 fn choice_text(
     alloc: Global,
     story: &Story<'_>,
-    group: usize,
-    child: usize,
-    count: usize,
-) -> TextBuilder {
-    let mut words = TextBuilder::of_name(alloc, story.called(group));
-    words.put(": ").name(story.called(child));
-    if count > 1 {
-        words.put(" (first of ").put_number(count).put(")");
+    choice: Choice,
+) -> Result<TextBuilder, AllocError> {
+    let children = story.children(alloc, choice.group)?;
+    let is_first = children.first().copied() == Some(choice.child);
+    let mut words = TextBuilder::of_name(alloc, story.called(choice.group));
+    words.put(": ").name(story.called(choice.child));
+    if is_first && children.len() > 1 {
+        words.put(" (first of ").put_number(children.len()).put(")");
     }
-    words
+    Ok(words)
 }

@@ -2,17 +2,18 @@
 //! settings.
 
 use crate::choosing::groups_in;
+use crate::room::{accepted_before, add_lacking, settings_above};
 use crate::selecting::{DomainView, MOST_TOLD, add_empty};
 use explanation_text::wording::{MOST_NAMES, put_few};
 use explanation_text::{Items, ListBuilder, Name, Text, TextBuilder};
 use negotiation_inputs::Platform;
 use script_reading::Act;
-use script_story::{Became, Domain, MadeCall, Milestone, Story, asked_in, left_out};
+use script_story::{Became, Domain, MadeCall, Story, asked_in, left_out};
 use settings_reasons::{failing, list_misfits};
 use std::alloc::{AllocError, Global};
 use sysmem_counts::Field;
 use sysmem_merge::Settings;
-use value_sources::{NamedParticipant, why_needed};
+use value_sources::NamedParticipant;
 
 /// Tells why a domain failed.
 pub(crate) fn add_failed(items: &mut Items, story: &Story<'_>, domain: &Domain) {
@@ -182,38 +183,9 @@ fn add_late(
     };
     let participants = asked_in(items.alloc(), story, index, false)?;
     let before = accepted_before(items.alloc(), story, index)?;
-    add_room(items, &before, &participants, settings.count)?;
+    add_lacking(items, story, index, &participants, settings.count)?;
     add_fewer(items, &participants, settings.count);
     add_unsuited(items, platform, &participants, &before, settings)
-}
-
-/// The settings of the domain to which one was attached.
-fn settings_above<'b>(story: &'b Story<'_>, domain: &Domain) -> Option<&'b Settings> {
-    story.domain_of(domain.host?)?.settings.as_ref()
-}
-
-/// How many buffers all need together who share those of the domain of an index, where that is more
-/// than were decided before it.
-pub fn room_needed(
-    alloc: Global,
-    story: &Story<'_>,
-    index: usize,
-) -> Result<Option<u32>, AllocError> {
-    let Some(count) = count_above(story, index) else {
-        return Ok(None);
-    };
-    let mut all = accepted_before(alloc, story, index)?;
-    all.extend_from_slice(&asked_in(alloc, story, index, false)?)?;
-    match u32::try_from(needed_by(&all)) {
-        Ok(most) if most > count => Ok(Some(most)),
-        _ => Ok(None),
-    }
-}
-
-/// How many buffers were decided for the domain to which that of an index was attached.
-fn count_above(story: &Story<'_>, index: usize) -> Option<u32> {
-    let settings = settings_above(story, story.domains.get(index)?)?;
-    Some(settings.count)
 }
 
 /// Tells in which fields settings fail participants, where they fail one.
@@ -231,102 +203,6 @@ fn add_unsuited(
         }
     }
     Ok(())
-}
-
-/// The participants of the collection that were accepted before the domain of an index was decided,
-/// and not released or closed before that.
-pub fn accepted_before<'a>(
-    alloc: Global,
-    story: &Story<'a>,
-    index: usize,
-) -> Result<Vec<NamedParticipant<'a>>, AllocError> {
-    let decided = match story.domains.get(index) {
-        Some(domain) => domain.ended.unwrap_or(usize::MAX),
-        None => usize::MAX,
-    };
-    let mut accepted: ListBuilder<NamedParticipant<'a>> = ListBuilder::new(alloc);
-    for earlier in &story.order {
-        if *earlier == index {
-            break;
-        }
-        if is_chosen(story, *earlier) {
-            add_open(&mut accepted, story, *earlier, decided)?;
-        }
-    }
-    accepted.done()
-}
-
-/// Whether settings were chosen in the domain of an index.
-fn is_chosen(story: &Story<'_>, index: usize) -> bool {
-    match story.domains.get(index) {
-        Some(domain) => domain.became == Became::Chosen,
-        None => false,
-    }
-}
-
-/// Adds those of a domain who weren't released or closed before the call of a number.
-fn add_open<'a>(
-    accepted: &mut ListBuilder<NamedParticipant<'a>>,
-    story: &Story<'a>,
-    index: usize,
-    number: usize,
-) -> Result<(), AllocError> {
-    for participant in &asked_in(accepted.alloc(), story, index, true)? {
-        if story
-            .milestone_before(participant.node, Milestone::End, number)
-            .is_none()
-        {
-            accepted.add(*participant);
-        }
-    }
-    Ok(())
-}
-
-/// How many buffers participants need together: what they hold, and no fewer than any of them asks
-/// for.
-fn needed_by(participants: &[NamedParticipant<'_>]) -> u64 {
-    let mut held = 0u64;
-    let mut shared = 0u32;
-    let mut least = 1u32;
-    for participant in participants {
-        let counts = participant.asked.counts();
-        held = held
-            .saturating_add(u64::from(counts.min_buffer_count_for_camping))
-            .saturating_add(u64::from(counts.min_buffer_count_for_dedicated_slack));
-        shared = shared.max(counts.min_buffer_count_for_shared_slack);
-        least = least.max(counts.min_buffer_count);
-    }
-    held.saturating_add(u64::from(shared)).max(u64::from(least))
-}
-
-/// Tells how many buffers all need together, those before and these, where more than were decided.
-fn add_room<'a>(
-    items: &mut Items,
-    before: &[NamedParticipant<'a>],
-    participants: &[NamedParticipant<'a>],
-    count: u32,
-) -> Result<(), AllocError> {
-    let mut all = Vec::from_slice(items.alloc(), before)?;
-    all.extend_from_slice(participants)?;
-    add_lacking(items, &all, count);
-    Ok(())
-}
-
-/// Tells how many buffers all need together, where more than were decided.
-fn add_lacking(items: &mut Items, all: &[NamedParticipant<'_>], count: u32) {
-    let alloc = items.alloc();
-    let most = needed_by(all);
-    let lacking = most.saturating_sub(u64::from(count));
-    if lacking == 0 {
-        return;
-    }
-    let were = if count == 1 { "was" } else { "were" };
-    let mut words = TextBuilder::new(alloc);
-    words.put_number(most).put(" buffers are needed, ");
-    words.put_number(count).put(" ").put(were).put(" decided, ");
-    words.put_number(lacking).put(" too few: ");
-    words.put_words(&why_needed(alloc, all));
-    items.say(1, "count", words)
 }
 
 /// Tells who takes fewer buffers than were decided.

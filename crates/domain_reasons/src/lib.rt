@@ -14,6 +14,7 @@ mod domains;
 mod exchanged;
 mod failing;
 mod passed_over;
+mod room;
 mod selecting;
 mod short;
 
@@ -21,6 +22,6 @@ pub use answer::answer_of;
 pub use awaiting::who_holds_up;
 pub use domains::add_domain;
 pub use exchanged::are_exchanged;
-pub use failing::{accepted_before, room_needed};
+pub use room::{accepted_before, count_above, gone_before, room_needed};
 pub use selecting::choices_in;
-pub use short::add_in_short;
+pub use short::{add_in_short, add_shortly};

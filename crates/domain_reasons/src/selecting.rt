@@ -318,7 +318,7 @@ pub fn choices_in(
 }
 
 /// The choices of a line on a domain.
-fn choices_of(
+pub(crate) fn choices_of(
     alloc: Global,
     story: &Story<'_>,
     root: usize,

@@ -11,26 +11,18 @@ use std::alloc::AllocError;
 /// How many lines are told of a domain.
 const MOST: usize = 8;
 
-/// Tells the answer of a story, which calls are refused, and why each domain has no settings, or
-/// none with an earlier child.
-pub fn add_in_short(
-    items: &mut Items,
-    platform: &Platform,
-    story: &Story<'_>,
-) -> Result<(), AllocError> {
+/// Tells the answer of a story, and which calls are refused.
+pub fn add_in_short(items: &mut Items, story: &Story<'_>) -> Result<(), AllocError> {
     let alloc = items.alloc();
     items.say(2, "", answer_of(alloc, story));
     for text in &refused_words(alloc, story)? {
         items.say(2, "", TextBuilder::of_text(alloc, text));
     }
-    for index in 0..story.domains.len() {
-        add_shortly(items, platform, story, index)?;
-    }
     Ok(())
 }
 
 /// Tells why a domain has no settings, or none with an earlier child, in a few lines.
-fn add_shortly(
+pub fn add_shortly(
     items: &mut Items,
     platform: &Platform,
     story: &Story<'_>,

@@ -1,11 +1,14 @@
-//! What a script means once each text in it is corrected that nearly is a known one.
+//! What a script means once each text in it is corrected that nearly is a known one, and once its
+//! calls are moved that stand too early.
 
-use domain_reasons::add_in_short;
+use crate::helping::{LEVELS, add_help_then};
+use domain_reasons::{add_in_short, add_shortly};
 use explanation_text::wording::{mark_after, put_visible};
 use explanation_text::{Item, Items, Kind, TextBuilder, begins_character, line_of};
+use other_outcomes::{list_meant, list_moved};
 use script_faults::{Document, add_fault, has_name_bytes};
 use script_reading::{ParseFault, Script, ScriptFault, parse_script, read_script};
-use script_story::{Effort, Scenario, story_of};
+use script_story::{Became, Effort, Scenario, Story, story_of};
 use std::alloc::{AllocError, Global};
 use sysmem_counts::Field;
 use sysmem_formats::{Modifier, PixelFormat};
@@ -154,12 +157,13 @@ pub(crate) fn add_corrected(
     items: &mut Items,
     document: &Document<'_>,
     meant: &[MeantText],
+    effort: Option<&Effort>,
 ) -> Result<(), AllocError> {
     if meant.is_empty() {
         return Ok(());
     }
     match corrected(items.alloc(), document.bytes, meant)? {
-        Some(bytes) => add_bytes(items, document, meant, &bytes),
+        Some(bytes) => add_bytes(items, document, meant, &bytes, effort),
         None => Ok(()),
     }
 }
@@ -170,6 +174,7 @@ fn add_bytes(
     document: &Document<'_>,
     meant: &[MeantText],
     bytes: &[u8],
+    effort: Option<&Effort>,
 ) -> Result<(), AllocError> {
     match parse_script(items.alloc(), bytes) {
         Ok(value) => {
@@ -180,7 +185,7 @@ fn add_bytes(
                 value: &value,
                 whole: document.whole,
             };
-            add_answer(items, &other)
+            add_answer(items, &other, effort)
         }
         Err(ParseFault::NoMemory) => Err(AllocError),
         Err(ParseFault::Refused(_)) => Ok(()),
@@ -252,34 +257,104 @@ fn put_one(text: &mut TextBuilder, bytes: &[u8], one: &MeantText) {
     text.put(" (line ").put_number(line).put(")");
 }
 
-/// Tells the answer of a script, and which of its calls are refused; or that it is refused itself.
-fn add_answer(items: &mut Items, document: &Document<'_>) -> Result<(), AllocError> {
-    match read_script(items.alloc(), document.value) {
-        Ok(script) => add_script(items, document, &script),
+/// Tells what the script has once refused calls are made on the nodes that they may mean, if some
+/// do; else once the calls are moved that stand too early.
+pub(crate) fn add_called_otherwise(
+    items: &mut Items,
+    document: &Document<'_>,
+    scenario: &Scenario<'_>,
+    story: &Story<'_>,
+) -> Result<(), AllocError> {
+    let Some(value) = list_meant(items, document.value, story)? else {
+        return add_moved(items, document, scenario, story);
+    };
+    let other = Document {
+        file: document.file,
+        bytes: document.bytes,
+        value: &value,
+        whole: document.whole,
+    };
+    add_answer(items, &other, Some(scenario.effort))
+}
+
+/// Tells what the script has once the calls are moved that stand too early, if some do.
+fn add_moved(
+    items: &mut Items,
+    document: &Document<'_>,
+    scenario: &Scenario<'_>,
+    story: &Story<'_>,
+) -> Result<(), AllocError> {
+    let Some(value) = list_moved(items, document.value, story)? else {
+        return Ok(());
+    };
+    let other = Document {
+        file: document.file,
+        bytes: &[],
+        value: &value,
+        whole: document.whole,
+    };
+    add_answer(items, &other, Some(scenario.effort))
+}
+
+/// Tells the answer of a script, which of its calls are refused, and what would help its domains; or
+/// that it is refused itself. What is tried costs of this, or as much as of a script by itself.
+fn add_answer(
+    items: &mut Items,
+    document: &Document<'_>,
+    effort: Option<&Effort>,
+) -> Result<(), AllocError> {
+    let alloc = items.alloc();
+    match read_script(alloc, document.value) {
+        Ok(script) => match effort {
+            Some(effort) => add_script(items, document, &script, effort),
+            None => {
+                let effort = Effort::new(alloc, &script.platform, &script.calls)?;
+                add_script(items, document, &script, &effort)
+            }
+        },
         Err(ParseFault::NoMemory) => Err(AllocError),
         Err(ParseFault::Refused(fault)) => add_refusal(items, document, fault),
     }
 }
 
-/// Tells the answer of a script that isn't refused, and which of its calls are.
+/// Tells the answer of a script that isn't refused, which of its calls are, and what would help its
+/// domains.
 fn add_script<'a>(
     items: &mut Items,
     document: &Document<'a>,
     script: &Script<'a>,
+    effort: &Effort,
 ) -> Result<(), AllocError> {
     let alloc = items.alloc();
-    let effort = Effort::new(alloc, &script.platform, &script.calls)?;
     let scenario = Scenario {
         platform: &script.platform,
         calls: &script.calls,
-        effort: &effort,
+        effort,
     };
     let told = scenario.tell(alloc, &script.calls)?;
     if told.report.starved {
         return Err(AllocError);
     }
     let story = story_of(alloc, document.value, &script.calls, &told)?;
-    add_in_short(items, &script.platform, &story)
+    add_in_short(items, &story)?;
+    add_domains_then(items, document, &scenario, &story)
+}
+
+/// Tells why each domain has no settings, or none with an earlier child, and what would help.
+fn add_domains_then(
+    items: &mut Items,
+    document: &Document<'_>,
+    scenario: &Scenario<'_>,
+    story: &Story<'_>,
+) -> Result<(), AllocError> {
+    for (index, domain) in story.domains.iter().enumerate() {
+        add_shortly(items, scenario.platform, story, index)?;
+        if domain.became != Became::Chosen && !scenario.effort.is_spent() {
+            let levels = LEVELS.saturating_sub(1);
+            add_help_then(items, document, scenario, story, index, levels)?;
+        }
+    }
+    Ok(())
 }
 
 /// Tells that a script is refused, and for what.

@@ -1,14 +1,12 @@
 //! What became of each domain, why, and what would help.
 
 use crate::entries::add_unused;
+use crate::helping::{LEVELS, list_help};
 use constraint_changes::{Group, add_together, list_changes};
 use constraint_edits::edits_on;
 use domain_reasons::add_domain;
 use explanation_text::Items;
-use other_outcomes::{
-    add_ended_later, add_heaps, add_later_children, add_later_pairs, add_platform, add_then,
-    add_without,
-};
+use other_outcomes::{add_heaps, add_platform};
 use script_faults::Document;
 use script_story::{Became, Scenario, Story, asked_in};
 use std::alloc::AllocError;
@@ -24,45 +22,15 @@ pub(crate) fn add_domains(
         if !story.order.get(..k).unwrap_or(&[]).contains(index) {
             add_domain(items, scenario.platform, story, *index)?;
             add_unused(items, document, scenario, story, *index)?;
-            add_helps(items, document, scenario, story, *index)?;
+            list_help(items, document, scenario, story, *index, LEVELS)?;
         }
     }
     Ok(())
 }
 
-/// Tells what would help a domain that is pending or empty, and what else one could be that is
-/// chosen.
-fn add_helps(
-    items: &mut Items,
-    document: &Document<'_>,
-    scenario: &Scenario<'_>,
-    story: &Story<'_>,
-    index: usize,
-) -> Result<(), AllocError> {
-    let Some(domain) = story.domains.get(index) else {
-        return Ok(());
-    };
-    let path = story.path(domain.root);
-    match domain.became {
-        Became::Pending => {
-            add_then(items, scenario, story, path)?;
-            add_without(items, scenario, story, index, path)
-        }
-        Became::Empty => {
-            add_ended_later(items, scenario, story, index, path)?;
-            add_edits(items, document, scenario, story, index)
-        }
-        Became::Chosen => {
-            add_later_children(items, scenario, story, index, path)?;
-            add_later_pairs(items, scenario, story, index, path)
-        }
-        _ => Ok(()),
-    }
-}
-
 /// Tells what would help an empty domain: one change of a participant, or else some together, and a
 /// pair that the platform lacks.
-fn add_edits(
+pub(crate) fn add_edits(
     items: &mut Items,
     document: &Document<'_>,
     scenario: &Scenario<'_>,

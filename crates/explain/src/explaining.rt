@@ -5,7 +5,7 @@ ghost use Rattle.std.specs.String.{string_bytes};
 ghost use Rattle.explain.specs.Lines.{IsToldBy, item_texts};
 ghost use Rattle.explain.specs.Wanted.{AreThere};
 
-use crate::corrected::{add_corrected, meant_in};
+use crate::corrected::{add_called_otherwise, add_corrected, meant_in};
 use crate::domains::add_domains;
 use crate::json::{PlayedScript, Scene, objects_of};
 use crate::lines::with_lines;
@@ -14,7 +14,6 @@ use domain_reasons::answer_of;
 use explanation_text::{
     Item, Items, Kind, Span, TextBuilder, column_of, line_of, repeated_keys, text_of,
 };
-use other_outcomes::add_moved;
 use script_faults::{Document, Whole, add_fault, add_no_json};
 use script_reading::{ParseFault, Script, ScriptFault, parse_script, read_script};
 use script_story::{Became, Effort, Scenario, Story, list_refused, refused_calls, story_of};
@@ -215,7 +214,7 @@ fn fault_items(
     let told = told.into_list()?;
     let meant = meant_in(alloc, document, &told)?;
     let mut items = with_repeats(alloc, document, told)?;
-    add_corrected(&mut items, document, &meant)?;
+    add_corrected(&mut items, document, &meant, None)?;
     Ok(items)
 }
 
@@ -299,8 +298,8 @@ fn add_story(
 ) -> Result<(), AllocError> {
     items.push(Kind::Answer, 0, "", answer_of(items.alloc(), story));
     add_repeats(items, document)?;
-    add_calls(items, document, story)?;
-    add_moved(items, scenario, document.value, story)?;
+    add_calls(items, document, story, scenario.effort)?;
+    add_called_otherwise(items, document, scenario, story)?;
     add_domains(items, document, scenario, story)?;
     add_untold(items, scenario.effort);
     Ok(())
@@ -324,6 +323,7 @@ fn add_calls(
     items: &mut Items,
     document: &Document<'_>,
     story: &Story<'_>,
+    effort: &Effort,
 ) -> Result<(), AllocError> {
     let mut refused = Items::new(items.alloc());
     list_refused(&mut refused, document, story)?;
@@ -332,7 +332,7 @@ fn add_calls(
     for item in refused {
         items.add(item);
     }
-    add_corrected(items, document, &meant)
+    add_corrected(items, document, &meant, Some(effort))
 }
 
 fn outcome_of(story: &Story<'_>) -> Outcome {

@@ -14,6 +14,7 @@ mod corrected;
 mod domains;
 mod entries;
 mod explaining;
+mod helping;
 mod json;
 mod lines;
 mod page;

@@ -119,7 +119,8 @@ fn rows_of(
             continue;
         }
         if let Some(number) = story.milestone(node, Milestone::SetConstraints) {
-            let lines = lines_of(alloc, document, &fields, number)?;
+            let left = without_placed(alloc, told, &fields, number)?;
+            let lines = lines_of(alloc, document, &left, number)?;
             if !lines.is_empty() {
                 let mut text = TextBuilder::of_name(alloc, story.called(node));
                 text.put(": ").put_text(&lines);
@@ -145,6 +146,52 @@ fn fields_in(alloc: Global, told: &[Item]) -> Result<Vec<Field>, AllocError> {
         }
     }
     Ok(fields)
+}
+
+/// Those of some fields whose lines no change of the constraints of a call tells.
+fn without_placed(
+    alloc: Global,
+    told: &[Item],
+    fields: &[Field],
+    number: usize,
+) -> Result<Vec<Field>, AllocError> {
+    let mut left = Vec::new(alloc);
+    for field in fields {
+        if !told.iter().any(|item| places(item, number, *field)) {
+            left.push(*field)?;
+        }
+    }
+    Ok(left)
+}
+
+/// Whether an item tells a change of a field that the constraints of a call state, with its lines:
+/// `encoder (call 7, line 23): max_size 1920x1088 becomes 4096x2160`.
+fn places(item: &Item, number: usize, field: Field) -> bool {
+    let is_change = item.label == "and" || item.label.ends_with('.');
+    let call = first_byte_of(item, Thing::Call(number));
+    let (Some(call), Some(at)) = (call, first_byte_of(item, Thing::Field(field))) else {
+        return false;
+    };
+    let is_stated = is_after(item, " becomes ", at) || item.text.ends_with(" left out");
+    is_change && is_stated && is_after(item, ", line", call)
+}
+
+/// Where an item names a thing first.
+fn first_byte_of(item: &Item, thing: Thing) -> Option<usize> {
+    for mention in &item.mentions {
+        if mention.thing == thing {
+            return Some(mention.at);
+        }
+    }
+    None
+}
+
+/// Whether some words stand after a byte of an item's text, behind which no participant is named.
+fn is_after(item: &Item, words: &str, at: usize) -> bool {
+    match item.text.rfind(words) {
+        Some(found) => found > at,
+        None => false,
+    }
 }
 
 /// The fields of some that the constraints of a call state, each with its line.

@@ -1,2 +1,4 @@
 pub mod Exchanged
 pub mod Moved
+pub mod Shorter
+pub mod Earlier

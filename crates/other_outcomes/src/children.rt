@@ -52,6 +52,7 @@ fn try_exchanged(
     };
     add_exchanged(items, story, pair);
     put_promised(items, scenario, path, line);
+    add_choice(items, story, pair);
     Ok(())
 }
 
@@ -63,6 +64,16 @@ fn add_exchanged(items: &mut Items, story: &Story<'_>, pair: Siblings) {
     words.call(pair.first).put(" and ");
     words.call(pair.second).put(" it would be:");
     items.say(1, "then", words)
+}
+
+/// Tells which child its group chooses then: the later one.
+fn add_choice(items: &mut Items, story: &Story<'_>, pair: Siblings) {
+    let mut words = TextBuilder::new(items.alloc());
+    if let Some(group) = story.parent(pair.later) {
+        words.name(story.called(group)).put(": ");
+    }
+    words.name(story.called(pair.later));
+    items.say(2, "choice", words)
 }
 
 /// The chosen child of each group of a domain that isn't attached, with each later child.

@@ -15,15 +15,15 @@ use std::alloc::{AllocError, Global};
 use value_sources::NamedParticipant;
 
 /// Over how many calls one is moved at most: for each of these the calls are gone through.
-const FARTHEST: usize = 256;
+pub(crate) const FARTHEST: usize = 256;
 /// How many who end later are looked at.
 const MOST: usize = 8;
 
-/// Somebody who is released or closed later, and the number of that call.
+/// Somebody who is released or closed, and the number of that call.
 #[derive(Clone, Copy)]
-struct End {
-    node: usize,
-    call: usize,
+pub(crate) struct End {
+    pub(crate) node: usize,
+    pub(crate) call: usize,
 }
 
 /// Tells who takes room in an attached domain's decision and is released or closed only after it,
@@ -109,7 +109,7 @@ fn later_ends(
 }
 
 /// The one of some participants whom the call of a number ends.
-fn ended_by(
+pub(crate) fn ended_by(
     story: &Story<'_>,
     participants: &[NamedParticipant<'_>],
     call: usize,
@@ -149,7 +149,8 @@ fn still_text(alloc: Global, story: &Story<'_>, ends: &[End]) -> TextBuilder {
     text
 }
 
-fn put_names(text: &mut TextBuilder, story: &Story<'_>, ends: &[End]) {
+/// Puts the names of those after a text.
+pub(crate) fn put_names(text: &mut TextBuilder, story: &Story<'_>, ends: &[End]) {
     let mut names = ListBuilder::new(text.alloc());
     for end in ends {
         names.add(story.called(end.node));
@@ -174,7 +175,7 @@ fn put_still(text: &mut TextBuilder, story: &Story<'_>, ends: &[End]) {
 }
 
 /// How those end: released, closed, or some so and some so.
-fn ending(story: &Story<'_>, ends: &[End]) -> &'static str {
+pub(crate) fn ending(story: &Story<'_>, ends: &[End]) -> &'static str {
     let mut closes = 0usize;
     for end in ends {
         match story.call(end.call) {
@@ -190,7 +191,7 @@ fn ending(story: &Story<'_>, ends: &[End]) -> &'static str {
 }
 
 /// Puts the numbers of the calls after a text: `call 18`, `calls 18 and 20`.
-fn put_calls(text: &mut TextBuilder, ends: &[End]) {
+pub(crate) fn put_calls(text: &mut TextBuilder, ends: &[End]) {
     text.put(if ends.len() == 1 { "call " } else { "calls " });
     for (k, end) in ends.iter().enumerate() {
         text.call(end.call).put(mark_after(k, ends.len()));
@@ -237,7 +238,7 @@ fn put_before<'a>(
 
 /// The calls with the one at a place right before that at an earlier one: each of those between is
 /// moved after it in turn.
-fn carried<'a>(
+pub(crate) fn carried<'a>(
     alloc: Global,
     calls: &[Call<'a>],
     from: usize,

@@ -1,25 +1,34 @@
 //! What would become of a script's domains otherwise: with calls moved that stand too early or too
-//! late, without those who are awaited, with a later child in the place of the chosen one, and on a
-//! platform that has a pair more, a pair first, or a heap that is contiguous or secure.
+//! late or made on the nodes that they may mean, without those who are awaited, with a later child in the place of the chosen one, with
+//! another group made first, and on a platform that has a pair more, a pair first, or a heap that is
+//! contiguous or secure.
 //!
 //! ```
-//! add_moved(&mut items, &scenario, &value, &story)?;
+//! let moved = list_moved(&mut items, &value, &story)?;
 //! print!(rt; "{}", text_of(rt.alloc(), &items.into_list()?)?)?;
 //! ```
 #![tactic(auto)]
 
 mod children;
+mod ended_earlier;
 mod ended_later;
+mod groups;
 mod heaps;
 mod later_pairs;
+mod meant;
 mod moved;
+mod otherwise;
 mod pending;
 mod platforms;
 
 pub use children::add_later_children;
+pub use ended_earlier::add_ended_earlier;
 pub use ended_later::add_ended_later;
+pub use groups::add_groups_exchanged;
 pub use heaps::add_heaps;
 pub use later_pairs::add_later_pairs;
-pub use moved::{add_moved, add_then};
+pub use meant::list_meant;
+pub use moved::{add_then, list_moved};
+pub use otherwise::{Otherwise, reordered};
 pub use pending::add_without;
 pub use platforms::add_platform;

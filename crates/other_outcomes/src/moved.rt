@@ -5,78 +5,40 @@ ghost use Rattle.std.specs.String.{string_bytes};
 ghost use Rattle.script_reading.specs.declared.call.Call.{Call as Called};
 ghost use Rattle.other_outcomes.specs.Moved.{IsMoved, IsPromisedMoved, moving};
 
-use domain_reasons::add_in_short;
+use crate::otherwise::{Otherwise, is_chosen, reordered};
 use explanation_text::{Items, ListBuilder, TextBuilder};
 use script_reading::{Call, ParseFault, read_script};
-use script_replay::ReplayedCalls;
-use script_story::{Move, Scenario, Story, moves_in, story_of};
+use script_story::{Move, Scenario, Story, moves_in};
 use serde_json::Value;
 use std::alloc::{AllocError, Global};
 
-/// Tells what would be refused and pending next, and what each domain would be, once the calls that
-/// stand too early are moved.
-pub fn add_moved(
+/// Tells which calls are to be moved since they stand too early, if some do, and gives the script in
+/// which they are, if that isn't refused.
+pub fn list_moved(
     items: &mut Items,
-    scenario: &Scenario<'_>,
     value: &Value,
     story: &Story<'_>,
-) -> Result<(), AllocError> {
-    let moves = moves_in(items.alloc(), story)?;
-    if moves.is_empty() {
-        return Ok(());
-    }
-    let other = reordered(items.alloc(), value, &moves)?;
-    add_reordered(items, scenario, &moves, &other)
-}
-
-/// Tells what a script does that is another one with some calls moved, if it isn't refused.
-fn add_reordered(
-    items: &mut Items,
-    scenario: &Scenario<'_>,
-    moves: &[Move],
-    value: &Value,
-) -> Result<(), AllocError> {
+) -> Result<Option<Value>, AllocError> {
     let alloc = items.alloc();
-    let script = match read_script(alloc, value) {
-        Ok(script) => script,
-        Err(ParseFault::NoMemory) => return Err(AllocError),
-        Err(ParseFault::Refused(_)) => return Ok(()),
-    };
-    let wider = Scenario {
-        platform: scenario.platform,
-        calls: &script.calls,
-        effort: scenario.effort,
-    };
-    let told = wider.tell(alloc, &script.calls)?;
-    if told.report.starved {
-        return Err(AllocError);
+    let moves = moves_in(alloc, story)?;
+    if moves.is_empty() {
+        return Ok(None);
     }
-    add_replayed(items, scenario, moves, value, &script.calls, &told)
+    let other = reordered(alloc, value, &order_of(alloc, story.calls.len(), &moves)?)?;
+    if !is_read(alloc, &other)? {
+        return Ok(None);
+    }
+    add_moves(items, &moves, " the script has, its calls numbered anew:");
+    Ok(Some(other))
 }
 
-/// Tells what calls do that are those of a script with some moved.
-fn add_replayed<'a>(
-    items: &mut Items,
-    scenario: &Scenario<'_>,
-    moves: &[Move],
-    value: &'a Value,
-    calls: &[Call<'a>],
-    told: &'a ReplayedCalls<'_>,
-) -> Result<(), AllocError> {
-    let then = story_of(items.alloc(), value, calls, told)?;
-    add_story(items, scenario, moves, &then)
-}
-
-/// Tells which calls are moved, what the answer is then, which calls are refused, and what has no
-/// settings.
-fn add_story(
-    items: &mut Items,
-    scenario: &Scenario<'_>,
-    moves: &[Move],
-    then: &Story<'_>,
-) -> Result<(), AllocError> {
-    add_moves(items, moves, " the script has, its calls numbered anew:");
-    add_in_short(items, scenario.platform, then)
+/// Whether a script isn't refused.
+pub(crate) fn is_read(alloc: Global, value: &Value) -> Result<bool, AllocError> {
+    match read_script(alloc, value) {
+        Ok(_) => Ok(true),
+        Err(ParseFault::NoMemory) => Err(AllocError),
+        Err(ParseFault::Refused(_)) => Ok(false),
+    }
 }
 
 /// Tells that calls are moved, with words after that.
@@ -96,31 +58,13 @@ fn put_moves(text: &mut TextBuilder, moves: &[Move]) {
     }
 }
 
-/// The script with its calls in the order that they have once some are moved.
-fn reordered(alloc: Global, value: &Value, moves: &[Move]) -> Result<Value, AllocError> {
-    let mut copy = value.clone()?;
-    if let Some(Value::Array(calls)) = copy.get_mut("calls") {
-        let list = in_order(alloc, calls, moves)?;
-        *calls = list;
-    }
-    Ok(copy)
-}
-
-/// Calls in the order that they have once some are moved.
-fn in_order(alloc: Global, calls: &[Value], moves: &[Move]) -> Result<Vec<Value>, AllocError> {
-    let order = order_of(alloc, calls.len(), moves)?;
-    let mut list = ListBuilder::new(alloc);
-    for place in &order {
-        if let Some(call) = calls.get(*place) {
-            list.add(call.clone()?);
-        }
-    }
-    list.done()
-}
-
 /// The places of so many calls, from 0, in the order that they have once some are moved, from the
 /// last on.
-fn order_of(alloc: Global, count: usize, moves: &[Move]) -> Result<Vec<usize>, AllocError> {
+pub(crate) fn order_of(
+    alloc: Global,
+    count: usize,
+    moves: &[Move],
+) -> Result<Vec<usize>, AllocError> {
     let mut order: Vec<usize> = (0..count).collect(alloc)?;
     for one in moves.iter().rev() {
         let next = order_after(alloc, &order, *one)?;
@@ -194,7 +138,11 @@ pub(crate) fn step<'a>(
 }
 
 /// The calls once some are moved, from the last on.
-fn moved<'a>(alloc: Global, calls: &[Call<'a>], moves: &[Move]) -> Result<Vec<Call<'a>>, AllocError>
+pub(crate) fn moved<'a>(
+    alloc: Global,
+    calls: &[Call<'a>],
+    moves: &[Move],
+) -> Result<Vec<Call<'a>>, AllocError>
     ensures { IfOk result (λ made. IsMoved calls.now made.items) }
 {
     let mut made = Vec::from_slice(alloc, calls)?;
@@ -211,7 +159,7 @@ fn moved<'a>(alloc: Global, calls: &[Call<'a>], moves: &[Move]) -> Result<Vec<Ca
 }
 
 /// What the domain at a path becomes once calls are moved.
-fn outcome_moved(
+pub(crate) fn outcome_moved(
     alloc: Global,
     scenario: &Scenario<'_>,
     moves: &[Move],
@@ -225,25 +173,50 @@ fn outcome_moved(
 }
 
 /// Tells what the domain at a path would be once the calls that stand too early are moved, if that
-/// is decided then and isn't now.
-pub fn add_then(
+/// is decided then and isn't now, and says with which calls.
+pub fn add_then<'a>(
     items: &mut Items,
-    scenario: &Scenario<'_>,
+    scenario: &Scenario<'a>,
     story: &Story<'_>,
     path: &str,
-) -> Result<(), AllocError> {
+) -> Result<Option<Otherwise<'a>>, AllocError> {
     let moves = moves_in(items.alloc(), story)?;
     if moves.is_empty() || make_name(story, &moves) {
-        return Ok(());
+        return Ok(None);
     }
     match outcome_moved(items.alloc(), scenario, &moves, path)? {
         Some(line) if line.as_str() != "pending" => {
-            add_moves(items, &moves, " it would be:");
+            let then = with_moves(items.alloc(), scenario, &moves, &line)?;
+            add_moves(items, &moves, ending_of(is_chosen(&line)));
             put_promised(items, scenario, path, line);
+            Ok(Some(then))
         }
-        _ => {}
+        _ => Ok(None),
     }
-    Ok(())
+}
+
+/// What stands before the decision that comes once calls are moved, and before what is told of these
+/// calls where nothing is chosen.
+fn ending_of(is_chosen: bool) -> &'static str {
+    if is_chosen {
+        " it would be:"
+    } else {
+        " it would be, with the calls numbered anew:"
+    }
+}
+
+/// The calls once some are moved, with which a report's line says this of a domain.
+pub(crate) fn with_moves<'a>(
+    alloc: Global,
+    scenario: &Scenario<'a>,
+    moves: &[Move],
+    line: &str,
+) -> Result<Otherwise<'a>, AllocError> {
+    Ok(Otherwise {
+        calls: moved(alloc, scenario.calls, moves)?,
+        order: order_of(alloc, scenario.calls.len(), moves)?,
+        is_chosen: is_chosen(line),
+    })
 }
 
 /// Whether a call that is moved makes a name: then the names stand in another order.

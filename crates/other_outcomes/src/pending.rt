@@ -1,5 +1,6 @@
 //! What would be decided of a domain without those who are awaited.
 
+use crate::otherwise::{Otherwise, is_chosen};
 use domain_reasons::who_holds_up;
 use explanation_text::wording::{MOST_NAMES, put_few};
 use explanation_text::{Items, Name, TextBuilder};
@@ -7,41 +8,50 @@ use script_reading::{Act, Call};
 use script_story::{Scenario, Story};
 use std::alloc::{AllocError, Global};
 
-/// Tells what the domain of an index would be if nobody who is awaited stated anything. Groups
-/// without a child are left out: a child would be made up.
-pub fn add_without(
+/// Tells what the domain of an index would be if nobody who is awaited stated anything, and says
+/// with which calls. Groups without a child are left out: a child would be made up.
+pub fn add_without<'a>(
     items: &mut Items,
-    scenario: &Scenario<'_>,
-    story: &Story<'_>,
+    scenario: &Scenario<'a>,
+    story: &Story<'a>,
     index: usize,
     path: &str,
-) -> Result<(), AllocError> {
+) -> Result<Option<Otherwise<'a>>, AllocError> {
     let awaited = who_holds_up(items.alloc(), story, index)?;
     if awaited.is_empty() || scenario.effort.is_spent() {
-        return Ok(());
+        return Ok(None);
     }
     match without(items.alloc(), scenario, story, &awaited)? {
-        Some(calls) => add_with(items, scenario, story, &awaited, &calls, path),
-        None => Ok(()),
+        Some(calls) => add_with(items, scenario, story, &awaited, calls, path),
+        None => Ok(None),
     }
 }
 
 /// Tells what the domain at a path would be with these calls, by which nobody is awaited.
-fn add_with(
+fn add_with<'a>(
     items: &mut Items,
-    scenario: &Scenario<'_>,
+    scenario: &Scenario<'a>,
     story: &Story<'_>,
     awaited: &[usize],
-    calls: &[Call<'_>],
+    calls: Vec<Call<'a>>,
     path: &str,
-) -> Result<(), AllocError> {
-    match scenario.outcome(items.alloc(), calls, path)? {
+) -> Result<Option<Otherwise<'a>>, AllocError> {
+    let alloc = items.alloc();
+    match scenario.outcome(alloc, &calls, path)? {
         Some(line) if line.as_str() != "pending" => {
             add_ended(items, story, awaited, " it would be:")?;
+            let chooses = is_chosen(&line);
             items.promise(2, line);
-            Ok(())
+            Ok(Some(Otherwise {
+                calls,
+                order: Vec::new(alloc),
+                is_chosen: chooses,
+            }))
         }
-        _ => add_ended(items, story, awaited, " it would wait still"),
+        _ => {
+            add_ended(items, story, awaited, " it would wait still")?;
+            Ok(None)
+        }
     }
 }
 

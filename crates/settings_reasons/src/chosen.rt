@@ -4,7 +4,7 @@ use crate::listed::listed_before;
 use crate::offer_words::{least_side, offer_name};
 use crate::offering::{are_refused, offers_of};
 use crate::placing::{place_name, places_of};
-use crate::refusing::{add_offers, place_rows};
+use crate::refusing::{add_no_image, add_offers, place_rows};
 use crate::rows::add_rows;
 use explanation_text::{Items, TextBuilder};
 use negotiation_inputs::Platform;
@@ -142,15 +142,32 @@ fn add_offer(
     items.say(1, "image", name);
     let offers = offers_of(alloc, platform)?;
     let earlier = before(&offers, &settings.offer);
+    let images = add_image(items, participants, earlier)?;
     add_offers(
         items,
         platform,
         participants,
-        earlier,
+        images,
         "not ",
         "offers before it",
     )?;
     add_listed(items, platform, participants, settings)
+}
+
+/// Tells why there has to be an image, if these offers were refused of which the first is none; says
+/// which of them are images.
+fn add_image<'b>(
+    items: &mut Items,
+    participants: &[NamedParticipant<'_>],
+    refused: &'b [Offer],
+) -> Result<&'b [Offer], AllocError> {
+    match refused.split_first() {
+        Some((none, images)) if *none == Offer::NoImage => {
+            add_no_image(items, participants)?;
+            Ok(images)
+        }
+        _ => Ok(refused),
+    }
 }
 
 /// Tells who refuses each pair that participants list before the chosen one, where all its offers
@@ -185,7 +202,7 @@ fn add_refused_pair(
             platform,
             participants,
             &offers,
-            "nor ",
+            "not ",
             "offers after it",
         );
     }

@@ -74,7 +74,7 @@ impl<'a> Model for OfferReason<'a> {
 }
 
 impl<'a> OfferReason<'a> {
-    /// All who have entries and none for an offer; `None` where each has one.
+    /// All who have entries and none for an offer; `None` where nobody is so.
     pub(crate) fn without_entry(
         alloc: Global,
         offer: &Offer,

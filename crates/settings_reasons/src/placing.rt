@@ -107,18 +107,66 @@ fn put_needs(
         .put(")");
 }
 
-/// Puts which heaps participants permit after a text; of several with other lists only that it
-/// isn't this one.
+/// How many lists of heaps are told.
+const MOST_LISTS: usize = 3;
+
+/// Puts which heaps participants permit after a text, those together who state the same ones; of the
+/// others only that this one isn't among them.
 fn put_permits(text: &mut TextBuilder, participants: &[NamedParticipant<'_>]) {
-    let [one] = participants else {
-        return put_has(
+    let mut told = ListBuilder::new(text.alloc());
+    let mut others = ListBuilder::new(text.alloc());
+    for one in participants {
+        if states_list(told.list(), one) {
+            continue;
+        }
+        if told.list().len() < MOST_LISTS {
+            told.add(*one);
+            put_permitting(text, participants, one);
+        } else {
+            others.add(*one);
+        }
+    }
+    match (told.done(), others.done()) {
+        (Ok(_), Ok(others)) => put_those(
             text,
-            participants,
+            &others,
             "doesn't permit this heap",
             "don't permit this heap",
-        );
-    };
-    put_has(text, participants, "permits only", "permit only");
+        ),
+        _ => text.refuse(),
+    }
+}
+
+/// Whether one of some participants permits the heaps that another one does, in the same order.
+fn states_list(participants: &[NamedParticipant<'_>], other: &NamedParticipant<'_>) -> bool {
+    for one in participants {
+        if have_one_list(one, other) {
+            return true;
+        }
+    }
+    false
+}
+
+fn have_one_list(one: &NamedParticipant<'_>, other: &NamedParticipant<'_>) -> bool {
+    one.asked.memory().permitted_heaps == other.asked.memory().permitted_heaps
+}
+
+/// Puts that those permit only what one of them does after a text.
+fn put_permitting(
+    text: &mut TextBuilder,
+    participants: &[NamedParticipant<'_>],
+    one: &NamedParticipant<'_>,
+) {
+    let mut those = ListBuilder::new(text.alloc());
+    for other in participants {
+        if have_one_list(other, one) {
+            those.add(*other);
+        }
+    }
+    match those.done() {
+        Ok(those) => put_those(text, &those, "permits only", "permit only"),
+        Err(AllocError) => text.refuse(),
+    }
     put_heaps(text, &one.asked.memory().permitted_heaps)
 }
 

@@ -117,6 +117,21 @@ pub(crate) fn add_offers(
     Ok(())
 }
 
+/// Tells why there has to be an image: who refuses to have none.
+pub(crate) fn add_no_image(
+    items: &mut Items,
+    participants: &[NamedParticipant<'_>],
+) -> Result<(), AllocError> {
+    let alloc = items.alloc();
+    let refused = refused_by(alloc, &Offer::NoImage, participants, true, false)?;
+    let mut words = TextBuilder::of(alloc, "there has to be an image");
+    for reason in &refused.texts {
+        words.put(": ").put_text(reason);
+    }
+    items.say(2, "", words);
+    Ok(())
+}
+
 /// An offer that is refused, and why.
 #[derive(Drop)]
 struct RefusedOffer {

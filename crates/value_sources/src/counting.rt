@@ -81,8 +81,8 @@ fn greatest<'a>(
     Some((*participant, most))
 }
 
-/// What participants hold together.
-fn held(participants: &[NamedParticipant<'_>]) -> u64 {
+/// How many buffers participants hold together, with the greatest shared slack.
+pub fn held(participants: &[NamedParticipant<'_>]) -> u64 {
     let shared = match greatest(participants, CountPart::Shared) {
         Some((_, value)) => u64::from(value),
         None => 0,
@@ -90,6 +90,16 @@ fn held(participants: &[NamedParticipant<'_>]) -> u64 {
     total(participants, CountPart::Camping)
         .saturating_add(total(participants, CountPart::Dedicated))
         .saturating_add(shared)
+}
+
+/// Who holds them, as a sum of named parts.
+pub fn why_held(alloc: Global, participants: &[NamedParticipant<'_>]) -> TextBuilder {
+    let mut words = TextBuilder::new(alloc);
+    if held(participants) == 0 {
+        words.put("nobody asks to hold one");
+    }
+    put_held(&mut words, participants);
+    words
 }
 
 /// Puts what participants hold together after a text, as a sum of named parts.
@@ -166,8 +176,9 @@ fn put_sum(text: &mut TextBuilder, mark: &str, parts: &[Text], word: &str) {
     text.put(" (").put(word).put(")");
 }
 
-/// The least count that the participants need.
-fn needed(participants: &[NamedParticipant<'_>]) -> u64 {
+/// The least count that the participants need: what they hold, and no fewer than any of them asks
+/// for.
+pub fn needed(participants: &[NamedParticipant<'_>]) -> u64 {
     let least = match greatest(participants, CountPart::Minimum) {
         Some((_, value)) => u64::from(value),
         None => 0,

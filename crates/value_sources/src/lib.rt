@@ -15,7 +15,7 @@ mod participant;
 mod sizes;
 mod wishes;
 
-pub use counting::{MOST_COUNTED, count_text, is_count_line, why_needed};
+pub use counting::{MOST_COUNTED, count_text, held, is_count_line, needed, why_held, why_needed};
 pub use participant::{NamedParticipant, put_has, put_participants};
 pub use sizes::{DerivedNumber, format_words};
 pub use wishes::{Side, Wish, Wishes};

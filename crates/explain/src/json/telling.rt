@@ -50,7 +50,8 @@ impl<'a, 'b> Telling<'a, 'b> {
     fn object(&mut self, item: &Item) -> Result<Object, AllocError> {
         let alloc = *item.text.allocator();
         let mut object = Object::new(alloc);
-        if self.is_below_then(item) {
+        let is_of_other = self.is_below_then(item) && item.kind == Kind::Words;
+        if is_of_other {
             put_form(&mut object, item)?;
         } else {
             put_item(&mut object, &self.scene, item)?;
@@ -58,7 +59,7 @@ impl<'a, 'b> Telling<'a, 'b> {
         match item.kind {
             Kind::Title => self.begin(&mut object, item)?,
             Kind::Decision => self.decide(&mut object, item)?,
-            Kind::Words => self.keep(item)?,
+            Kind::Words if !is_of_other => self.keep(item)?,
             _ => {}
         }
         if let Some(root) = self.root {
@@ -67,11 +68,11 @@ impl<'a, 'b> Telling<'a, 'b> {
         Ok(object)
     }
 
-    /// Whether these are words on what calls would do that are made otherwise: the numbers and
-    /// names in them are of another script.
+    /// Whether an item tells what calls would do that are made otherwise: the numbers and names in
+    /// its words are of another script.
     fn is_below_then(&mut self, item: &Item) -> bool {
         match self.then {
-            Some(depth) if item.depth > depth && item.kind == Kind::Words => true,
+            Some(depth) if item.depth > depth => true,
             _ => {
                 self.then = if item.label == "then" {
                     Some(item.depth)
@@ -131,14 +132,14 @@ impl<'a, 'b> Telling<'a, 'b> {
         Ok(())
     }
 
-    /// Puts a decision, and the changes with which it would come.
+    /// Puts a decision, and the changes with which it would come, in the section of a domain.
     fn decide(&mut self, object: &mut Object, item: &Item) -> Result<(), AllocError> {
-        let alloc = object.alloc();
-        let changes = mem::replace(&mut self.changes, Vec::new(alloc));
-        object.list("changes", changes)?;
         let (Some(root), Some(played)) = (self.root, self.scene.played) else {
             return Ok(());
         };
+        let alloc = object.alloc();
+        let changes = mem::replace(&mut self.changes, Vec::new(alloc));
+        object.list("changes", changes)?;
         let path = played.story.path(root);
         let name = played.story.name(root);
         let told = decision_object(alloc, played.platform, path, Some(name), &item.text)?;

@@ -1,0 +1,249 @@
+//! What would help a domain; and where calls made otherwise leave it without settings, why, and what
+//! would help then.
+
+ghost use Rattle.std.specs.Prelude.{◌≡◌};
+
+use crate::domains::add_edits;
+use domain_reasons::{add_domain, choices_in};
+use explanation_text::{Item, Items, Kind};
+use other_outcomes::{
+    Otherwise, add_ended_earlier, add_ended_later, add_groups_exchanged, add_later_children,
+    add_later_pairs, add_then, add_without, reordered,
+};
+use script_faults::Document;
+use script_story::{Became, Scenario, Story, story_of};
+use std::alloc::{AllocError, Global};
+
+/// How many lines are told of why a domain has no settings.
+const MOST: usize = 12;
+
+/// How often a story goes on at most.
+pub(crate) const LEVELS: usize = 3;
+
+/// The domain at a path, whose story goes on so often at most.
+#[derive(Clone, Copy)]
+struct Place<'a> {
+    path: &'a str,
+    levels: usize,
+    /// Whether there are groups, whose children are chosen.
+    has_groups: bool,
+}
+
+/// Tells what would help a domain that is pending or empty, and what else one could be that is
+/// chosen; of calls made otherwise that choose nothing it goes on so often at most.
+#[cycle(list_help)]
+pub(crate) fn list_help(
+    items: &mut Items,
+    document: &Document<'_>,
+    scenario: &Scenario<'_>,
+    story: &Story<'_>,
+    index: usize,
+    levels: usize,
+) -> Result<(), AllocError> {
+    let Some(domain) = story.domains.get(index) else {
+        return Ok(());
+    };
+    let path = story.path(domain.root);
+    let place = place_of(story, path, levels);
+    match domain.became {
+        Became::Pending => {
+            let then = add_then(items, scenario, story, path)?;
+            if levels < LEVELS || chooses(&then) {
+                add_further(items, document, scenario, then, place)?;
+            } else {
+                add_above(items, &then);
+            }
+            let then = add_without(items, scenario, story, index, path)?;
+            add_further(items, document, scenario, then, place)
+        }
+        Became::Empty => {
+            add_ended_later(items, scenario, story, index, path)?;
+            add_edits(items, document, scenario, story, index)
+        }
+        Became::Chosen => {
+            let once = place_of(story, path, if levels > 0 { 1 } else { 0 });
+            let then = add_ended_earlier(items, scenario, story, index, path)?;
+            add_further(items, document, scenario, then, once)?;
+            let then = add_groups_exchanged(items, scenario, document.value, story, index, path)?;
+            add_further(items, document, scenario, then, once)?;
+            add_later_children(items, scenario, story, index, path)?;
+            add_later_pairs(items, scenario, story, index, path)
+        }
+        _ => Ok(()),
+    }
+}
+
+/// The domain at a path of a story, which goes on so often at most.
+fn place_of<'a>(story: &Story<'_>, path: &'a str, levels: usize) -> Place<'a>
+    ensures { result.levels ≡ levels }
+{
+    Place {
+        path,
+        levels,
+        has_groups: are_groups(story),
+    }
+}
+
+/// Whether one of the nodes is a group.
+fn are_groups(story: &Story<'_>) -> bool {
+    for node in 0..story.nodes.len() {
+        if story.is_group(node) {
+            return true;
+        }
+    }
+    false
+}
+
+/// Whether settings are chosen where calls are made otherwise.
+fn chooses(then: &Option<Otherwise<'_>>) -> bool {
+    match then {
+        Some(then) => then.is_chosen,
+        None => false,
+    }
+}
+
+/// Tells where it is told why calls that are moved choose nothing, if some are.
+fn add_above(items: &mut Items, then: &Option<Otherwise<'_>>) {
+    if then.is_some() {
+        items.list_text(
+            2,
+            "",
+            "why, and what would help, stands with the calls to look at",
+        )
+    }
+}
+
+/// Goes on with the domain at a path where these calls are made: which children are chosen; or why
+/// there are no settings, and what would help then.
+#[cycle(list_help)]
+fn add_further(
+    items: &mut Items,
+    document: &Document<'_>,
+    scenario: &Scenario<'_>,
+    then: Option<Otherwise<'_>>,
+    place: Place<'_>,
+) -> Result<(), AllocError> {
+    let Some(then) = then else {
+        return Ok(());
+    };
+    let Some(levels) = place.levels.checked_sub(1) else {
+        return Ok(());
+    };
+    let is_all = then.is_chosen && !place.has_groups;
+    if is_all || scenario.effort.is_spent() {
+        return Ok(());
+    }
+    let place = Place { levels, ..place };
+    if then.order.is_empty() {
+        return add_made(items, document, scenario, &then, place);
+    }
+    let value = reordered(items.alloc(), document.value, &then.order)?;
+    let other = Document {
+        file: document.file,
+        bytes: &[],
+        value: &value,
+        whole: document.whole,
+    };
+    add_made(items, &other, scenario, &then, place)
+}
+
+/// The same, with the calls where the document has them.
+#[cycle(list_help)]
+fn add_made(
+    items: &mut Items,
+    document: &Document<'_>,
+    scenario: &Scenario<'_>,
+    then: &Otherwise<'_>,
+    place: Place<'_>,
+) -> Result<(), AllocError> {
+    let alloc = items.alloc();
+    let other = Scenario {
+        platform: &*scenario.platform,
+        calls: &then.calls,
+        effort: &*scenario.effort,
+    };
+    let told = other.tell(alloc, &then.calls)?;
+    if told.report.starved {
+        return Err(AllocError);
+    }
+    let story = story_of(alloc, document.value, &then.calls, &told)?;
+    match index_at(&story, place.path) {
+        Some(index) => add_index(items, document, &other, &story, index, place.levels),
+        None => Ok(()),
+    }
+}
+
+/// The domain at a path, by index.
+fn index_at(story: &Story<'_>, path: &str) -> Option<usize> {
+    for (index, domain) in story.domains.iter().enumerate() {
+        if story.path(domain.root) == path {
+            return Some(index);
+        }
+    }
+    None
+}
+
+/// The same of the domain of an index.
+#[cycle(list_help)]
+fn add_index(
+    items: &mut Items,
+    document: &Document<'_>,
+    scenario: &Scenario<'_>,
+    story: &Story<'_>,
+    index: usize,
+    levels: usize,
+) -> Result<(), AllocError> {
+    let Some(domain) = story.domains.get(index) else {
+        return Ok(());
+    };
+    let alloc = items.alloc();
+    if domain.became == Became::Chosen {
+        let choice = choices_in(alloc, story, domain.root, &domain.told)?;
+        if !choice.is_empty() {
+            items.add(Item::new(Kind::Words, 2, "choice", choice));
+        }
+        return Ok(());
+    }
+    let mut why = Items::new(alloc);
+    add_domain(&mut why, scenario.platform, story, index)?;
+    add_below(items, why, MOST)?;
+    add_help_then(items, document, scenario, story, index, levels)
+}
+
+/// Tells what would help a domain then, if the story is to go on.
+#[cycle(list_help)]
+pub(crate) fn add_help_then(
+    items: &mut Items,
+    document: &Document<'_>,
+    scenario: &Scenario<'_>,
+    story: &Story<'_>,
+    index: usize,
+    levels: usize,
+) -> Result<(), AllocError> {
+    if levels == 0 {
+        return Ok(());
+    }
+    let mut help = Items::new(items.alloc());
+    list_help(&mut help, document, scenario, story, index, levels)?;
+    add_below(items, help, usize::MAX)
+}
+
+/// Puts the items of a section one deeper after others, at most so many; without its title, and who
+/// has constraints.
+fn add_below(items: &mut Items, section: Items, most: usize) -> Result<(), AllocError> {
+    let mut count = 0usize;
+    for mut item in section.into_list()? {
+        if item.kind == Kind::Title || item.label == "who" {
+            continue;
+        }
+        count = count.saturating_add(1);
+        if count <= most {
+            item.depth = item.depth.saturating_add(1);
+            items.add(item);
+        }
+    }
+    if count > most {
+        items.list_text(2, "", "and more of this");
+    }
+    Ok(())
+}

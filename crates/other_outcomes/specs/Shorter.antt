@@ -1,0 +1,23 @@
+-- What is promised of a script's calls, of which some are left out.
+use Rattle.std.specs.Prelude.{◌+◌, ◌++◌, ◌<◌, ℕ, List, length, map, take, drop}
+use Rattle.negotiation_inputs.specs.Platform.{PlatformFacts}
+use Rattle.script_reading.specs.Seen.{call_seen}
+use Rattle.script_reading.specs.declared.call.Call.{Call}
+use Rattle.script_story.specs.Told.{IsReportedOn}
+
+-- the calls without the one at a place, from 0
+abbrev pub leaving_out : List Call → ℕ → List Call
+leaving_out calls place = take place calls ++ drop (place + 1) calls
+
+-- some of the calls are left out
+pub data IsShorter (calls : List Call) : List Call → Type 0 where
+  as_they_are : IsShorter calls calls
+  one_less : (others : List Call) (place : ℕ) → place < length others
+      → IsShorter calls others → IsShorter calls (leaving_out others place)
+
+-- without some calls, the report says this of the domain at a path
+pub record IsPromisedShorter (platform : PlatformFacts) (calls : List Call)
+    (path what : List ℕ) : Type 0 where
+  pub others : List Call
+  pub shorter : IsShorter calls others
+  pub reported : IsReportedOn platform (map call_seen others) path what
