@@ -20,7 +20,7 @@ use Rattle.negotiation_inputs.specs.Platform.{PlatformFacts}
 use Rattle.settings_reasons.specs.True.{AllOfSome, IsPlaceReason, LacksColour, LacksEntry, refuses}
 
 -- whether it is a field by which places are refused
-is_of_place : Field → Bool
+abbrev is_of_place : Field → Bool
 is_of_place PermittedHeaps = true
 is_of_place PhysicallyContiguousRequired = true
 is_of_place SecureRequired = true
