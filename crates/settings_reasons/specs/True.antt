@@ -1,12 +1,18 @@
 -- When a reason is true of the participants whom it names.
-use Rattle.std.specs.Prelude.{◌≡◌, ◌<◌, ℕ, Bool, true, false, List, [], ◌∷◌, All, Contains}
-use Rattle.std.specs.Prelude.{Option, Some, None, filter, filter_map, length}
+use Rattle.std.specs.Prelude.{◌≡◌, ◌⊎◌, ◌<◌, ◌≤◌, ℕ, Bool, true, false, not}
+use Rattle.std.specs.Prelude.{List, [], ◌∷◌, ◌++◌, All, Contains}
+use Rattle.std.specs.Prelude.{Option, Some, None, MatchOption, filter, filter_map, length, map}
 use Rattle.sysmem_counts.specs.declared.field.Field.{Field}
+use Rattle.sysmem_counts.specs.declared.field.Field.TheVariants.{MaxSizeBytes, UnnamedPixelFormat}
+use Rattle.sysmem_counts.specs.declared.field.Field.TheVariants.{UnnamedPixelFormatModifier}
+use Rattle.sysmem_counts.specs.declared.field.Field.TheVariants.{UnnamedColorSpace}
 use Rattle.sysmem_formats.specs.declared.offer.Offer.{Offer}
+use Rattle.sysmem_image.specs.Lines.{bounds_lines}
 use Rattle.sysmem_memory.specs.declared.domain.CoherencyDomain.{CoherencyDomain}
 use Rattle.sysmem_memory.specs.Heap.{HeapFacts}
 use Rattle.sysmem_memory.specs.PlaceTable.{place_fields, refuses_by}
 use Rattle.sysmem_merge.specs.Best.{IsUnmet}
+use Rattle.sysmem_merge.specs.Settings.{MeetsAs}
 use Rattle.offer_fits.specs.Demands.{offer_demand, offer_demands}
 use Rattle.offer_fits.specs.Offers.{has_format, has_colour}
 use Rattle.sysmem_merge.specs.OfferRead.{IsRefusingLine}
@@ -61,37 +67,106 @@ abbrev pub place_reasons : HeapFacts → CoherencyDomain → List Participant �
 place_reasons heap domain participants =
     filter_map (place_reason heap domain participants) place_fields
 
--- what is said against an offer of participants, who are all that there are if `whole` says so
+-- what is said against an offer, with participants of whom it is said
 pub record OfferRefusal : Type 0 where
   pub offer : Offer
-  pub whole : Bool
   pub ground : OfferGround
   pub participants : List Participant
 
--- the participant has entries, and none for the offer
-abbrev pub LacksEntry : Offer → Participant → Type 0
-LacksEntry offer one = has_format offer (offer_demand one) ≡ false
+-- whether the participant has entries, and none for the offer
+abbrev pub lacks_entry : Offer → Participant → Bool
+lacks_entry offer one = not (has_format offer (offer_demand one))
 
--- the participant's entry for the offer doesn't take its colour space
-abbrev pub LacksColour : Offer → Participant → Type 0
-LacksColour offer one = has_colour offer (offer_demand one) ≡ false
+-- whether the participant's entry for the offer doesn't take its colour space
+abbrev pub lacks_colour : Offer → Participant → Bool
+lacks_colour offer one = not (has_colour offer (offer_demand one))
+
+-- the line of the conflict table is true of the participants together, as all that there are
+abbrev pub IsTrueLine : Offer → List Participant → Field → Type 0
+IsTrueLine offer participants field = IsRefusingLine true offer (offer_demands participants) field
 
 -- it is true of them: each lacks an entry for the offer; or the entry of each lacks its colour
 -- space; or the line of the conflict table is true of all together
-abbrev pub IsGround : Offer → Bool → List Participant → OfferGround → Type 0
-IsGround offer whole participants NoEntry = AllOfSome (LacksEntry offer) participants
-IsGround offer whole participants NoColour = AllOfSome (LacksColour offer) participants
-IsGround offer whole participants (Line field) =
-    IsRefusingLine whole offer (offer_demands participants) field
+abbrev pub IsGround : Offer → List Participant → OfferGround → Type 0
+IsGround offer participants NoEntry =
+    AllOfSome (λ one. lacks_entry offer one ≡ true) participants
+IsGround offer participants NoColour =
+    AllOfSome (λ one. lacks_colour offer one ≡ true) participants
+IsGround offer participants (Line field) = IsTrueLine offer participants field
 
 -- what is said against the offer is true of the participants
 abbrev pub IsOfferReason : OfferRefusal → Type 0
-IsOfferReason r = IsGround r.offer r.whole r.participants r.ground
+IsOfferReason r = IsGround r.offer r.participants r.ground
 
--- it is said against this offer, where they are all that there are if `whole` says so
-pub record IsAgainst (o : Offer) (all : Bool) (r : OfferRefusal) : Type 0 where
-  pub offer : r.offer ≡ o
-  pub whole : r.whole ≡ all
+-- a ground with these participants, if they are some
+abbrev pub said_of : Offer → OfferGround → List Participant → Option OfferRefusal
+said_of offer ground [] = None
+said_of offer ground (one ∷ others) = Some (record {
+  offer = offer;
+  ground = ground;
+  participants = one ∷ others;
+})
+
+-- all who have entries and none for the offer, if they are some
+abbrev pub no_entry : Offer → List Participant → Option OfferRefusal
+no_entry offer participants = said_of offer NoEntry (filter (lacks_entry offer) participants)
+
+-- all whose entry for the offer doesn't take its colour space, if they are some
+abbrev pub no_colour : Offer → List Participant → Option OfferRefusal
+no_colour offer participants = said_of offer NoColour (filter (lacks_colour offer) participants)
+
+-- a line of the conflict table, with all participants
+abbrev pub line_of : Offer → List Participant → Field → OfferRefusal
+line_of offer participants field =
+    record { offer = offer; ground = Line field; participants = participants }
+
+-- those of the fields that have the property, in their order
+abbrev pub AreThose : (Field → Type 0) → List Field → List Field → Type 0
+AreThose P [] those = those ≡ []
+AreThose P (field ∷ fields) [] = (¬ P field) × AreThose P fields []
+AreThose P (field ∷ fields) (one ∷ others) =
+    ((one ≡ field) × P field × AreThose P fields others)
+    ⊎ ((¬ P field) × AreThose P fields (one ∷ others))
+
+-- those of the lines that are true of the participants, each with all of them
+pub record AreLines (offer : Offer) (participants : List Participant) (lines : List Field)
+    (reasons : List OfferRefusal) : Type 0 where
+  pub those : List Field
+  pub chosen : AreThose (IsTrueLine offer participants) lines those
+  pub told : reasons ≡ map (line_of offer participants) those
+
+-- the lines of the conflict table on the bounds and the size of an image, in its order
+abbrev pub image_lines : List Field
+image_lines = bounds_lines ++ MaxSizeBytes ∷ []
+
+-- its lines on what nobody names
+abbrev pub unnamed_lines : List Field
+unnamed_lines = UnnamedPixelFormat ∷ UnnamedPixelFormatModifier ∷ UnnamedColorSpace ∷ []
+
+-- these; or where there are none, what nobody names, if the participants are all that there are
+abbrev pub AreTold : Bool → Offer → List Participant → List OfferRefusal → List OfferRefusal
+    → Type 0
+AreTold true offer participants [] reasons = AreLines offer participants unnamed_lines reasons
+AreTold whole offer participants lines reasons = reasons ≡ lines
+
+-- each line on the image that is true of all; or where none is, what nobody names
+pub record AreLineReasons (whole : Bool) (offer : Offer) (participants : List Participant)
+    (reasons : List OfferRefusal) : Type 0 where
+  pub lines : List OfferRefusal
+  pub are_true : AreLines offer participants image_lines lines
+  pub told : AreTold whole offer participants lines reasons
+
+-- this reason alone, if there is one; else what is said of the reasons
+abbrev pub IsFirstOr : Option OfferRefusal → List OfferRefusal → Type 0 → Type 0
+IsFirstOr first reasons Else = MatchOption first Else (λ reason. reasons ≡ reason ∷ [])
+
+-- the reasons against an offer: all who have no entry for it; or else all who lack its colour
+-- space; or else the lines that are true of all
+abbrev pub AreOfferReasons : Bool → Offer → List Participant → List OfferRefusal → Type 0
+AreOfferReasons whole offer participants reasons =
+    IsFirstOr (no_entry offer participants) reasons
+    (IsFirstOr (no_colour offer participants) reasons
+    (AreLineReasons whole offer participants reasons))
 
 -- a field in which settings fail a participant on a platform
 pub record FailedField : Type 0 where
@@ -105,8 +180,25 @@ pub record Unmet : Type 0 where
   pub platform : PlatformFacts
   pub participants : List Participant
 
--- some of the participants, whom no settings meet, whatever others ask
+-- there are such participants, and no settings meet them, whatever others ask
+pub record IsInTheWay (u : Unmet) : Type 0 where
+  pub some : 0 < length u.participants
+  pub unmet : IsUnmet false u.platform u.participants
+
+-- they are in the way on this platform, and each of them is one of the participants
+pub record IsAmong (facts : PlatformFacts) (participants : List Participant)
+    (u : Unmet) : Type 0 where
+  pub platform : u.platform ≡ facts
+  pub each : All (Contains participants) u.participants
+
+-- settings of the platform meet the participants, if these are at most as many as are asked
+abbrev pub AreMet : ℕ → PlatformFacts → List Participant → Type 0
+AreMet most platform participants =
+    length participants ≤ most → (s : Settings) × MeetsAs false platform participants s
+
+-- those are some of the participants, and no settings meet them, whatever others ask
 pub record AreInTheWay (platform : PlatformFacts)
-    (participants some : List NamedParticipant) : Type 0 where
-  pub unmet : IsUnmet false platform (all_asked some)
-  pub among : All (Contains participants) some
+    (participants those : List NamedParticipant) : Type 0 where
+  pub some : 0 < length those
+  pub unmet : IsUnmet false platform (all_asked those)
+  pub among : All (Contains participants) those

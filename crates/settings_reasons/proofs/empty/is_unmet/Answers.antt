@@ -15,7 +15,7 @@ loop-participant-preserved c = record {
   few = omega (arith, c.add.ensures.grows, c.loop-participant.invariant.few);
 }
 
-pub returns : goal.returns
-returns c = λ is. err_means c.best_settings.result (IsUnmet false c.args.platform.now (all_asked c.args.participants.now)) c.is_err.result c.is_err.ensures.value
+pub returns-clause-unmet : goal.returns-clause-unmet
+returns-clause-unmet c = λ is. err_means c.best_settings.result (IsUnmet false c.args.platform.now (all_asked c.args.participants.now)) c.is_err.result c.is_err.ensures.value
     (c.best_settings.ensures.none c.args.platform.now _ (subst (λ participants. StandsFor c.loop-participant.asked c.args.platform.now (all_asked participants))
     (take_all c.loop-participant.participant-index c.args.participants.now (omega (arith, c.loop-participant-test.false))) c.loop-participant.invariant.stands)) is
