@@ -1,6 +1,6 @@
 -- What is kept, of either kind of domain.
 use Rattle.std.proofs.Common.{◌≡◌, ◌≤◌, ◌<◌, ◌^◌, ◌+◌, ◌*◌, Bool, true, false, List, [], ◌++◌, Option, Some, None, length, refl, sym, ◌∙◌, ap, subst, arith}
-use Rattle.std.specs.Prelude.{◌↔◌, All, IsTrue, OnOk, IfErr, Result, Ok, Err, is_ok, option_map}
+use Rattle.std.specs.Prelude.{◌↔◌, All, IsTrue, option_map}
 use Rattle.std.specs.List.Sorted.{IsPermutation}
 use Rattle.std.proofs.lemmas.List.{map-append}
 use Rattle.std.proofs.lemmas.List.Elements.{filter_map-append}
@@ -9,13 +9,12 @@ use Rattle.sysmem_counts.proofs.CallerLemmas.{tally_in_order}
 use Rattle.sysmem_counts.specs.Counts.{IsCounted}
 use Rattle.sysmem_counts.specs.declared.constraints.CountConstraints.{CountConstraints}
 use Rattle.sysmem_counts.specs.Tally.{sum_of}
-use Rattle.sysmem_merge.specs.declared.reason.Reason.{Reason}
 use Rattle.sysmem_merge.specs.declared.settings.Settings.{Settings}
 use Rattle.sysmem_merge.specs.Best as best
 use Rattle.offer_fits.specs.Demands.{counts_asked}
 use Rattle.sysmem_merge.specs.Settings.{CoversOn}
 use Rattle.sysmem_merge.specs.Sum.{SumFacts, SumsUp, SumsInAnyOrder}
-use Rattle.sysmem_merge.specs.Sum as sum
+use Rattle.sysmem_merge.specs.Share.{IsShareOf, ShareFacts}
 use Rattle.verdict_claims.specs.Base.{BaseFacts, terms_of}
 use Rattle.verdict_claims.specs.Members.{participants, members_at}
 use Rattle.verdict_claims.specs.Verdict.{MeetsFixed, MeetsFor, MeetsLooselyFor, IsBestFor}
@@ -26,7 +25,10 @@ use Rattle.search_questions.specs.declared.kept.PrefixSum.TheVariants as kept_as
 use Rattle.search_questions.specs.declared.kept.ChoiceShare.{ChoiceShare}
 use Rattle.search_questions.specs.declared.kept.ChoiceShare.TheVariants as part_as
 use Rattle.search_questions.specs.declared.on_base.OnBase.{OnBase}
-use Rattle.search_questions.specs.Kept.{TakesBase, IsKeptOf, IsPart, HasRoom, HaveRoom}
+use Rattle.search_questions.specs.Kept.{TakesBase, IsKeptFor, IsKeptOf, IsPart, IsPartFor, HasRoom, HaveRoom}
+use Rattle.search_questions.specs.Asking.{MeetsAs, IsBestAs}
+use Rattle.search_questions.specs.Question.{MeetsOf, MeetsSoFar}
+use Rattle.verdict_claims.specs.Matter.{Matter}
 use Rattle.verdict_claims.specs.Asked.{asked_in}
 use Rattle.search_questions.proofs.Shapes.{member_asks}
 use Rattle.search_questions.proofs.AskedMembers.{accepted_asked}
@@ -68,10 +70,6 @@ module _ (platform : PlatformFacts) (nodes : List NodeFacts) (base : Option Base
     test = fixed_met platform nodes b ms met (subst (λ s. Suits platform s kept met) is suits platform (asked_in nodes b.accepted) (participants ms)
         (subst (λ o. IsKeptOf platform nodes o (kept_as.OnBase kept) (participants ms)) some keeps))
 
-    pub base_met : IsTrue met ↔ ((t : Settings) × MeetsLooselyFor platform (option_map (terms_of nodes) base) ms t)
-    base_met = subst (λ o. IsTrue met ↔ ((t : Settings) × MeetsLooselyFor platform (option_map (terms_of nodes) o) ms t)) (sym some)
-        (λ yes'. (b.settings, test.0 yes'), λ t. test.1 (subst (MeetsFixed platform (terms_of nodes b) ms) t.1.same t.1))
-
     pub base_best : met ≡ true → IsBestFor platform (option_map (terms_of nodes) base) ms settings
     base_best yes' = subst (λ o. IsBestFor platform (option_map (terms_of nodes) o) ms settings) (sym some) (subst (MeetsFixed platform (terms_of nodes b) ms) (sym is) (test.0 yes'))
 
@@ -82,22 +80,50 @@ module _ (platform : PlatformFacts) (nodes : List NodeFacts) (base : Option Base
           never true e t = absurd (cc)
           never false e t = absurd (cc)
 
--- a sum was asked whether more may meet it
-pub record SumAsked (platform : PlatformFacts) (kept : SumFacts) (r : Result Unit Reason) : Type 0 where
-  pub met : (ps : List Participant) → SumsUp kept platform ps → OnOk r (sum.IsMet false platform ps)
-  pub none : (ps : List Participant) → SumsUp kept platform ps → IfErr r (λ _. best.IsUnmet false platform ps)
+module _ (m : Matter) (ms : List Member) (b : BaseFacts) (some : m.base ≡ Some b) (settings : Settings) (is : settings ≡ b.settings) (kept : OnBase) (met : Bool)
+    (suits : Suits m.platform settings kept met) (keeps : IsKeptFor m (kept_as.OnBase kept) (participants ms)) where
+  -- as more members may come, all settings that meet them are the base's too
+  loosely : (t : Settings) → MeetsSoFar m ms t → MeetsOf m ms t
+  loosely t meets = subst (λ o. MeetsLooselyFor m.platform (option_map (terms_of m.nodes) o) ms t → MeetsFor m.platform (option_map (terms_of m.nodes) o) ms t) (sym some) (λ x. x) meets
 
--- a sum of the members of an initial domain
-pub sum_met : (platform : PlatformFacts) (nodes : List NodeFacts) (base : Option BaseFacts) (ms : List Member) (kept : SumFacts) (r : Result Unit Reason) (met : Bool) → met ≡ is_ok r
-    → SumAsked platform kept r
-    → IsKeptOf platform nodes base (kept_as.Sum kept) (participants ms) → IsTrue met ↔ ((t : Settings) × MeetsLooselyFor platform (option_map (terms_of nodes) base) ms t)
-sum_met platform nodes (Some b) ms kept r met is asked keeps = absurd keeps
-sum_met platform nodes None ms kept r met is asked keeps = subst (λ x. IsTrue x ↔ ((t : Settings) × MeetsLooselyFor platform None ms t)) (sym is)
-    (by r (asked.met (participants ms) keeps) (asked.none (participants ms) keeps)) where
-      by : (r : Result Unit Reason) → OnOk r (sum.IsMet false platform (participants ms)) → IfErr r (λ _. best.IsUnmet false platform (participants ms))
-          → IsTrue (is_ok r) ↔ ((t : Settings) × MeetsLooselyFor platform None ms t)
-      by (Ok u) m n = (λ _. m, λ _. refl)
-      by (Err e) m n = (λ is. absurd (cc), λ t. absurd (n t.0 t.1))
+  pub base_best_as : (whole : Bool) → met ≡ true → IsBestAs whole m ms settings
+  base_best_as true yes' = base_best m.platform m.nodes m.base ms b some settings is kept met suits keeps yes'
+  base_best_as false yes' = subst (λ o. IsBestFor m.platform (option_map (terms_of m.nodes) o) ms settings → MeetsLooselyFor m.platform (option_map (terms_of m.nodes) o) ms settings) (sym some) (λ x. x)
+      (base_best m.platform m.nodes m.base ms b some settings is kept met suits keeps yes')
+
+  pub base_none_as : (whole : Bool) → met ≡ false → (t : Settings) → ¬ (MeetsAs whole m ms t)
+  base_none_as true no' = base_none m.platform m.nodes m.base ms b some settings is kept met suits keeps no'
+  base_none_as false no' t meets = base_none m.platform m.nodes m.base ms b some settings is kept met suits keeps no' t (loosely t meets)
+
+-- a sum is kept only of an initial domain
+pub sum_initial : (m : Matter) (s : SumFacts) (ps : List Participant) → IsKeptFor m (kept_as.Sum s) ps → (m.base ≡ None) × SumsUp s m.platform ps
+sum_initial m s ps = by m.base where
+  by : (o : Option BaseFacts) → IsKeptOf m.platform m.nodes o (kept_as.Sum s) ps → (o ≡ None) × SumsUp s m.platform ps
+  by None keeps = (refl, keeps)
+  by (Some b) keeps = absurd keeps
+
+pub kept_sum : (m : Matter) (s : SumFacts) (ps : List Participant) → m.base ≡ None → SumsUp s m.platform ps → IsKeptFor m (kept_as.Sum s) ps
+kept_sum m s ps none sums = subst (λ o. IsKeptOf m.platform m.nodes o (kept_as.Sum s) ps) (sym none) sums
+
+-- and what is kept on a base is of none
+pub base_no_initial : (m : Matter) (kept : OnBase) (ps : List Participant) → m.base ≡ None → IsKeptFor m (kept_as.OnBase kept) ps → ⊥
+base_no_initial m kept ps none keeps = subst (λ o. IsKeptOf m.platform m.nodes o (kept_as.OnBase kept) ps) none keeps
+
+pub part_no_initial : (m : Matter) (kept : OnBase) (ps : List Participant) → m.base ≡ None → IsPartFor m (part_as.OnBase kept) ps → ⊥
+part_no_initial m kept ps none is = subst (λ o. IsPart m.platform o (part_as.OnBase kept) ps) none is
+
+pub part_share : (m : Matter) (share : ShareFacts) (ps : List Participant) → m.base ≡ None → IsPartFor m (part_as.Share share) ps → IsShareOf share m.platform ps
+part_share m share ps none is = subst (λ o. IsPart m.platform o (part_as.Share share) ps) none is
+
+-- what is best for the participants of an initial domain is best for the members, and where they
+-- have none the members have none
+pub best_as : (whole : Bool) (m : Matter) (ms : List Member) (s : Settings) → m.base ≡ None → best.IsBest whole m.platform (participants ms) s → IsBestAs whole m ms s
+best_as true m ms s none is = subst (λ o. IsBestFor m.platform (option_map (terms_of m.nodes) o) ms s) (sym none) is
+best_as false m ms s none is = subst (λ o. MeetsLooselyFor m.platform (option_map (terms_of m.nodes) o) ms s) (sym none) is.meets
+
+pub none_as : (whole : Bool) (m : Matter) (ms : List Member) → m.base ≡ None → best.IsUnmet whole m.platform (participants ms) → (t : Settings) → ¬ (MeetsAs whole m ms t)
+none_as true m ms none unmet = subst (λ o. (t : Settings) → ¬ (MeetsFor m.platform (option_map (terms_of m.nodes) o) ms t)) (sym none) unmet
+none_as false m ms none unmet = subst (λ o. (t : Settings) → ¬ (MeetsLooselyFor m.platform (option_map (terms_of m.nodes) o) ms t)) (sym none) unmet
 
 -- what is kept of a prefix and of a choice, joined
 pub joined_base : (above more joined : OnBase) → ((platform : PlatformFacts) (settings : Settings) (earlier ps qs : List Participant) → TakesBase platform settings earlier above ps

@@ -38,7 +38,7 @@ use Rattle.sysmem_merge.specs.Offers.{has_format, has_colour, Asks, bounds_asked
 use Rattle.sysmem_merge.specs.Pairs.{in_colour, IsPairKept}
 use Rattle.sysmem_merge.specs.Sum.{IsPlaced, SumsInAnyOrder}
 use Rattle.list_lemmas.proofs.CallerLemmas.{some_in_order}
-use Rattle.sysmem_merge.proofs.Summing.{has_for_some}
+use Rattle.sysmem_merge.proofs.Passed.{none_more}
 use Rattle.negotiation_inputs.specs.Participant.{Participant}
 use Rattle.negotiation_inputs.specs.Platform.{PlatformFacts}
 
@@ -194,12 +194,12 @@ sums_in_order sum platform ps qs order sums =
       place = place_in_order platform ps qs order sum.place sums.place;
       no_image = kept_in_order NoImage (offer_demands ps) (offer_demands qs) sum.no_image offered sums.no_image;
       pairs = record {
-        these = λ has. let kept = sums.pairs.these (has_for_some platform ps qs (some_in_order ps qs order) has) in record {
-          many = kept.many;
-          each = λ k pair one here got. pair_in_order pair (offer_demands ps) (offer_demands qs) one offered (kept.each k pair one here got);
-        };
-        some = sums.pairs.some;
+        many = sums.pairs.many;
+        within = sums.pairs.within;
+        these = λ k pair one above below here got. pair_in_order pair (offer_demands ps) (offer_demands qs) one offered (sums.pairs.these k pair one above below here got);
+        each = sums.pairs.each;
       };
+      passed = none_more sum.passed platform ps qs (some_in_order ps qs order) sums.passed;
       sizes = sizes_in_order (offer_demands ps) (offer_demands qs) sum.least_size sum.greatest_size offered sums.sizes;
       many = sums.many ∙ sym (length_permutation ps qs order);
     }
