@@ -353,8 +353,10 @@ static void try_records(void)
     static const char good[] = "{\"heaps\": [{\"heap_type\": \"SYSTEM_RAM\", \"domains\": [\"cpu\", \"ram\"]}], "
                                "\"color_spaces\": [\"REC709\"],"
                                " \"pairs\": [{\"pixel_format\": \"NV12\", \"pixel_format_modifier\": \"LINEAR\"}]}";
-    static const char no_usage[] = "S5 usage\n --> record:2:10: usage\n  |\n2 | \"usage\": []}\n  |          ^^ the list is empty\n"
-                                   "  = allowed: a list of none alone, or of one or more of cpu, vulkan, display and video\n";
+    static const char no_usage[] = "S5 usage\n --> record:2:10: usage\n  |\n2 | \"usage\": []}\n"
+                                   "  |          ^^ the list is empty\n"
+                                   "  = allowed: a list of none alone, or of one or more of cpu, vulkan, display "
+                                   "and video\n";
     uint32_t code = 99;
     expect(&t, by_record(good, &code) == MEZULOBU_DONE && code == 99, "the record of a platform");
     expect(&t, by_record("{\"heap\": []}", &code) == MEZULOBU_REFUSED && code == 2, "S2: there is no such field");
