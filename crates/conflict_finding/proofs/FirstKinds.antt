@@ -7,10 +7,10 @@ use Rattle.std.proofs.lemmas.List.Elements.{All-nil, All-cons, All-map}
 use Rattle.std.proofs.lemmas.Option.{same_Some, none-some}
 use Rattle.list_lemmas.proofs.CallerLemmas.{Any-here, Any-later, Any-not_All, find_passes}
 use Rattle.sysmem_counts.proofs.CallerLemmas.{line_sound}
-use Rattle.sysmem_counts.specs.Counts.{IsCountFault, IsCountLine, IsCounted, IsFixedCountLine, needed}
+use Rattle.sysmem_counts.specs.Counts.{IsCountLine, IsCounted, IsFixedCountLine}
 use Rattle.sysmem_counts.specs.declared.constraints.CountConstraints.{CountConstraints}
 use Rattle.sysmem_counts.specs.declared.field.Field.{Field}
-use Rattle.sysmem_counts.specs.declared.field.Field.TheVariants.{MinBufferCount, MaxBufferCount, BufferCountLimit}
+use Rattle.sysmem_counts.specs.declared.field.Field.TheVariants.{MinBufferCount, MaxBufferCount}
 use Rattle.sysmem_formats.specs.declared.offer.Offer.{Offer}
 use Rattle.sysmem_memory.specs.Listed.{HeapPlace, places_of}
 use Rattle.sysmem_memory.specs.Place.{IsRefused}
@@ -38,19 +38,6 @@ use Rattle.conflict_finding.proofs.FoundConflicts.{ended, there_is}
 use Rattle.verdict_claims.proofs.OnRoll.{place_told}
 
 module _ (whole : Bool) (platform : PlatformFacts) where
-  -- a count line that is the first of the two
-  pub count_first : (ps : List Participant) (field : Field) → IsCountFault (counts_asked ps) field → IsFirstReason whole platform ps (reasons.Count field)
-  count_first ps MaxBufferCount fault = record { holds = fault; first = λ other below. absurd (omega (arith, below)) }
-  count_first ps BufferCountLimit fault = record { holds = fault.1; first = before } where
-    before : (other : Reason) → reason_rank other < 1 → ¬ (IsReason whole platform ps other)
-    before (reasons.Count MaxBufferCount) below line =
-        Any-not_All (λ p. p.max_buffer_count < needed (counts_asked ps)) (λ p. needed (counts_asked ps) ≤ p.max_buffer_count) (counts_asked ps) (λ p low high. omega (arith, low, high)) line fault.0
-    before (reasons.Count BufferCountLimit) below line = absurd (omega (arith, below))
-    before (reasons.Count field) below line = absurd line
-    before reasons.NoPlace below line = absurd (omega (arith, below))
-    before reasons.NoOffer below line = absurd (omega (arith, below))
-  count_first ps _ fault = absurd fault
-
   -- where a number suits, no count line is true
   no_count_line : (ps : List Participant) (count : ℕ) → IsCounted (counts_asked ps) count → (field : Field) → ¬ (IsCountLine field (counts_asked ps))
   no_count_line ps count counted field line = line_sound field (counts_asked ps) line count counted

@@ -15,7 +15,7 @@ use Rattle.search_questions.specs.declared.levels.Level.{Level}
 use Rattle.search_questions.specs.Kept.{IsKeptFor, IsPartFor, HaveRoom}
 use Rattle.verdict_claims.specs.Matter.{Matter, forest}
 use Rattle.verdict_claims.specs.Asked.{asks_at, asked_in}
-use Rattle.search_questions.specs.Standing.{IsLevel, AreLevels, AreMade, AreParts, IsSlot, StandsAt, numbers}
+use Rattle.search_questions.specs.Standing.{IsLevel, AreLevels, AreMade, AreParts, AreSteps, IsFilled, IsSlot, IsStep, IsWholeLevel, StandsAt, numbers}
 use Rattle.search_questions.proofs.Keeping.{kept_in_order, have_room}
 use Rattle.search_questions.proofs.AskedMembers.{root_there, numbers_left, same_asked, some_of, if_some}
 use Rattle.search_questions.proofs.Shapes.{few_settled}
@@ -37,6 +37,11 @@ there P (Some x) h = (x, refl, h)
 pub and_there : {X : Type 0} (P : X → Type 0) (o : Option X) (x : X) → o ≡ Some x → P x → IsSomeAnd o P
 and_there P None x is h = absurd (cc)
 and_there P (Some y) x is h = subst P (sym (same_Some y x is)) h
+
+-- what holds of it where more does
+pub some_weaker : {X : Type 0} (P Q : X → Type 0) (o : Option X) → ((x : X) → P x → Q x) → IsSomeAnd o P → IsSomeAnd o Q
+some_weaker P Q None h p = absurd p
+some_weaker P Q (Some x) h p = h x p
 
 -- what stands at a place of a list
 pub at_index : {X : Type 0} (xs : List X) (k : ℕ) (x : X) → x ≡ get_or xs k x → k < length xs → slice_get xs k ≡ Some x
@@ -74,15 +79,26 @@ module _ (m : Matter) (layout : Layout) where
   pub kept_at : (cs : List ℕ) (level : Level) → IsLevel m layout cs level → (d : Forest Member) → after (forest m) cs ≡ Some d → IsKeptFor m level.kept (participants (settled d))
   kept_at cs level is d leads = subst (λ x. IsKeptFor m level.kept (participants (settled x))) (same_Some is.left d (sym is.leads ∙ leads)) is.kept
 
+  -- a step is one with more parts
+  more_filled : (parts parts' : List (Option ChoiceShare)) (above next : Forest Member) (slot : ℕ) → ((at : ℕ) → IsFilled parts at → IsFilled parts' at)
+      → IsStep m layout parts above next slot → IsStep m layout parts' above next slot
+  more_filled parts parts' above next slot filled step = record { place = step.place; own = step.own; filled = filled slot step.filled; adds = step.adds }
+
   -- with more parts, and with more levels
   pub more_kept : (parts parts' : List (Option ChoiceShare)) (levels levels' : List Level) (items cs : List ℕ) → items ≡ cs → StandsAt m layout parts levels cs
-      → AreParts m layout parts' → ((k : ℕ) → k ≤ length items → slice_get levels' k ≡ slice_get levels k) → AreMade m levels' → StandsAt m layout parts' levels' cs
-  more_kept parts parts' levels levels' items cs at keeps are same made = record {
+      → AreParts m layout parts' → ((slot : ℕ) → IsFilled parts slot → IsFilled parts' slot)
+      → ((k : ℕ) → k ≤ length items → slice_get levels' k ≡ slice_get levels k) → AreMade m levels' → StandsAt m layout parts' levels' cs
+  more_kept parts parts' levels levels' items cs at keeps are filled same made = record {
     given = keeps.given;
     laid = keeps.laid;
     shares = are;
     made = made;
     fronts = λ k within. subst (λ o. IsSomeAnd o (IsLevel m layout (take k cs))) (sym (same k (subst (λ xs. k ≤ length xs) (sym at) within))) (keeps.fronts k within);
+    first = subst (λ o. IsSomeAnd o (IsWholeLevel m)) (sym (same 0 (omega arith))) keeps.first;
+    steps = λ k above next within one two.
+        subst (λ o. IsSomeAnd o (λ level. IsStep m layout parts' above next level.slot)) (sym (same (k + 1) (subst (λ xs. k + 1 ≤ length xs) (sym at) (omega (arith, within)))))
+        (some_weaker _ (λ (level : Level). IsStep m layout parts' above next level.slot) (slice_get levels (k + 1)) (λ level step. more_filled parts parts' above next level.slot filled step)
+        (keeps.steps k above next within one two));
   }
 
   -- without the last choice
@@ -94,19 +110,28 @@ module _ (m : Matter) (layout : Layout) where
     made = keeps.made;
     fronts = λ k within. subst (λ xs. IsSomeAnd (slice_get levels k) (IsLevel m layout xs)) (ap (take k) is ∙ front_of cs c k within)
         (keeps.fronts k (subst (λ xs. k ≤ length xs) (sym is) (omega (arith, within, length-append cs (c ∷ [])))));
+    first = keeps.first;
+    steps = λ k above next within one two.
+        let shorter : (j : ℕ) → j ≤ length cs → take j longer ≡ take j cs = λ j less. ap (take j) is ∙ front_of cs c j less in
+        keeps.steps k above next (subst (λ xs. k < length xs) (sym is) (omega (arith, within, length-append cs (c ∷ []))))
+        (ap (after (forest m)) (shorter k (omega (arith, within))) ∙ one) (ap (after (forest m)) (shorter (k + 1) (omega (arith, within))) ∙ two);
   }
 
   -- with one choice more, below whose level nothing changed
   pub entered_keeps : (parts parts' : List (Option ChoiceShare)) (levels between levels' : List Level) (cs longer : List ℕ) (c : ℕ) → longer ≡ cs ++ c ∷ [] → StandsAt m layout parts levels cs
-      → AreParts m layout parts' → ((k : ℕ) → k ≤ length cs → slice_get between k ≡ slice_get levels k)
+      → AreParts m layout parts' → ((slot : ℕ) → IsFilled parts slot → IsFilled parts' slot) → ((k : ℕ) → k ≤ length cs → slice_get between k ≡ slice_get levels k)
       → AreMade m between → ((k : ℕ) → k ≢ length cs + 1 → slice_get levels' k ≡ slice_get between k)
-      → IsSomeAnd (slice_get levels' (length cs + 1)) (IsLevel m layout longer) → StandsAt m layout parts' levels' longer
-  entered_keeps parts parts' levels between levels' cs longer c is keeps are kept between_made same last = record {
+      → IsSomeAnd (slice_get levels' (length cs + 1)) (IsLevel m layout longer)
+      → ((above next : Forest Member) → after (forest m) cs ≡ Some above → after (forest m) longer ≡ Some next
+      → IsSomeAnd (slice_get levels' (length cs + 1)) (λ level. IsStep m layout parts' above next level.slot)) → StandsAt m layout parts' levels' longer
+  entered_keeps parts parts' levels between levels' cs longer c is keeps are filled kept between_made same last step = record {
     given = keeps.given;
     laid = keeps.laid;
     shares = are;
     made = made;
     fronts = each;
+    first = subst (λ o. IsSomeAnd o (IsWholeLevel m)) (sym (same 0 (λ e. omega (arith, e)) ∙ kept 0 (omega arith))) keeps.first;
+    steps = steps;
   } where
     made : AreMade m levels'
     made k level at = elim (cases_eq k (length cs + 1)) [
@@ -131,6 +156,21 @@ module _ (m : Matter) (layout : Layout) where
           (subst (λ xs. IsSomeAnd (slice_get levels k) (IsLevel m layout xs)) (sym (ap (take k) is ∙ front_of cs c k less)) (keeps.fronts k less))
     ]
 
+    steps : AreSteps m layout parts' longer levels'
+    steps k above next within one two = elim (cases_eq k (length cs)) as (λ _. IsSomeAnd (slice_get levels' (k + 1)) (λ level. IsStep m layout parts' above next level.slot)) [
+      | inl here ↦
+          let front : take k longer ≡ cs = ap (λ j. take j longer) here ∙ (ap (take (length cs)) is ∙ (front_of cs c (length cs) (omega arith) ∙ take_all (length cs) cs (omega arith))) in
+          let whole : take (k + 1) longer ≡ longer = take_all (k + 1) longer (omega (arith, here, long_is)) in
+          subst (λ j. IsSomeAnd (slice_get levels' (j + 1)) (λ level. IsStep m layout parts' above next level.slot)) (sym here)
+          (step above next (ap (after (forest m)) (sym front) ∙ one) (ap (after (forest m)) (sym whole) ∙ two))
+      | inr other ↦
+          let less : k < length cs = omega (arith, within, long_is, other) in
+          let shorter : (j : ℕ) → j ≤ length cs → take j longer ≡ take j cs = λ j below. ap (take j) is ∙ front_of cs c j below in
+          subst (λ o. IsSomeAnd o (λ level. IsStep m layout parts' above next level.slot)) (sym (same (k + 1) (λ e. omega (arith, e, less)) ∙ kept (k + 1) (omega (arith, less))))
+          (some_weaker _ (λ (level : Level). IsStep m layout parts' above next level.slot) (slice_get levels (k + 1)) (λ level old. more_filled parts parts' above next level.slot filled old)
+          (keeps.steps k above next less (ap (after (forest m)) (sym (shorter k (omega (arith, less)))) ∙ one) (ap (after (forest m)) (sym (shorter (k + 1) (omega (arith, less)))) ∙ two)))
+    ]
+
   module _ (cs : List ℕ) (c at : ℕ) (above : Level) (is : IsLevel m layout cs above) (law : ChoiceSettlesShare) (child : IsChildPlace layout (numbers m) cs c at)
       (numbers_left : (e : Forest ℕ) × (after (numbers m) cs ≡ Some e)) where
     -- what one choice more settles asks what was asked before, and what its share asks
@@ -147,57 +187,60 @@ module _ (m : Matter) (layout : Layout) where
 
     -- so the level of one choice more is joined
     pub joined_level : SumsInAnyOrder → (longer : List ℕ) (level : Level) (next : Option ℕ) → longer ≡ cs ++ c ∷ [] → IsPrefix (forest m) (cs ++ c ∷ [])
-        → (level.group ≡ next) × IsKeptFor m level.kept (participants (settled is.left) ++ asked_in m.nodes (share_of layout at))
+        → IsKeptFor m level.kept (participants (settled is.left) ++ asked_in m.nodes (share_of layout at)) → level.group ≡ next
         → IsFirstOpen layout (numbers m) (cs ++ c ∷ []) next → IsLevel m layout longer level
-    joined_level sums longer level next long prefix made open' =
+    joined_level sums longer level next long prefix kept grouped open' =
         let (d, leads) = some_of (after (forest m) (cs ++ c ∷ [])) prefix in
         subst (λ xs. IsLevel m layout xs level) (sym long) (record {
           left = d;
           leads = leads;
-          kept = kept_in_order sums m.platform m.nodes m.base level.kept _ _ (settles_more d leads) made.1;
-          group = subst (IsFirstOpen layout (numbers m) (cs ++ c ∷ [])) (sym made.0) open';
+          kept = kept_in_order sums m.platform m.nodes m.base level.kept _ _ (settles_more d leads) kept;
+          group = subst (IsFirstOpen layout (numbers m) (cs ++ c ∷ [])) (sym grouped) open';
         })
 
 -- a level of one choice more was joined, from that above it and from a part
-abbrev pub IsJoined : Matter → List Level → List Level → ℕ → ChoiceShare → Option ℕ → Type 0
-IsJoined m between levels' depth part next = (ps qs : List Participant) (above old : Level)
+abbrev pub IsJoined : Matter → List Level → List Level → ℕ → ℕ → ChoiceShare → Option ℕ → Type 0
+IsJoined m between levels' depth slot part next = (ps qs : List Participant) (above old : Level)
     → slice_get between depth ≡ Some above → slice_get between (depth + 1) ≡ Some old → IsKeptFor m above.kept ps → IsPartFor m part qs
     → (others : List Participant) → IsKeptFor m old.kept others
-    → IsSomeAnd (slice_get levels' (depth + 1)) (λ level. (level.group ≡ next) × IsKeptFor m level.kept (ps ++ qs))
+    → IsSomeAnd (slice_get levels' (depth + 1)) (λ level. (level.group ≡ next) × (level.slot ≡ slot) × IsKeptFor m level.kept (ps ++ qs))
 
 at_length : {X : Type 0} (xs : List X) (k : ℕ) → k < length xs → (x : X) × (slice_get xs k ≡ Some x)
 at_length [] k less = absurd (omega (arith, less))
 at_length (x ∷ xs) zero less = (x, refl)
 at_length (x ∷ xs) (suc k) less = at_length xs k (omega (arith, less))
 
-some_weaker : {X : Type 0} (P Q : X → Type 0) (o : Option X) → ((x : X) → P x → Q x) → IsSomeAnd o P → IsSomeAnd o Q
-some_weaker P Q None h p = absurd p
-some_weaker P Q (Some x) h p = h x p
-
 module _ (m : Matter) (layout : Layout) (parts parts' : List (Option ChoiceShare)) (levels between levels' : List Level) (cs longer : List ℕ) (c at slot : ℕ) (part : ChoiceShare) (next : Option ℕ) where
-  entered_at : longer ≡ cs ++ c ∷ [] → StandsAt m layout parts levels cs → AreParts m layout parts'
+  entered_at : longer ≡ cs ++ c ∷ [] → StandsAt m layout parts levels cs → AreParts m layout parts' → ((at : ℕ) → IsFilled parts at → IsFilled parts' at)
       → ((k : ℕ) → k ≤ length cs → slice_get between k ≡ slice_get levels k) → AreMade m between → length cs + 1 < length between
-      → ((k : ℕ) → k ≢ length cs + 1 → slice_get levels' k ≡ slice_get between k) → IsJoined m between levels' (length cs) part next → IsSlot at slot
+      → ((k : ℕ) → k ≢ length cs + 1 → slice_get levels' k ≡ slice_get between k) → IsJoined m between levels' (length cs) slot part next → IsSlot at slot
       → slice_get parts' slot ≡ Some (Some part) → SumsInAnyOrder → ChoiceSettlesShare → IsChildPlace layout (numbers m) cs c at → (e : Forest ℕ) × (after (numbers m) cs ≡ Some e) → IsPrefix (forest m) (cs ++ c ∷ [])
       → IsFirstOpen layout (numbers m) (cs ++ c ∷ []) next → StandsAt m layout parts' levels' longer
-  entered_at long keeps are kept made room others joined own here sums law child numbers_here prefix open' =
+  entered_at long keeps are filled kept made room others joined own here sums law child numbers_here prefix open' =
       let (above, is, level) = there (IsLevel m layout cs) (slice_get levels (length cs)) (level_here m layout cs levels keeps.fronts) in
       let (old, old_is) = at_length between (length cs + 1) room in
       let (ps, old_kept) = made (length cs + 1) old old_is in
-      entered_keeps m layout parts parts' levels between levels' cs longer c long keeps are kept made others
+      let last = joined (participants (settled level.left)) (asked_in m.nodes (share_of layout at)) above old (kept (length cs) (omega arith) ∙ is) old_is level.kept (are at slot part own here) ps old_kept in
+      entered_keeps m layout parts parts' levels between levels' cs longer c long keeps are filled kept made others
       (some_weaker _ (IsLevel m layout longer) (slice_get levels' (length cs + 1))
-      (λ l h. joined_level m layout cs c at above level law child numbers_here sums longer l next long prefix h open')
-      (joined (participants (settled level.left)) (asked_in m.nodes (share_of layout at)) above old (kept (length cs) (omega arith) ∙ is) old_is level.kept (are at slot part own here) ps old_kept))
+      (λ l h. joined_level m layout cs c at above level law child numbers_here sums longer l next long prefix h.2 h.0 open') last)
+      (λ d e one two. some_weaker _ (λ (l : Level). IsStep m layout parts' d e l.slot) (slice_get levels' (length cs + 1)) (λ l h. record {
+        place = at;
+        own = subst (IsSlot at) (sym h.1) own;
+        filled = subst (IsFilled parts') (sym h.1) (part, here);
+        adds = subst (λ x. IsPermutation (participants (settled x) ++ asked_in m.nodes (share_of layout at)) (participants (settled e))) (same_Some level.left d (sym level.leads ∙ one))
+            (settles_more m layout cs c at above level law child numbers_here e (subst (λ xs. after (forest m) xs ≡ Some e) long two));
+      }) last)
 
   -- where a search stands after one choice more
-  pub entered : (items : List ℕ) → items ≡ cs → longer ≡ cs ++ c ∷ [] → StandsAt m layout parts levels cs → AreParts m layout parts'
+  pub entered : (items : List ℕ) → items ≡ cs → longer ≡ cs ++ c ∷ [] → StandsAt m layout parts levels cs → AreParts m layout parts' → ((at : ℕ) → IsFilled parts at → IsFilled parts' at)
       → ((k : ℕ) → k ≤ length items → slice_get between k ≡ slice_get levels k) → AreMade m between → length items + 1 < length between
-      → ((k : ℕ) → k ≢ length items + 1 → slice_get levels' k ≡ slice_get between k) → IsJoined m between levels' (length items) part next → IsSlot at slot
+      → ((k : ℕ) → k ≢ length items + 1 → slice_get levels' k ≡ slice_get between k) → IsJoined m between levels' (length items) slot part next → IsSlot at slot
       → slice_get parts' slot ≡ Some (Some part) → SumsInAnyOrder → ChoiceSettlesShare → IsChildPlace layout (numbers m) cs c at → (e : Forest ℕ) × (after (numbers m) cs ≡ Some e) → IsPrefix (forest m) (cs ++ c ∷ [])
       → IsFirstOpen layout (numbers m) (cs ++ c ∷ []) next → StandsAt m layout parts' levels' longer
-  entered items same long keeps are kept made room others joined = entered_at long keeps are
+  entered items same long keeps are filled kept made room others joined = entered_at long keeps are filled
       (subst (λ xs. (k : ℕ) → k ≤ length xs → slice_get between k ≡ slice_get levels k) same kept) made (subst (λ xs. length xs + 1 < length between) same room)
-      (subst (λ xs. (k : ℕ) → k ≢ length xs + 1 → slice_get levels' k ≡ slice_get between k) same others) (subst (λ xs. IsJoined m between levels' (length xs) part next) same joined)
+      (subst (λ xs. (k : ℕ) → k ≢ length xs + 1 → slice_get levels' k ≡ slice_get between k) same others) (subst (λ xs. IsJoined m between levels' (length xs) slot part next) same joined)
 
 -- what is kept beside a slot for nothing more was kept before
 pub kept_before : (xs : List (Option ChoiceShare)) (at : ℕ) (part : ChoiceShare) → slice_get (xs ++ None ∷ []) at ≡ Some (Some part) → slice_get xs at ≡ Some (Some part)
@@ -205,6 +248,20 @@ kept_before [] zero part is = absurd (cc)
 kept_before [] (suc at) part is = absurd (cc)
 kept_before (x ∷ xs) zero part is = is
 kept_before (x ∷ xs) (suc at) part is = kept_before xs at part is
+
+-- nor is less kept
+pub filled_more : (xs : List (Option ChoiceShare)) (at : ℕ) → IsFilled xs at → IsFilled (xs ++ None ∷ []) at
+filled_more [] at (part, is) = absurd (cc)
+filled_more (x ∷ xs) zero filled = filled
+filled_more (x ∷ xs) (suc at) filled = filled_more xs at filled
+
+-- where something is set, something is kept still
+pub set_filled : (xs : List (Option ChoiceShare)) (slot at : ℕ) (part : ChoiceShare) → IsFilled xs at → IsFilled (slice_set xs slot (Some part)) at
+set_filled [] slot at part (old, is) = absurd (cc)
+set_filled (x ∷ xs) zero zero part filled = (part, refl)
+set_filled (x ∷ xs) zero (suc at) part filled = filled
+set_filled (x ∷ xs) (suc slot) zero part filled = filled
+set_filled (x ∷ xs) (suc slot) (suc at) part filled = set_filled xs slot at part filled
 
 -- a child has one slot
 pub only_slot : (parts : List (Option ChoiceShare)) (place slot own : ℕ) (kept : Option ChoiceShare) → IsSlot place slot → IsSlot place own → slice_get parts own ≡ Some kept → slice_get parts slot ≡ Some kept

@@ -1,21 +1,26 @@
 -- What is kept, of either kind of domain.
-use Rattle.std.proofs.Common.{◌≡◌, ◌≤◌, ◌<◌, ◌^◌, ◌+◌, ◌*◌, Bool, true, false, List, [], ◌++◌, Option, Some, None, length, refl, sym, ◌∙◌, ap, subst, arith}
-use Rattle.std.specs.Prelude.{◌↔◌, All, IsTrue, OnOk, IfErr, Result, Ok, Err, is_ok, option_map}
+use Rattle.std.proofs.Common.{◌≡◌, ◌≤◌, ◌<◌, ◌^◌, ◌+◌, ◌*◌, ℕ, inl, inr, Bool, true, false, List, [], ◌∷◌, ◌++◌, Contains, Option, Some, None, length, is_some, refl, sym, ◌∙◌, ap, subst, arith}
+use Rattle.std.specs.Prelude.{◌↔◌, All, IfNone, IfSome, IsTrue, option_map}
 use Rattle.std.specs.List.Sorted.{IsPermutation}
-use Rattle.std.proofs.lemmas.List.{map-append}
-use Rattle.std.proofs.lemmas.List.Elements.{filter_map-append}
+use Rattle.std.proofs.lemmas.List.{map-append, take_all}
+use Rattle.std.proofs.lemmas.List.Elements.{Contains-append_cases, filter_map-append}
 use Rattle.std.proofs.lemmas.List.Sorted.{All-permutation, IsPermutation-append_right, IsPermutation-map, IsPermutation-sym, length_permutation}
+use Rattle.sysmem_formats.specs.declared.offer.Offer.TheVariants.{NoImage}
+use Rattle.sysmem_formats.specs.Offers.{images}
 use Rattle.sysmem_counts.proofs.CallerLemmas.{tally_in_order}
 use Rattle.sysmem_counts.specs.Counts.{IsCounted}
 use Rattle.sysmem_counts.specs.declared.constraints.CountConstraints.{CountConstraints}
 use Rattle.sysmem_counts.specs.Tally.{sum_of}
-use Rattle.sysmem_merge.specs.declared.reason.Reason.{Reason}
 use Rattle.sysmem_merge.specs.declared.settings.Settings.{Settings}
+use Rattle.sysmem_merge.specs.declared.asked.Asked.{Asked}
+use Rattle.sysmem_merge.specs.declared.asked.Asked.TheVariants as asked_as
+use Rattle.sysmem_merge.specs.Asked.{IsAskedOf, IsOpenFrom}
 use Rattle.sysmem_merge.specs.Best as best
+use Rattle.sysmem_merge.specs.Settings as meeting
 use Rattle.offer_fits.specs.Demands.{counts_asked}
 use Rattle.sysmem_merge.specs.Settings.{CoversOn}
 use Rattle.sysmem_merge.specs.Sum.{SumFacts, SumsUp, SumsInAnyOrder}
-use Rattle.sysmem_merge.specs.Sum as sum
+use Rattle.sysmem_merge.specs.Share.{IsShareOf, ShareFacts}
 use Rattle.verdict_claims.specs.Base.{BaseFacts, terms_of}
 use Rattle.verdict_claims.specs.Members.{participants, members_at}
 use Rattle.verdict_claims.specs.Verdict.{MeetsFixed, MeetsFor, MeetsLooselyFor, IsBestFor}
@@ -26,11 +31,16 @@ use Rattle.search_questions.specs.declared.kept.PrefixSum.TheVariants as kept_as
 use Rattle.search_questions.specs.declared.kept.ChoiceShare.{ChoiceShare}
 use Rattle.search_questions.specs.declared.kept.ChoiceShare.TheVariants as part_as
 use Rattle.search_questions.specs.declared.on_base.OnBase.{OnBase}
-use Rattle.search_questions.specs.Kept.{TakesBase, IsKeptOf, IsPart, HasRoom, HaveRoom}
+use Rattle.search_questions.specs.Kept.{TakesBase, IsKeptFor, IsKeptOf, IsPart, IsPartFor, HasRoom, HaveRoom}
+use Rattle.search_questions.specs.Asking.{MeetsAs, IsAnswer, IsAnswerAt, IsBestAs, IsOpenOf, JoinsPairs, LooksAt}
+use Rattle.search_questions.specs.Live.{SomeMeet}
+use Rattle.search_questions.specs.Question.{MeetsOf, MeetsSoFar}
+use Rattle.verdict_claims.specs.Matter.{Matter}
 use Rattle.verdict_claims.specs.Asked.{asked_in}
 use Rattle.search_questions.proofs.Shapes.{member_asks}
 use Rattle.search_questions.proofs.AskedMembers.{accepted_asked}
 use Rattle.search_questions.proofs.Taking.{few_asked_of}
+use Rattle.sysmem_tree.specs.Forest.{Forest, settled}
 use Rattle.sysmem_tree.specs.Node.{NodeFacts}
 use Rattle.sysmem_tree.specs.Shape.{Member}
 
@@ -68,10 +78,6 @@ module _ (platform : PlatformFacts) (nodes : List NodeFacts) (base : Option Base
     test = fixed_met platform nodes b ms met (subst (λ s. Suits platform s kept met) is suits platform (asked_in nodes b.accepted) (participants ms)
         (subst (λ o. IsKeptOf platform nodes o (kept_as.OnBase kept) (participants ms)) some keeps))
 
-    pub base_met : IsTrue met ↔ ((t : Settings) × MeetsLooselyFor platform (option_map (terms_of nodes) base) ms t)
-    base_met = subst (λ o. IsTrue met ↔ ((t : Settings) × MeetsLooselyFor platform (option_map (terms_of nodes) o) ms t)) (sym some)
-        (λ yes'. (b.settings, test.0 yes'), λ t. test.1 (subst (MeetsFixed platform (terms_of nodes b) ms) t.1.same t.1))
-
     pub base_best : met ≡ true → IsBestFor platform (option_map (terms_of nodes) base) ms settings
     base_best yes' = subst (λ o. IsBestFor platform (option_map (terms_of nodes) o) ms settings) (sym some) (subst (MeetsFixed platform (terms_of nodes b) ms) (sym is) (test.0 yes'))
 
@@ -82,22 +88,120 @@ module _ (platform : PlatformFacts) (nodes : List NodeFacts) (base : Option Base
           never true e t = absurd (cc)
           never false e t = absurd (cc)
 
--- a sum was asked whether more may meet it
-pub record SumAsked (platform : PlatformFacts) (kept : SumFacts) (r : Result Unit Reason) : Type 0 where
-  pub met : (ps : List Participant) → SumsUp kept platform ps → OnOk r (sum.IsMet false platform ps)
-  pub none : (ps : List Participant) → SumsUp kept platform ps → IfErr r (λ _. best.IsUnmet false platform ps)
+module _ (m : Matter) (ms : List Member) (b : BaseFacts) (some : m.base ≡ Some b) (settings : Settings) (is : settings ≡ b.settings) (kept : OnBase) (met : Bool)
+    (suits : Suits m.platform settings kept met) (keeps : IsKeptFor m (kept_as.OnBase kept) (participants ms)) where
+  -- as more members may come, all settings that meet them are the base's too
+  loosely : (t : Settings) → MeetsSoFar m ms t → MeetsOf m ms t
+  loosely t meets = subst (λ o. MeetsLooselyFor m.platform (option_map (terms_of m.nodes) o) ms t → MeetsFor m.platform (option_map (terms_of m.nodes) o) ms t) (sym some) (λ x. x) meets
 
--- a sum of the members of an initial domain
-pub sum_met : (platform : PlatformFacts) (nodes : List NodeFacts) (base : Option BaseFacts) (ms : List Member) (kept : SumFacts) (r : Result Unit Reason) (met : Bool) → met ≡ is_ok r
-    → SumAsked platform kept r
-    → IsKeptOf platform nodes base (kept_as.Sum kept) (participants ms) → IsTrue met ↔ ((t : Settings) × MeetsLooselyFor platform (option_map (terms_of nodes) base) ms t)
-sum_met platform nodes (Some b) ms kept r met is asked keeps = absurd keeps
-sum_met platform nodes None ms kept r met is asked keeps = subst (λ x. IsTrue x ↔ ((t : Settings) × MeetsLooselyFor platform None ms t)) (sym is)
-    (by r (asked.met (participants ms) keeps) (asked.none (participants ms) keeps)) where
-      by : (r : Result Unit Reason) → OnOk r (sum.IsMet false platform (participants ms)) → IfErr r (λ _. best.IsUnmet false platform (participants ms))
-          → IsTrue (is_ok r) ↔ ((t : Settings) × MeetsLooselyFor platform None ms t)
-      by (Ok u) m n = (λ _. m, λ _. refl)
-      by (Err e) m n = (λ is. absurd (cc), λ t. absurd (n t.0 t.1))
+  pub base_best_as : (whole : Bool) → met ≡ true → IsBestAs whole m ms settings
+  base_best_as true yes' = base_best m.platform m.nodes m.base ms b some settings is kept met suits keeps yes'
+  base_best_as false yes' = subst (λ o. IsBestFor m.platform (option_map (terms_of m.nodes) o) ms settings → MeetsLooselyFor m.platform (option_map (terms_of m.nodes) o) ms settings) (sym some) (λ x. x)
+      (base_best m.platform m.nodes m.base ms b some settings is kept met suits keeps yes')
+
+  pub base_none_as : (whole : Bool) → met ≡ false → (t : Settings) → ¬ (MeetsAs whole m ms t)
+  base_none_as true no' = base_none m.platform m.nodes m.base ms b some settings is kept met suits keeps no'
+  base_none_as false no' = λ t meets. base_none m.platform m.nodes m.base ms b some settings is kept met suits keeps no' t (loosely t meets)
+
+-- a sum is kept only of an initial domain
+pub sum_initial : (m : Matter) (s : SumFacts) (ps : List Participant) → IsKeptFor m (kept_as.Sum s) ps → (m.base ≡ None) × SumsUp s m.platform ps
+sum_initial m s ps = by m.base where
+  by : (o : Option BaseFacts) → IsKeptOf m.platform m.nodes o (kept_as.Sum s) ps → (o ≡ None) × SumsUp s m.platform ps
+  by None keeps = (refl, keeps)
+  by (Some b) keeps = absurd keeps
+
+pub kept_sum : (m : Matter) (s : SumFacts) (ps : List Participant) → m.base ≡ None → SumsUp s m.platform ps → IsKeptFor m (kept_as.Sum s) ps
+kept_sum m s ps none sums = subst (λ o. IsKeptOf m.platform m.nodes o (kept_as.Sum s) ps) (sym none) sums
+
+-- and what is kept on a base is of none
+pub base_no_initial : (m : Matter) (kept : OnBase) (ps : List Participant) → m.base ≡ None → IsKeptFor m (kept_as.OnBase kept) ps → ⊥
+base_no_initial m kept ps none keeps = subst (λ o. IsKeptOf m.platform m.nodes o (kept_as.OnBase kept) ps) none keeps
+
+pub part_no_initial : (m : Matter) (kept : OnBase) (ps : List Participant) → m.base ≡ None → IsPartFor m (part_as.OnBase kept) ps → ⊥
+part_no_initial m kept ps none is = subst (λ o. IsPart m.platform o (part_as.OnBase kept) ps) none is
+
+pub part_share : (m : Matter) (share : ShareFacts) (ps : List Participant) → m.base ≡ None → IsPartFor m (part_as.Share share) ps → IsShareOf share m.platform ps
+part_share m share ps none is = subst (λ o. IsPart m.platform o (part_as.Share share) ps) none is
+
+-- what is best for the participants of an initial domain is best for the members, and where they
+-- have none the members have none
+pub best_as : (whole : Bool) (m : Matter) (ms : List Member) (s : Settings) → m.base ≡ None → best.IsBest whole m.platform (participants ms) s → IsBestAs whole m ms s
+best_as true m ms s none is = subst (λ o. IsBestFor m.platform (option_map (terms_of m.nodes) o) ms s) (sym none) is
+best_as false m ms s none is = subst (λ o. MeetsLooselyFor m.platform (option_map (terms_of m.nodes) o) ms s) (sym none) is.meets
+
+pub none_as : (whole : Bool) (m : Matter) (ms : List Member) → m.base ≡ None → best.IsUnmet whole m.platform (participants ms) → (t : Settings) → ¬ (MeetsAs whole m ms t)
+none_as true m ms none unmet = subst (λ o. (t : Settings) → ¬ (MeetsFor m.platform (option_map (terms_of m.nodes) o) ms t)) (sym none) unmet
+none_as false m ms none unmet = subst (λ o. (t : Settings) → ¬ (MeetsLooselyFor m.platform (option_map (terms_of m.nodes) o) ms t)) (sym none) unmet
+
+-- what is told of participants, of the members whose they are
+abbrev pub IsTold : Bool → Matter → List Member → Asked → Type 0
+IsTold whole m ms (asked_as.Met s) = IsBestAs whole m ms s
+IsTold whole m ms (asked_as.Unmet reason) = (t : Settings) → ¬ (MeetsAs whole m ms t)
+IsTold whole m ms (asked_as.Open n) = IsOpenOf n whole m ms
+
+told_of : (whole : Bool) (m : Matter) (ms : List Member) (asked : Asked) → m.base ≡ None → IsAskedOf whole m.platform (participants ms) asked → IsTold whole m ms asked
+told_of whole m ms (asked_as.Met s) none is = best_as whole m ms s none is
+told_of whole m ms (asked_as.Unmet reason) none is = none_as whole m ms none is.0
+told_of whole m ms (asked_as.Open n) none is = record { initial = none; from = is }
+
+-- a sum tells it
+pub sum_told : (whole : Bool) (m : Matter) (ms : List Member) (kept : PrefixSum) (sum : SumFacts) (platform : PlatformFacts) (asked told : Asked) → platform ≡ m.platform → kept ≡ kept_as.Sum sum → asked ≡ told
+    → ((ps : List Participant) → SumsUp sum platform ps → IsAskedOf whole platform ps asked) → IsKeptFor m kept (participants ms) → IsTold whole m ms told
+sum_told whole m ms kept sum platform asked told same is one asks keeps =
+    let sums = sum_initial m sum (participants ms) (subst (λ k. IsKeptFor m k (participants ms)) is keeps) in
+    told_of whole m ms told sums.0
+    (subst (IsAskedOf whole m.platform (participants ms)) one
+    (subst (λ p. (ps : List Participant) → SumsUp sum p ps → IsAskedOf whole p ps asked) same asks (participants ms) sums.1))
+
+-- what a look at a sum's pair gives
+abbrev pub SumLooks : PlatformFacts → ℕ → Bool → SumFacts → SumFacts → Option Settings → Type 0
+SumLooks platform index whole old new found = (ps : List Participant) → SumsUp old platform ps → index < old.joined → IsOpenFrom index whole platform ps
+    → IfSome found (best.IsBest whole platform ps) × IfNone found (IsOpenFrom (index + 1) whole platform ps) × SumsUp new platform ps
+
+-- of the members whose participants they are
+pub sum_looked : (index : ℕ) (whole : Bool) (m : Matter) (old new : SumFacts) (found : Option Settings) → SumLooks m.platform index whole old new found → new.joined ≡ old.joined
+    → LooksAt index whole m (kept_as.Sum old) (kept_as.Sum new) found
+sum_looked index whole m old new found looks same = (
+  λ ms keeps has open'.
+      let (some, none, sums) = looks (participants ms) (sum_initial m old (participants ms) keeps).1 (omega (arith, has)) open'.from in (
+        told ms found open'.initial some none,
+        kept_sum m new (participants ms) open'.initial sums,
+      ),
+  λ k has. omega (arith, has, same),
+) where
+  told : (ms : List Member) (found : Option Settings) → m.base ≡ None → IfSome found (best.IsBest whole m.platform (participants ms)) → IfNone found (IsOpenFrom (index + 1) whole m.platform (participants ms))
+      → IsAnswerAt index whole m ms found
+  told ms (Some s) none is more = best_as whole m ms s none is
+  told ms None none is more = record { initial = none; from = more }
+
+-- a sum's pairs are joined from the sum above and a share
+pub sums_joined : (n : ℕ) (above old new : SumFacts) (share : ShareFacts) → ((platform : PlatformFacts) (all ps qs : List Participant) → IsPermutation (ps ++ qs) all → n ≤ above.joined
+    → SumsUp old platform all → SumsUp above platform ps → IsShareOf share platform qs → SumsUp new platform all) → n ≤ new.joined
+    → JoinsPairs (kept_as.Sum above) (part_as.Share share) n (kept_as.Sum old) (kept_as.Sum new)
+sums_joined n above old new share joins joined m all ps qs order has keeps above_keeps is =
+    let sums = sum_initial m old all keeps in (
+      kept_sum m new all sums.0 (joins m.platform all ps qs order has sums.1 (sum_initial m above ps above_keeps).1 (part_share m share qs sums.0 is)),
+      joined,
+    )
+
+-- settings meet the participants at least but for names
+loosely_met : (whole : Bool) (platform : PlatformFacts) (ps : List Participant) (t : Settings) → meeting.MeetsAs whole platform ps t → meeting.MeetsLoosely platform ps t
+loosely_met true platform ps t meets = meets.loosely
+loosely_met false platform ps t meets = meets
+
+-- where each pair was looked at, none meet the members
+pub none_left : (n : ℕ) (whole : Bool) (m : Matter) (ms : List Member) → length m.platform.pairs ≤ n → IsOpenOf n whole m ms → (t : Settings) → ¬ (MeetsAs whole m ms t)
+none_left n whole m ms all open' = none_as whole m ms open'.initial (λ t meets.
+    elim (Contains-append_cases (NoImage ∷ []) (images m.platform.pairs m.platform.colours) t.offer (loosely_met whole m.platform (participants ms) t meets).sound.offer) as (λ _. ⊥) [
+      | inl plain ↦ open'.from.no_image t meets plain
+      | inr image ↦ open'.from.before t meets (subst (λ xs. Contains (images xs m.platform.colours) t.offer) (sym (take_all n m.platform.pairs all)) image)
+    ])
+
+-- there is an answer exactly where some settings meet
+pub told_met : (m : Matter) (d : Forest Member) (answer : Option Settings) (found : Bool) → found ≡ is_some answer → IsAnswer false m (settled d) answer
+    → IsTrue found ↔ SomeMeet (MeetsSoFar m) d
+told_met m d None found is none = (λ yes'. absurd (cc), λ some. absurd (none some.0 some.1))
+told_met m d (Some s) found is met = (λ yes'. (s, met), λ some. is)
 
 -- what is kept of a prefix and of a choice, joined
 pub joined_base : (above more joined : OnBase) → ((platform : PlatformFacts) (settings : Settings) (earlier ps qs : List Participant) → TakesBase platform settings earlier above ps

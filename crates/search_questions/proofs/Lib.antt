@@ -3,6 +3,7 @@ pub mod Shapes
 pub mod Sofar
 pub mod Finding
 pub mod AskedMembers
+pub mod Standing
 pub mod Walking
 pub mod Taking
 pub mod Accepting

@@ -1,5 +1,5 @@
 -- For which participants that stands which a search keeps of them.
-use Rattle.std.specs.Prelude.{◌≤◌, ◌<◌, ◌+◌, ◌*◌, ◌^◌, ◌↔◌, ◌++◌, List, [], All, IsTrue}
+use Rattle.std.specs.Prelude.{◌≤◌, ◌<◌, ◌+◌, ◌*◌, ◌^◌, ◌↔◌, ◌++◌, ℕ, List, [], All, IsTrue}
 use Rattle.std.specs.Prelude.{Option, Some, None, length}
 use Rattle.sysmem_counts.specs.Bounds as counts
 use Rattle.sysmem_counts.specs.Tally.{sum_of}
@@ -63,3 +63,8 @@ HaveRoom (kept_as.Sum sum) (part_as.Share share) = sum.added + share.sum.added �
 HaveRoom (kept_as.OnBase above) (part_as.OnBase kept) =
     sum_of above.counts + sum_of kept.counts < 2 ^ 62
 HaveRoom _ _ = Unit {0}
+
+-- the pairs up to so many are joined; on a base there are none to join
+abbrev pub HasPairs : PrefixSum → ℕ → Type 0
+HasPairs (kept_as.Sum sum) n = n ≤ sum.joined
+HasPairs (kept_as.OnBase kept) n = Unit {0}

@@ -1,12 +1,12 @@
 -- Where a search stands, and what it keeps there.
-use Rattle.std.specs.Prelude.{◌≡◌, ◌≤◌, ◌+◌, ℕ, List, [], Option, Some, IsSomeAnd}
-use Rattle.std.specs.Prelude.{length, slice_get, take}
+use Rattle.std.specs.Prelude.{◌≡◌, ◌<◌, ◌≤◌, ◌+◌, ◌++◌, ℕ, List, [], Option, Some, IsSomeAnd}
+use Rattle.std.specs.Prelude.{IsPermutation, length, slice_get, take}
 use Rattle.conflict_finding.specs.Subject.{IsSubject}
 use Rattle.verdict_claims.specs.Members.{participants}
 use Rattle.negotiation_inputs.specs.Participant.{Participant}
 use Rattle.search_questions.specs.declared.kept.ChoiceShare.{ChoiceShare}
 use Rattle.search_questions.specs.declared.levels.Level.{Level}
-use Rattle.search_questions.specs.Kept.{IsKeptFor, IsPartFor}
+use Rattle.search_questions.specs.Kept.{IsKeptFor, IsPartFor, HasPairs}
 use Rattle.verdict_claims.specs.Matter.{Matter, forest}
 use Rattle.verdict_claims.specs.Asked.{asked_in}
 use Rattle.sysmem_tree.specs.declared.layout.Layout.{Layout}
@@ -52,12 +52,38 @@ AreMade m levels = (k : ℕ) (level : Level) → slice_get levels k ≡ Some lev
 abbrev pub IsSlot : ℕ → ℕ → Type 0
 IsSlot place slot = slot + place ≡ 127
 
+-- each pair is joined there
+abbrev pub IsWholeLevel : Matter → Level → Type 0
+IsWholeLevel m level = HasPairs level.kept (length m.platform.pairs)
+
 -- what is kept in a slot is of the child whose slot it is: of the participants that the choice of
 -- it settles
 abbrev pub AreParts : Matter → Layout → List (Option ChoiceShare) → Type 0
 AreParts m layout parts = (place slot : ℕ) (part : ChoiceShare) → IsSlot place slot
     → slice_get parts slot ≡ Some (Some part)
     → IsPartFor m part (asked_in m.nodes (share_of layout place))
+
+-- something is kept in the slot
+abbrev pub IsFilled : List (Option ChoiceShare) → ℕ → Type 0
+IsFilled parts slot = (part : ChoiceShare) × (slice_get parts slot ≡ Some (Some part))
+
+-- the slot is that of a child, of which something is kept, and whose choice leads from what is
+-- settled at a level to what is settled at the next
+pub record IsStep (m : Matter) (layout : Layout) (parts : List (Option ChoiceShare))
+    (above next : Forest Member) (slot : ℕ) : Type 0 where
+  pub place : ℕ
+  pub own : IsSlot place slot
+  pub filled : IsFilled parts slot
+  pub adds : IsPermutation
+      (participants (settled above) ++ asked_in m.nodes (share_of layout place))
+      (participants (settled next))
+
+-- each choice is such a step, in the slot of its level
+abbrev pub AreSteps : Matter → Layout → List (Option ChoiceShare) → List ℕ → List Level → Type 0
+AreSteps m layout parts cs levels = (k : ℕ) (above next : Forest Member) → k < length cs
+    → after (forest m) (take k cs) ≡ Some above
+    → after (forest m) (take (k + 1) cs) ≡ Some next
+    → IsSomeAnd (slice_get levels (k + 1)) (λ level. IsStep m layout parts above next level.slot)
 
 -- what a search keeps where it stands
 pub record StandsAt (m : Matter) (layout : Layout) (parts : List (Option ChoiceShare))
@@ -67,3 +93,5 @@ pub record StandsAt (m : Matter) (layout : Layout) (parts : List (Option ChoiceS
   pub shares : AreParts m layout parts
   pub made : AreMade m levels
   pub fronts : AreLevels m layout cs levels
+  pub first : IsSomeAnd (slice_get levels 0) (IsWholeLevel m)
+  pub steps : AreSteps m layout parts cs levels

@@ -1,13 +1,12 @@
 //! What a search keeps of participants, so that each is read once and not again at each prefix that
 //! settles it.
 
-ghost use Rattle.std.specs.Prelude.{◌≡◌, ◌↔◌, ◌++◌, List, [], ◌∷◌, IfOk, IsTrue, MatchOption, Option, is_some};
-ghost use Rattle.sysmem_merge.specs.declared.settings.Settings.{Settings as Settled};
+ghost use Rattle.std.specs.Prelude.{◌++◌, List, [], ◌∷◌, length, IfOk, IfErr, IsTrue};
 ghost use Rattle.verdict_claims.specs.Matter.{Matter};
 ghost use Rattle.verdict_claims.specs.Members.{participants};
 ghost use Rattle.negotiation_inputs.specs.Participant.{Participant};
-ghost use Rattle.search_questions.specs.Kept.{IsKeptFor, IsPartFor, HasRoom, HaveRoom};
-ghost use Rattle.search_questions.specs.Question.{MeetsOf, MeetsSoFar, IsBestOf};
+ghost use Rattle.search_questions.specs.Asking.{IsAnswer, IsOpenOf, JoinsPairs, LooksAt};
+ghost use Rattle.search_questions.specs.Kept.{IsKeptFor, IsPartFor, HasPairs, HasRoom, HaveRoom};
 ghost use Rattle.search_questions.specs.declared.kept.PrefixSum.TheVariants as kept_as;
 ghost use Rattle.sysmem_tree.specs.Shape.{Member};
 
@@ -15,7 +14,7 @@ use crate::on_base::OnBase;
 use conflict_finding::Subject;
 use negotiation_inputs::Constraints;
 use std::alloc::AllocError;
-use sysmem_merge::{Settings, Share, Sum};
+use sysmem_merge::{Asked, Settings, Share, Sum};
 
 /// What is kept of the participants that one choice settles, made once for a search.
 #[derive(Drop)]
@@ -68,7 +67,8 @@ impl PrefixSum {
     // In line, what is made isn't copied to its caller.
     #[inline]
     pub(crate) fn new(subject: &Subject<'_>) -> Result<PrefixSum, AllocError>
-        ensures { IfOk result (λ made. IsKeptFor subject.now made []) }
+        ensures kept { IfOk result (λ made. IsKeptFor subject.now made []) }
+        ensures whole { IfOk result (λ made. HasPairs made (length subject.now.platform.pairs)) }
     {
         subject.recall();
         match subject.base() {
@@ -77,8 +77,8 @@ impl PrefixSum {
         }
     }
 
-    /// Becomes what is kept of the participants above, then those of a part, whatever it was. It
-    /// takes no memory.
+    /// Becomes what is kept of the participants above, then those of a part, whatever it was, but
+    /// for pairs. It takes no memory.
     pub(crate) fn join_of(&mut self, subject: &Subject<'_>, above: &PrefixSum, part: &ChoiceShare)
         requires { HaveRoom above.now part.now }
         ensures { (others ps qs : List Participant) → IsKeptFor subject.now self.old others
@@ -91,53 +91,79 @@ impl PrefixSum {
         }
     }
 
-    /// Whether some settings meet the participants, as long as more may come. It takes no memory.
-    pub(crate) fn is_met(&self, subject: &Subject<'_>) -> bool
-        ensures { (ms : List Member) → IsKeptFor subject.now self.now (participants ms)
-            → IsTrue result ↔ ((t : Settled) × MeetsSoFar subject.now ms t) }
+    /// Whether it has the pairs up to so many.
+    #[inline]
+    pub(crate) fn has_pairs(&self, pairs: usize) -> bool
+        ensures { IsTrue result → HasPairs self.now pairs }
     {
         match self {
-            PrefixSum::Sum(sum) => sum.ask(subject.platform(), false).is_ok(),
-            PrefixSum::OnBase(kept) => {
-                match subject.base() {
-                    Some(base) => kept.suits(&base.settings()),
-                    None => false,
+            PrefixSum::Sum(sum) => sum.has_joined(pairs),
+            PrefixSum::OnBase(_) => true,
+        }
+    }
+
+    /// Has the pairs up to so many, where what is kept above has them: it is of the participants
+    /// there, then those of a part. It takes no memory.
+    pub(crate) fn join_pairs(&mut self, above: &PrefixSum, part: &ChoiceShare, pairs: usize)
+        ensures { JoinsPairs above.now part.now pairs self.old self.new }
+    {
+        if let PrefixSum::Sum(sum) = self {
+            if let PrefixSum::Sum(above) = above {
+                if let ChoiceShare::Share(share) = part {
+                    sum.join_pairs(above, share, pairs);
                 }
             }
         }
     }
 
-    /// The best settings for the participants, who are all that there are; `None` where none meet
-    /// them. It takes no memory.
+    /// The best settings for the participants, as far as that is known without a look at pairs:
+    /// `Ok(None)` where none meet them; else `Err` with the first pair to look at. `whole` says
+    /// that they are all that there are. It takes no memory.
     // In line, a caller that asks only whether there are any copies no settings.
     #[inline(always)]
-    pub(crate) fn best(&self, subject: &Subject<'_>) -> Option<Settings>
-        ensures { (ms : List Member) → IsKeptFor subject.now self.now (participants ms)
-            → MatchOption result ((t : Settled) → ¬ (MeetsOf subject.now ms t))
-            (IsBestOf subject.now ms) }
+    pub(crate) fn ask(&self, subject: &Subject<'_>, whole: bool) -> Result<Option<Settings>, usize>
+        ensures known { (ms : List Member) → IsKeptFor subject.now self.now (participants ms)
+            → IfOk result (IsAnswer whole subject.now ms) }
+        ensures open { (ms : List Member) → IsKeptFor subject.now self.now (participants ms)
+            → IfErr result (λ n. IsOpenOf n whole subject.now ms) }
     {
         match self {
-            PrefixSum::Sum(sum) => sum.best_settings(subject.platform(), true).ok(),
+            PrefixSum::Sum(sum) => match sum.ask(subject.platform(), whole) {
+                Asked::Met(settings) => Ok(Some(settings)),
+                Asked::Unmet(_) => Ok(None),
+                Asked::Open(pair) => Err(pair),
+            },
             PrefixSum::OnBase(kept) => {
-                let settings = subject.base()?.settings();
+                let Some(base) = subject.base() else {
+                    return Ok(None);
+                };
+                let settings = base.settings();
                 if kept.suits(&settings) {
-                    Some(settings)
+                    Ok(Some(settings))
                 } else {
-                    None
+                    Ok(None)
                 }
             }
         }
     }
 
-    /// Whether there are best settings for the participants, who are all that there are. It takes
-    /// no memory.
-    pub(crate) fn has_best(&self, subject: &Subject<'_>) -> bool
-        ensures { (best : Option Settled) × (result ≡ is_some best)
-            × ((ms : List Member) → IsKeptFor subject.now self.now (participants ms)
-            → MatchOption best ((t : Settled) → ¬ (MeetsOf subject.now ms t))
-            (IsBestOf subject.now ms)) }
+    /// The best settings for the participants, where they have an image of the pair at this index,
+    /// and none without an image or with one of an earlier pair; `None` where they have none of
+    /// this pair either. It takes no memory.
+    // In line, a caller that asks only whether there are any copies no settings.
+    #[inline(always)]
+    pub(crate) fn ask_pair(
+        &mut self,
+        subject: &Subject<'_>,
+        index: usize,
+        whole: bool,
+    ) -> Option<Settings>
+        ensures { LooksAt index whole subject.now self.old self.new result }
     {
-        self.best(subject).is_some()
+        match self {
+            PrefixSum::Sum(sum) => sum.ask_pair(subject.platform(), index, whole),
+            PrefixSum::OnBase(_) => None,
+        }
     }
 }
 

@@ -3,7 +3,7 @@
 ghost use Rattle.std.specs.Prelude.{◌≡◌, ◌≢◌, ◌<◌, ◌≤◌, ◌+◌, ◌++◌, ℕ, List, [], Option, Some, IfOk, IsSomeAnd, OnOk, length, slice_get};
 ghost use Rattle.negotiation_inputs.specs.Participant.{Participant};
 ghost use Rattle.search_questions.specs.Kept.{IsKeptFor, IsPartFor, HaveRoom};
-ghost use Rattle.search_questions.specs.Standing.{AreMade, AreParts, IsLevel, IsSlot, LaysOut};
+ghost use Rattle.search_questions.specs.Standing.{AreMade, AreParts, IsFilled, IsLevel, IsSlot, IsWholeLevel, LaysOut};
 ghost use Rattle.search_questions.specs.declared.kept.ChoiceShare.{ChoiceShare as AChoiceShare};
 ghost use Rattle.search_questions.specs.declared.levels.Level.{Level as ALevel};
 ghost use Rattle.sysmem_tree.specs.OpenGroups.{HasChild, HoldsNodes, share_of};
@@ -22,14 +22,17 @@ pub(crate) struct Level {
     pub(crate) group: Option<GroupPlace>,
     /// What is kept of the participants that they settle.
     pub(crate) kept: PrefixSum,
+    /// The slot of the child that was chosen last; at no choice any.
+    pub(crate) slot: usize,
 }
 
-/// Makes the level below this depth that of one choice more, which settles a part and leaves this
-/// group open.
+/// Makes the level below this depth that of one choice more, which settles the part in a slot and
+/// leaves this group open. Of pairs nothing is joined there.
 pub(crate) fn join_level(
     levels: &mut Vec<Level>,
     subject: &Subject<'_>,
     depth: usize,
+    slot: usize,
     part: &ChoiceShare,
     group: Option<GroupPlace>,
 )
@@ -44,18 +47,20 @@ pub(crate) fn join_level(
         → IsKeptFor subject.now above.kept ps → IsPartFor subject.now part.now qs
         → (others : List Participant) → IsKeptFor subject.now old.kept others
         → IsSomeAnd (slice_get levels.new.items (depth + 1)) (λ level. (level.group ≡ group)
-        × IsKeptFor subject.now level.kept (ps ++ qs)) }
+        × (level.slot ≡ slot) × IsKeptFor subject.now level.kept (ps ++ qs)) }
 {
     let (above, below) = levels.split_at_mut(depth + 1);
     let level = &mut below[0];
     level.kept.join_of(subject, &above[depth].kept, part);
     level.group = group;
+    level.slot = slot;
 }
 
 /// The level of no choice.
 pub(crate) fn first_level(subject: &Subject<'_>, layout: &Layout) -> Result<Level, AllocError>
     requires { LaysOut subject.now layout.now }
-    ensures { IfOk result (λ level. IsLevel subject.now layout.now [] level) }
+    ensures level { IfOk result (λ level. IsLevel subject.now layout.now [] level) }
+    ensures whole { IfOk result (IsWholeLevel subject.now) }
 {
     subject.recall();
     let none = PrefixSum::new(subject)?;
@@ -64,8 +69,13 @@ pub(crate) fn first_level(subject: &Subject<'_>, layout: &Layout) -> Result<Leve
     add_settled(&mut part, subject, layout, walk);
     let mut kept = PrefixSum::new(subject)?;
     kept.join_of(subject, &none, &part);
+    kept.join_pairs(&none, &part, subject.platform().pairs().len());
     let group = layout.first_open();
-    Ok(Level { group, kept })
+    Ok(Level {
+        group,
+        kept,
+        slot: 0,
+    })
 }
 
 /// Has a level below this depth, whatever stands there.
@@ -98,7 +108,11 @@ fn add_level(levels: &mut Vec<Level>, subject: &Subject<'_>) -> Result<(), Alloc
     ensures made { AreMade subject.now levels.old.items → AreMade subject.now levels.new.items }
 {
     let kept = PrefixSum::new(subject)?;
-    levels.push(Level { group: None, kept })?;
+    levels.push(Level {
+        group: None,
+        kept,
+        slot: 0,
+    })?;
     Ok(())
 }
 
@@ -115,6 +129,7 @@ pub(crate) fn slot_of(child: ChildPlace) -> usize
 fn reserve_slot(parts: &mut Vec<Option<ChoiceShare>>, slot: usize) -> Result<(), AllocError>
     requires { slot < MOST_NODES }
     ensures there { OnOk result (slot < length parts.new.items) }
+    ensures filled { (at : ℕ) → IsFilled parts.old.items at → IsFilled parts.new.items at }
     ensures kept { (at : ℕ) (part : AChoiceShare) → slice_get parts.new.items at ≡ Some (Some part)
         → slice_get parts.old.items at ≡ Some (Some part) }
 {
@@ -141,6 +156,7 @@ pub(crate) fn keep_part(
     requires nodes { HoldsNodes layout.now subject.now.nodes }
     ensures parts { AreParts subject.now layout.now parts.old.items
         → AreParts subject.now layout.now parts.new.items }
+    ensures filled { (at : ℕ) → IsFilled parts.old.items at → IsFilled parts.new.items at }
     ensures there { OnOk result ((slot : ℕ) → IsSlot child slot → (part : AChoiceShare)
         × (slice_get parts.new.items slot ≡ Some (Some part))) }
 {
@@ -171,6 +187,7 @@ fn read_part(
     requires nodes { HoldsNodes layout.now subject.now.nodes }
     ensures parts { AreParts subject.now layout.now parts.old.items
         → AreParts subject.now layout.now parts.new.items }
+    ensures filled { (at : ℕ) → IsFilled parts.old.items at → IsFilled parts.new.items at }
     ensures there { OnOk result ((own : ℕ) → IsSlot child own → (part : AChoiceShare)
         × (slice_get parts.new.items own ≡ Some (Some part))) }
 {

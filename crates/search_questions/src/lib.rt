@@ -10,6 +10,7 @@
 //! ```
 #![tactic(auto)]
 
+mod asking;
 mod kept;
 mod levels;
 mod on_base;

@@ -6,12 +6,14 @@ ghost use Rattle.search_questions.specs.Live.{SomeMeet};
 ghost use Rattle.sysmem_tree.specs.declared.tree.TheConstants.{MOST_NODES};
 ghost use Rattle.verdict_claims.specs.Conflict.{IsConflictFor};
 ghost use Rattle.verdict_claims.specs.FirstConflict.{IsFirstConflictFor};
+ghost use Rattle.search_questions.specs.Asking.{IsAnswer};
 ghost use Rattle.search_questions.specs.Question.{MeetsOf, MeetsHere, MeetsSoFar, IsBestOf};
 ghost use Rattle.verdict_claims.specs.Matter.{forest, terms};
 ghost use Rattle.search_questions.specs.Standing.{Standing};
 ghost use Rattle.sysmem_tree.specs.Forest.{choices, settled};
 ghost use Rattle.sysmem_tree.specs.Selection.{IsPrefix, after};
 
+use crate::asking::best_at;
 use crate::kept::ChoiceShare;
 use crate::levels::{Level, first_level, join_level, keep_part, reserve_level, slot_of};
 use conflict_finding::{Learnt, Subject, find_conflict_as};
@@ -123,34 +125,47 @@ impl<'a> Question<'a> {
 
     /// Whether some settings meet the participants that the choices settle, as long as more may
     /// come. It takes no memory.
-    pub fn is_met(&self) -> bool
-        ensures { IfSome (after (forest self.now.matter) self.now.choices)
-            (λ d. IsTrue result ↔ SomeMeet (MeetsSoFar self.now.matter) d) }
+    pub fn is_met(&mut self) -> bool
+        ensures same { self.new ≡ self.old }
+        ensures met { IfSome (after (forest self.old.matter) self.old.choices)
+            (λ d. IsTrue result ↔ SomeMeet (MeetsSoFar self.old.matter) d) }
     {
-        let level = &self.levels[self.prefix.choices().len()];
-        level.kept.is_met(self.subject)
+        self.best_as(false).is_some()
     }
 
     /// The best settings for the participants of a selection; `None` where none meet them. It takes
     /// no memory.
-    pub fn best(&self) -> Option<Settings>
-        ensures { IfSome (after (forest self.now.matter) self.now.choices) (λ d. MatchOption result
-            ((t : Settled) → ¬ (MeetsOf self.now.matter (settled d) t))
-            (IsBestOf self.now.matter (settled d))) }
+    pub fn best(&mut self) -> Option<Settings>
+        ensures same { self.new ≡ self.old }
+        ensures best { IfSome (after (forest self.old.matter) self.old.choices) (λ d.
+            MatchOption result ((t : Settled) → ¬ (MeetsOf self.old.matter (settled d) t))
+            (IsBestOf self.old.matter (settled d))) }
     {
-        let level = &self.levels[self.prefix.choices().len()];
-        level.kept.best(self.subject)
+        self.best_as(true)
     }
 
     /// Whether there are best settings for the participants of a selection. It takes no memory.
-    pub fn has_best(&self) -> bool
-        ensures { (best : Option Settled) × (result ≡ is_some best)
-            × IfSome (after (forest self.now.matter) self.now.choices) (λ d. MatchOption best
-            ((t : Settled) → ¬ (MeetsOf self.now.matter (settled d) t))
-            (IsBestOf self.now.matter (settled d))) }
+    pub fn has_best(&mut self) -> bool
+        ensures same { self.new ≡ self.old }
+        ensures best { (best : Option Settled) × (result ≡ is_some best)
+            × IfSome (after (forest self.old.matter) self.old.choices) (λ d. MatchOption best
+            ((t : Settled) → ¬ (MeetsOf self.old.matter (settled d) t))
+            (IsBestOf self.old.matter (settled d))) }
     {
-        let level = &self.levels[self.prefix.choices().len()];
-        level.kept.has_best(self.subject)
+        self.best_as(true).is_some()
+    }
+
+    /// The best settings for the participants that the choices settle, or where more may come any
+    /// that meet them; `None` where none do.
+    // In line, a caller that asks only whether there are any copies no settings.
+    #[inline(always)]
+    fn best_as(&mut self, whole: bool) -> Option<Settings>
+        ensures same { self.new ≡ self.old }
+        ensures answer { IfSome (after (forest self.old.matter) self.old.choices)
+            (λ d. IsAnswer whole self.old.matter (settled d) result) }
+    {
+        let depth = self.prefix.choices().len();
+        best_at(&mut self.levels, &self.parts, self.subject, depth, whole)
     }
 
     /// The conflict of the participants that the choices settle which comes first, where no
@@ -248,11 +263,12 @@ impl<'a> Question<'a> {
         let child = self.layout.child_at(group, choice);
         keep_part(&mut self.parts, child, self.subject, &self.layout)?;
         reserve_level(&mut self.levels, depth, self.subject)?;
-        let Some(part) = &self.parts[slot_of(child)] else {
+        let slot = slot_of(child);
+        let Some(part) = &self.parts[slot] else {
             return Ok(());
         };
         let next = self.layout.open_after(child);
-        join_level(&mut self.levels, self.subject, depth, part, next);
+        join_level(&mut self.levels, self.subject, depth, slot, part, next);
         self.prefix.push(choice);
         Ok(())
     }

@@ -35,10 +35,10 @@ use Rattle.sysmem_merge.specs.Aggregate.{AreSizes, IsListed, AreKeptBounds, IsKe
 use Rattle.sysmem_merge.specs.Demands.{OfferDemand, counts_asked, place_demand, place_demands, offer_demand, offer_demands}
 use Rattle.sysmem_merge.specs.Laws.{StandsInAnyOrder}
 use Rattle.sysmem_merge.specs.Offers.{has_format, has_colour, Asks, bounds_asked, names_format, names_modifier, names_colour}
-use Rattle.sysmem_merge.specs.Pairs.{in_colour, IsPairKept}
+use Rattle.sysmem_merge.specs.Pairs.{in_colour, ArePairsJoined, IsPairKept}
 use Rattle.sysmem_merge.specs.Sum.{IsPlaced, SumsInAnyOrder}
 use Rattle.list_lemmas.proofs.CallerLemmas.{some_in_order}
-use Rattle.sysmem_merge.proofs.Summing.{has_for_some}
+use Rattle.sysmem_merge.proofs.Passed.{none_more}
 use Rattle.negotiation_inputs.specs.Participant.{Participant}
 use Rattle.negotiation_inputs.specs.Platform.{PlatformFacts}
 
@@ -185,6 +185,15 @@ pair_in_order pair ds es kept order is = record {
   plain = is.plain;
 }
 
+-- nor does for whom pairs are joined depend on the order
+pub joined_in_order : (from to : ℕ) (pairs : List Pair) (ds es : List OfferDemand) (kept : List KeptPair) → IsPermutation ds es → ArePairsJoined from to pairs ds kept → ArePairsJoined from to pairs es kept
+joined_in_order from to pairs ds es kept order are = record {
+  many = are.many;
+  within = are.within;
+  these = λ k pair one above below here got. pair_in_order pair ds es one order (are.these k pair one above below here got);
+  each = are.each;
+}
+
 -- a sum of participants is their sum in any order
 pub sums_in_order : SumsInAnyOrder
 sums_in_order sum platform ps qs order sums =
@@ -193,13 +202,8 @@ sums_in_order sum platform ps qs order sums =
       places = places_in_order sum.places platform ps qs order sums.places;
       place = place_in_order platform ps qs order sum.place sums.place;
       no_image = kept_in_order NoImage (offer_demands ps) (offer_demands qs) sum.no_image offered sums.no_image;
-      pairs = record {
-        these = λ has. let kept = sums.pairs.these (has_for_some platform ps qs (some_in_order ps qs order) has) in record {
-          many = kept.many;
-          each = λ k pair one here got. pair_in_order pair (offer_demands ps) (offer_demands qs) one offered (kept.each k pair one here got);
-        };
-        some = sums.pairs.some;
-      };
+      pairs = joined_in_order sum.passed sum.joined platform.pairs (offer_demands ps) (offer_demands qs) sum.pairs offered sums.pairs;
+      passed = none_more sum.passed platform ps qs (some_in_order ps qs order) sums.passed;
       sizes = sizes_in_order (offer_demands ps) (offer_demands qs) sum.least_size sum.greatest_size offered sums.sizes;
       many = sums.many ∙ sym (length_permutation ps qs order);
     }

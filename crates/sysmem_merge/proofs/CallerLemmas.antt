@@ -1,2 +1,3 @@
--- What callers need of sound settings.
+-- What callers need of sound settings, and of reasons.
 pub use Rattle.sysmem_merge.proofs.SoundSettings.{offered_test}
+pub use Rattle.sysmem_merge.proofs.Reasons.{first_count}

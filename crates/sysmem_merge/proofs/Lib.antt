@@ -16,6 +16,7 @@ pub mod OneLine
 pub mod PairFits
 pub mod PairKeeping
 pub mod PairLists
+pub mod Passed
 pub mod Reasons
 pub mod Sizes
 pub mod SomeMet

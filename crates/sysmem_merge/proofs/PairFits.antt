@@ -1,5 +1,5 @@
 -- The first offer that suits participants, by pairs.
-use Rattle.std.proofs.Common.{arith, ℕ, suc, ◌+◌, ◌-◌, ◌≡◌, ◌≤◌, inl, inr, Bool, true, false, ◌&&◌, List, [], ◌∷◌, ◌++◌, Some, Contains, length, map, take, drop, slice_get, refl, sym, ap, ◌∙◌, subst}
+use Rattle.std.proofs.Common.{arith, ℕ, suc, ◌+◌, ◌-◌, ◌≡◌, ◌≤◌, inl, inr, Bool, true, false, ◌&&◌, List, [], ◌∷◌, ◌++◌, Some, Contains, ◌⊎◌, append_assoc, length, map, take, drop, slice_get, refl, sym, ap, ◌∙◌, subst}
 use Rattle.std.specs.Option.{option_map}
 use Rattle.std.proofs.lemmas.Bool.{cases_lt}
 use Rattle.std.proofs.lemmas.Grind.{flat_map-append}
@@ -32,50 +32,30 @@ use Rattle.sysmem_merge.specs.Offers.{is_named, is_format_named, is_modifier_nam
 use Rattle.sysmem_merge.specs.Reasons.{IsOfferLine, IsOfferRefused, AreOffersRefused}
 use Rattle.sysmem_merge.proofs.FirstFits.{place_of, contained_at, unnamed_line}
 
--- two lists of refused offers
-pub refused_both : (whole : Bool) (xs ys : List Offer) (ds : List OfferDemand) → AreOffersRefused whole xs ds → AreOffersRefused whole ys ds → AreOffersRefused whole (xs ++ ys) ds
-refused_both whole xs ys ds left right o has = elim (Contains-append_cases xs ys o has) as (λ _. IsOfferRefused whole o ds) [
-  | inl first ↦ left o first
-  | inr second ↦ right o second
-]
-
--- the first of a list, with more behind it
-pub first_before : (whole : Bool) (xs ys : List Offer) (ds : List OfferDemand) (s : Fit) → IsFirstFit whole xs ds s → IsFirstFit whole (xs ++ ys) ds s
-first_before whole xs ys ds s first =
-    let at = place_of xs s.offer first.offered in
+-- an offer that is earlier than one of the front is earlier there
+pub earlier_before : (xs ys : List Offer) (o p : Offer) → Contains xs p → IsEarlierOffer (xs ++ ys) o p → IsEarlierOffer xs o p
+earlier_before xs ys o p has earlier =
+    let at = place_of xs p has in
     let within = at.1 in
-    let there : slice_get (xs ++ ys) at.0 ≡ Some s.offer = slice_get-append_left xs ys at.0 within ∙ at.2 in
+    let below = earlier.before at.0 (slice_get-append_left xs ys at.0 within ∙ at.2) in
     record {
-      offered = Contains-append_left xs ys s.offer first.offered;
-      best = first.best;
-      named = first.named;
-      first = λ o earlier. let below = earlier.before at.0 there in
-          first.first o (record {
-            index = earlier.index;
-            here = sym (slice_get-append_left xs ys earlier.index (omega (arith, below, within))) ∙ earlier.here;
-            before = λ k here. earlier.before k (slice_get-append_left xs ys k (slice_get_within xs k s.offer here) ∙ here);
-          });
+      index = earlier.index;
+      here = sym (slice_get-append_left xs ys earlier.index (omega (arith, below, within))) ∙ earlier.here;
+      before = λ k here. earlier.before k (slice_get-append_left xs ys k (slice_get_within xs k p here) ∙ here);
     }
 
--- the first of a list, behind refused ones
-pub first_after : (whole : Bool) (xs ys : List Offer) (ds : List OfferDemand) (s : Fit) → AreOffersRefused whole xs ds → IsFirstFit whole ys ds s → IsFirstFit whole (xs ++ ys) ds s
-first_after whole xs ys ds s refused first = record {
-  offered = Contains-append_right xs ys s.offer first.offered;
-  best = first.best;
-  named = first.named;
-  first = λ o earlier. elim (cases_lt earlier.index (length xs)) as (λ _. IsOfferRefused whole o ds) [
-    | inl below ↦ refused o (contained_at xs earlier.index o (sym (slice_get-append_left xs ys earlier.index below) ∙ earlier.here))
-    | inr above ↦ first.first o (behind o earlier above)
-  ];
-} where
-  behind : (o : Offer) (earlier : IsEarlierOffer (xs ++ ys) o s.offer) → length xs ≤ earlier.index → IsEarlierOffer ys o s.offer
-  behind o earlier above =
+-- one that is earlier is of the front, or earlier behind it
+pub earlier_after : (xs ys : List Offer) (o p : Offer) → IsEarlierOffer (xs ++ ys) o p → Contains xs o ⊎ IsEarlierOffer ys o p
+earlier_after xs ys o p earlier = elim (cases_lt earlier.index (length xs)) as (λ _. Contains xs o ⊎ IsEarlierOffer ys o p) [
+  | inl below ↦ inl (contained_at xs earlier.index o (sym (slice_get-append_left xs ys earlier.index below) ∙ earlier.here))
+  | inr above ↦
       let is : earlier.index ≡ length xs + (earlier.index - length xs) = omega (arith, above) in
-      record {
+      inr (record {
         index = earlier.index - length xs;
         here = sym (slice_get-append_add xs ys (length xs) (earlier.index - length xs) refl) ∙ (ap (slice_get (xs ++ ys)) (sym is) ∙ earlier.here);
         before = λ k here. let less = earlier.before (length xs + k) (slice_get-append_add xs ys (length xs) k refl ∙ here) in omega (arith, above, less);
-      }
+      })
+]
 
 -- the offer at a place of a pair's
 pub offer_in : (pair : Pair) (colours : List ColourSpace) (k : ℕ) (c : ColourSpace) (o : Offer) → slice_get colours k ≡ Some c → slice_get (map (Image pair) colours) k ≡ Some o → Image pair c ≡ o
@@ -89,38 +69,22 @@ split_at i xs x here =
     ap (λ n. take n xs) next ∙ (take-suc xs i x (slice_get_within xs i x here) ∙ ap (λ y. take i xs ++ y ∷ []) (get_or_from_slice_get xs i x x here))
 
 -- the offers of the pairs so far and of this one
-images_more : (i : ℕ) (pairs : List Pair) (colours : List ColourSpace) (pair : Pair) → slice_get pairs i ≡ Some pair
+pub images_more : (i : ℕ) (pairs : List Pair) (colours : List ColourSpace) (pair : Pair) → slice_get pairs i ≡ Some pair
     → images (take (i + 1) pairs) colours ≡ images (take i pairs) colours ++ map (Image pair) colours
 images_more i pairs colours pair here =
     ap (λ ps. images ps colours) (split_at i pairs pair here)
     ∙ (flat_map-append (λ p. map (λ c. Image p c) colours) (take i pairs) (pair ∷ []) ∙ ap (λ os. images (take i pairs) colours ++ os) (append-nil (map (Image pair) colours)))
 
--- all offers with an image: those of the pairs so far, and those of the others
-images_split : (i : ℕ) (pairs : List Pair) (colours : List ColourSpace) → images (take i pairs) colours ++ images (drop i pairs) colours ≡ images pairs colours
-images_split i pairs colours =
-    sym (flat_map-append (λ p. map (λ c. Image p c) colours) (take i pairs) (drop i pairs)) ∙ ap (λ ps. images ps colours) (take-append-drop i pairs)
+-- all offers: those of the pairs before, of this one and of those behind
+pub offers_split : (i : ℕ) (pairs : List Pair) (colours : List ColourSpace) (pair : Pair) → slice_get pairs i ≡ Some pair
+    → (NoImage ∷ images (take i pairs) colours) ++ (map (Image pair) colours ++ images (drop (i + 1) pairs) colours) ≡ offers pairs colours
+offers_split i pairs colours pair here =
+    let rest = images (drop (i + 1) pairs) colours in
+    sym (append_assoc (NoImage ∷ images (take i pairs) colours) (map (Image pair) colours) rest)
+    ∙ (ap (λ os. NoImage ∷ (os ++ rest)) (sym (images_more i pairs colours pair here))
+    ∙ ap (λ os. NoImage ∷ os) (sym (flat_map-append (λ p. map (λ c. Image p c) colours) (take (i + 1) pairs) (drop (i + 1) pairs)) ∙ ap (λ ps. images ps colours) (take-append-drop (i + 1) pairs)))
 
 module _ (whole : Bool) (ds : List OfferDemand) where
-  -- no offer is refused of no pair
-  pub none_refused : (pairs : List Pair) (colours : List ColourSpace) → AreOffersRefused whole (images (take 0 pairs) colours) ds
-  none_refused pairs colours o has = let at = place_of [] o has in absurd (omega (arith, at.1))
-
-  -- the offers of one pair more are refused
-  pub refused_more : (i : ℕ) (pairs : List Pair) (colours : List ColourSpace) (pair : Pair) → slice_get pairs i ≡ Some pair → AreOffersRefused whole (images (take i pairs) colours) ds
-      → AreOffersRefused whole (map (Image pair) colours) ds → AreOffersRefused whole (images (take (i + 1) pairs) colours) ds
-  refused_more i pairs colours pair here before now =
-      subst (λ os. AreOffersRefused whole os ds) (sym (images_more i pairs colours pair here)) (refused_both whole (images (take i pairs) colours) (map (Image pair) colours) ds before now)
-
-  -- the first of a pair's offers is the first of all with an image, where
-  -- those of the pairs before are refused
-  pub first_image : (i : ℕ) (pairs : List Pair) (colours : List ColourSpace) (pair : Pair) (s : Fit) → slice_get pairs i ≡ Some pair → AreOffersRefused whole (images (take i pairs) colours) ds
-      → IsFirstFit whole (map (Image pair) colours) ds s → IsFirstFit whole (images pairs colours) ds s
-  first_image i pairs colours pair s here before first =
-      subst (λ os. IsFirstFit whole os ds s) (images_split (i + 1) pairs colours)
-      (first_before whole (images (take (i + 1) pairs) colours) (images (drop (i + 1) pairs) colours) ds s
-      (subst (λ os. IsFirstFit whole os ds s) (sym (images_more i pairs colours pair here))
-      (first_after whole (images (take i pairs) colours) (map (Image pair) colours) ds s before first)))
-
   -- the only offer of a list
   one_offer : (o p : Offer) → Contains (o ∷ []) p → o ≡ p
   one_offer o p has =
@@ -131,25 +95,15 @@ module _ (whole : Bool) (ds : List OfferDemand) where
   pub one_refused : (o : Offer) → IsOfferRefused whole o ds → AreOffersRefused whole (o ∷ []) ds
   one_refused o refused p has = subst (λ q. IsOfferRefused whole q ds) (one_offer o p has) refused
 
-  pub one_first : (o : Offer) (s : Fit) → IsBestFit o ds s → (whole ≡ true → is_named o ds ≡ true) → IsFirstFit whole (o ∷ []) ds s
-  one_first o s best named =
+  -- no image is the first of all offers
+  pub first_without : (pairs : List Pair) (colours : List ColourSpace) (s : Fit) → IsBestFit NoImage ds s → (whole ≡ true → is_named NoImage ds ≡ true) → IsFirstFit whole (offers pairs colours) ds s
+  first_without pairs colours s best named =
       let same = best.offer in record {
-        offered = contained_at (o ∷ []) 0 s.offer (ap (λ q. Some q) (sym same));
+        offered = contained_at (offers pairs colours) 0 s.offer (ap (λ q. Some q) (sym same));
         best = subst (λ q. IsBestFit q ds s) (sym same) best;
         named = subst (λ q. whole ≡ true → is_named q ds ≡ true) (sym same) named;
         first = λ p earlier. absurd (let less = earlier.before 0 (ap (λ q. Some q) (sym same)) in omega (arith, less));
       }
-
-  -- no image, then those with an image
-  pub all_refused : (pairs : List Pair) (colours : List ColourSpace) → IsOfferRefused whole NoImage ds → AreOffersRefused whole (images pairs colours) ds → AreOffersRefused whole (offers pairs colours) ds
-  all_refused pairs colours none images' = refused_both whole (NoImage ∷ []) (images pairs colours) ds (one_refused NoImage none) images'
-
-  pub first_without : (pairs : List Pair) (colours : List ColourSpace) (s : Fit) → IsBestFit NoImage ds s → (whole ≡ true → is_named NoImage ds ≡ true) → IsFirstFit whole (offers pairs colours) ds s
-  first_without pairs colours s best named = first_before whole (NoImage ∷ []) (images pairs colours) ds s (one_first NoImage s best named)
-
-  pub first_with : (pairs : List Pair) (colours : List ColourSpace) (s : Fit) → IsOfferRefused whole NoImage ds → IsFirstFit whole (images pairs colours) ds s
-      → IsFirstFit whole (offers pairs colours) ds s
-  first_with pairs colours s none first = first_after whole (NoImage ∷ []) (images pairs colours) ds s (one_refused NoImage none) first
 
 -- bounds that are refused refuse each of the pair's offers
 pub refused_pair : (whole : Bool) (pair : Pair) (colours : List ColourSpace) (ds : List OfferDemand) (kept : KeptPair) (f : Field) → kept.bounds ≡ Refused f → IsPairKept pair ds kept

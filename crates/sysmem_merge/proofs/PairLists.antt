@@ -1,12 +1,13 @@
 -- What is kept of each pair of a list.
-use Rattle.std.proofs.Common.{arith, ℕ, ◌+◌, ◌≡◌, ◌<◌, ◌≤◌, List, [], ◌∷◌, ◌++◌, Some, length, slice_get, slice_set, sym, ◌∙◌, subst, below_more, length-append}
+use Rattle.std.proofs.Common.{arith, ℕ, ◌+◌, ◌≡◌, ◌<◌, ◌≤◌, inl, inr, List, [], ◌∷◌, ◌++◌, Some, length, slice_get, slice_set, sym, ◌∙◌, subst, below_more, length-append}
+use Rattle.std.proofs.lemmas.Bool.{cases_eq}
 use Rattle.std.proofs.lemmas.List.{length-set}
 use Rattle.std.proofs.lemmas.Option.{slice_get_within, same_Some}
 use Rattle.list_lemmas.proofs.CallerLemmas.{slice_get-append_left, slice_get-append_add, slice_get-set_same, slice_get-set_other}
 use Rattle.sysmem_formats.specs.declared.offer.Pair.{Pair}
 use Rattle.sysmem_merge.specs.declared.pair.KeptPair.{KeptPair}
 use Rattle.sysmem_merge.specs.Demands.{OfferDemand}
-use Rattle.sysmem_merge.specs.Pairs.{IsPairKept, ArePairsKept}
+use Rattle.sysmem_merge.specs.Pairs.{IsPairKept, ArePairsJoined, ArePairsKept}
 
 -- what is kept at a place of a list stands for these participants and the pair at that place
 abbrev pub IsPairKeptAt : List Pair → List OfferDemand → List KeptPair → ℕ → Type 0
@@ -66,3 +67,55 @@ one_done i pairs new old kept one next here is before = record {
 pub all_done : (i : ℕ) (pairs : List Pair) (new old : List OfferDemand) (kept : List KeptPair) → length kept ≤ i → ArePairsUpTo i pairs new old kept → ArePairsKept pairs new kept
 all_done i pairs new old kept past before =
     record { many = before.many; each = λ k pair one there got. before.done k (omega (arith, past, slice_get_within kept k one got)) pair one there got }
+
+-- where all are joined they are kept, and what is kept is joined
+pub all_joined : (from to : ℕ) (pairs : List Pair) (ds : List OfferDemand) (kept : List KeptPair) → from ≡ 0 → to ≡ length pairs → ArePairsJoined from to pairs ds kept → ArePairsKept pairs ds kept
+all_joined from to pairs ds kept start all are =
+    record { many = are.many; each = λ k pair one there got. are.these k pair one (omega (arith, start)) (omega (arith, all, slice_get_within pairs k pair there)) there got }
+
+pub kept_joined : (from to : ℕ) (pairs : List Pair) (ds : List OfferDemand) (kept : List KeptPair) → to ≤ length pairs → ArePairsKept pairs ds kept → ArePairsJoined from to pairs ds kept
+kept_joined from to pairs ds kept within are = record {
+  many = are.many;
+  within = within;
+  these = λ k pair one _ _ there got. are.each k pair one there got;
+  each = λ k pair one there got. (ds, are.each k pair one there got);
+}
+
+-- so are some of them, and where none is joined whoever it is for
+pub joined_within : (from to low high : ℕ) (pairs : List Pair) (ds : List OfferDemand) (kept : List KeptPair) → high ≤ length pairs
+    → ((k : ℕ) → low ≤ k → k < high → (from ≤ k) × (k < to)) → ArePairsJoined from to pairs ds kept → ArePairsJoined low high pairs ds kept
+joined_within from to low high pairs ds kept within inside are = record {
+  many = are.many;
+  within = within;
+  these = λ k pair one above below there got. let at = inside k above below in are.these k pair one at.0 at.1 there got;
+  each = are.each;
+}
+
+pub none_joined : (from to low : ℕ) (pairs : List Pair) (old ds : List OfferDemand) (kept : List KeptPair) → ArePairsJoined from to pairs old kept → ArePairsJoined low 0 pairs ds kept
+none_joined from to low pairs old ds kept are = record {
+  many = are.many;
+  within = omega arith;
+  these = λ k pair one _ below there got. absurd (omega (arith, below));
+  each = are.each;
+}
+
+-- one pair more is joined
+pub one_joined : (low i : ℕ) (pairs : List Pair) (ds : List OfferDemand) (kept : List KeptPair) (one next : KeptPair) → i < length pairs → slice_get kept i ≡ Some one
+    → ((pair : Pair) (others : List OfferDemand) → slice_get pairs i ≡ Some pair → IsPairKept pair others one → IsPairKept pair ds next) → ArePairsJoined low i pairs ds kept
+    → ArePairsJoined low (i + 1) pairs ds (slice_set kept i next)
+one_joined low i pairs ds kept one next within here is before = record {
+  many = length-set kept i next ∙ before.many;
+  within = omega (arith, within);
+  these = λ k pair new above below there got. elim (cases_eq k i) as (λ _. IsPairKept pair ds new) [
+    | inl equal ↦ last pair new (subst (λ j. slice_get pairs j ≡ Some pair) equal there) (subst (λ j. slice_get (slice_set kept i next) j ≡ Some new) equal got)
+    | inr other ↦ before.these k pair new above (omega (arith, below, other)) there (slice_get-set_other kept i k next new other got)
+  ];
+  each = λ k pair new there got. elim (cases_eq k i) as (λ _. (others : List OfferDemand) × IsPairKept pair others new) [
+    | inl equal ↦ (ds, last pair new (subst (λ j. slice_get pairs j ≡ Some pair) equal there) (subst (λ j. slice_get (slice_set kept i next) j ≡ Some new) equal got))
+    | inr other ↦ before.each k pair new there (slice_get-set_other kept i k next new other got)
+  ];
+} where
+  last : IsPairKeptAt pairs ds (slice_set kept i next) i
+  last pair written there got =
+      let (others, was) = before.each i pair one there here in
+      subst (IsPairKept pair ds) (slice_get-set_same kept i next written (slice_get_within kept i one here) got) (is pair others there was)

@@ -1,8 +1,10 @@
 -- A reason that is true of participants leaves no settings to them, nor to more.
-use Rattle.std.proofs.Common.{arith, ℕ, ◌<◌, Bool, false, List}
+use Rattle.std.proofs.Common.{arith, ℕ, ◌<◌, ◌≤◌, Bool, false, List}
+use Rattle.list_lemmas.proofs.CallerLemmas.{Any-not_All}
 use Rattle.sysmem_counts.proofs.CallerLemmas.{line_sound}
-use Rattle.sysmem_counts.specs.Counts.{IsLeastCount, IsCountLine}
+use Rattle.sysmem_counts.specs.Counts.{IsLeastCount, IsCountFault, IsCountLine, needed}
 use Rattle.sysmem_counts.specs.declared.field.Field.{Field}
+use Rattle.sysmem_counts.specs.declared.field.Field.TheVariants.{MaxBufferCount, BufferCountLimit}
 use Rattle.sysmem_memory.specs.declared.place.Place.{Place}
 use Rattle.sysmem_memory.specs.Place.{IsFirstPlace, HasNoPlace}
 use Rattle.sysmem_merge.specs.declared.reason.Reason.{Reason}
@@ -29,6 +31,20 @@ reason_of_some whole platform some all reason among is =
 -- where some count suits, no count line is true
 no_count_line : (ps : List Participant) (count : ℕ) → IsLeastCount (counts_asked ps) count → (field : Field) → ¬ (IsCountLine field (counts_asked ps))
 no_count_line ps count least field line = line_sound field (counts_asked ps) line count least.counted
+
+-- the first count line is the first reason
+pub first_count : (whole : Bool) (platform : PlatformFacts) (ps : List Participant) (field : Field) → IsCountFault (counts_asked ps) field
+    → IsFirstReason whole platform ps (Count field)
+first_count whole platform ps MaxBufferCount fault = record { holds = fault; first = λ other below. absurd (omega (arith, below)) }
+first_count whole platform ps BufferCountLimit fault = record { holds = fault.1; first = before } where
+  before : (other : Reason) → reason_rank other < 1 → ¬ (IsReason whole platform ps other)
+  before (Count MaxBufferCount) below line =
+      Any-not_All (λ p. p.max_buffer_count < needed (counts_asked ps)) (λ p. needed (counts_asked ps) ≤ p.max_buffer_count) (counts_asked ps) (λ p low high. omega (arith, low, high)) line fault.0
+  before (Count BufferCountLimit) below line = absurd (omega (arith, below))
+  before (Count field) below line = absurd line
+  before NoPlace below line = absurd (omega (arith, below))
+  before NoOffer below line = absurd (omega (arith, below))
+first_count whole platform ps _ fault = absurd fault
 
 -- so without a place that is the first reason
 pub first_no_place : (whole : Bool) (platform : PlatformFacts) (ps : List Participant) (count : ℕ) → IsLeastCount (counts_asked ps) count

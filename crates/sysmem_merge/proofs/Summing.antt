@@ -1,5 +1,5 @@
 -- What stands for participants and for more of them stands for both together.
-use Rattle.std.proofs.Common.{arith, ℕ, ◌≡◌, ◌≤◌, ◌+◌, ◌↔◌, max, min, Bool, List, [], ◌∷◌, ◌++◌, All, Option, Some, None, IfSome, IfNone, IsTrue, is_some, length-append}
+use Rattle.std.proofs.Common.{arith, ℕ, ◌≡◌, ◌≤◌, ◌+◌, ◌↔◌, max, min, Bool, false, List, [], ◌∷◌, ◌++◌, All, Option, Some, None, IfSome, IfNone, IsTrue, is_some, length-append}
 use Rattle.std.proofs.lemmas.List.{map-append}
 use Rattle.std.proofs.lemmas.List.Elements.{All-append, All-nil, All-cons, All-head, All-tail}
 use Rattle.list_lemmas.specs.Some.{AreSomeOf}
@@ -11,10 +11,12 @@ use Rattle.sysmem_memory.specs.declared.place.Place.{Place}
 use Rattle.sysmem_memory.specs.Place as places
 use Rattle.sysmem_memory.specs.PlaceTable.{AllowsPlace, PlaceDemand}
 use Rattle.sysmem_formats.specs.declared.offer.Offer.TheVariants.{NoImage}
+use Rattle.sysmem_merge.specs.declared.pair.KeptPair.{KeptPair}
 use Rattle.sysmem_merge.specs.Aggregate.{AreSizes, IsKept}
 use Rattle.sysmem_merge.specs.Demands.{OfferDemand, counts_asked, place_demand, place_demands, offer_demand, offer_demands}
-use Rattle.sysmem_merge.specs.Pairs.{ArePairsKeptWhere}
-use Rattle.sysmem_merge.specs.Sum.{HasCountAndPlace, IsPlaced, SumFacts, SumsUp}
+use Rattle.sysmem_merge.specs.Asked.{HasCountAndPlace}
+use Rattle.sysmem_merge.specs.Pairs.{ArePairsJoined}
+use Rattle.sysmem_merge.specs.Sum.{HasNoImage, IsPlaced, SumFacts, SumsUp}
 use Rattle.negotiation_inputs.specs.Participant.{Participant}
 use Rattle.negotiation_inputs.specs.Platform.{PlatformFacts}
 use Rattle.sysmem_merge.proofs.Adding.{map_push}
@@ -32,17 +34,6 @@ pub found_place : (platform : PlatformFacts) (ps : List Participant) (o : Option
     → IfNone o (places.HasNoPlace platform.heaps (place_demands ps)) → IsPlaced platform ps o
 found_place platform ps (Some place) first none = first
 found_place platform ps None first none = none
-
--- what has a number of buffers and a place has them for some of the participants
-pub has_for_some : (platform : PlatformFacts) (some all : List Participant) → AreSomeOf some all → HasCountAndPlace platform all → HasCountAndPlace platform some
-has_for_some platform some all among has = record {
-  number = has.number;
-  counted = counted_some (counts_asked some) (counts_asked all) has.number (some_map (λ (p : Participant). p.counts) some all among) has.counted;
-  place = has.place;
-  heap = has.heap;
-  there = has.there;
-  allowed = All-some (λ (d : PlaceDemand). AllowsPlace d.memory d.usage has.heap has.place.coherency) (place_demands some) (place_demands all) (some_map place_demand some all among) has.allowed;
-}
 
 -- the least number and the first place are such
 pub both_found : (platform : PlatformFacts) (ps : List Participant) (number : ℕ) (place : Place) → IsLeastCount (counts_asked ps) number
@@ -63,19 +54,6 @@ no_number platform ps none has = none has.number has.counted
 pub no_place : (platform : PlatformFacts) (ps : List Participant) → places.HasNoPlace platform.heaps (place_demands ps) → ¬ (HasCountAndPlace platform ps)
 no_place platform ps none has = refused_clash has.heap has.place.coherency (place_demands ps) (none has.place has.heap has.there) has.allowed
 
--- so with a number they have both where there is a first place
-pub place_decides : (platform : PlatformFacts) (ps : List Participant) (number : ℕ) (o : Option Place) (b : Bool) → IsLeastCount (counts_asked ps) number → IsPlaced platform ps o → b ≡ is_some o
-    → IsTrue b ↔ HasCountAndPlace platform ps
-place_decides platform ps number (Some place) b counted first is = (λ _. both_found platform ps number place counted first, λ _. is)
-place_decides platform ps number None b counted none is = (λ found. absurd (cc (found, is)), λ has. absurd (no_place platform ps none has))
-
--- the front of a list is some of it, and so is what stands behind
-pub has_in_front : (platform : PlatformFacts) (ps qs : List Participant) → HasCountAndPlace platform (ps ++ qs) → HasCountAndPlace platform ps
-has_in_front platform ps qs = has_for_some platform ps (ps ++ qs) (some_front ps qs)
-
-pub has_behind : (platform : PlatformFacts) (ps qs : List Participant) → HasCountAndPlace platform (ps ++ qs) → HasCountAndPlace platform qs
-has_behind platform ps qs = has_for_some platform qs (ps ++ qs) (some_both [] ps qs qs (some_none ps) (some_itself qs))
-
 -- the greater least, and the lesser greatest
 sizes_both : (ds es : List OfferDemand) (least greatest more_least more_greatest : ℕ) → AreSizes ds least greatest → AreSizes es more_least more_greatest
     → AreSizes (ds ++ es) (max least more_least) (min greatest more_greatest)
@@ -95,15 +73,16 @@ pub sums_both : (above more new : SumFacts) (platform : PlatformFacts) (ps qs : 
     → counts.IsTallyOf new.counts (counts_asked ps ++ counts_asked qs) → places.AreDomainsLeft new.places platform.heaps (place_demands ps ++ place_demands qs)
     → IsPlaced platform (ps ++ qs) new.place
     → IsKept NoImage (offer_demands ps ++ offer_demands qs) new.no_image
-    → ArePairsKeptWhere (HasCountAndPlace platform (ps ++ qs)) platform.pairs (offer_demands ps ++ offer_demands qs) new.pairs
+    → ArePairsJoined new.passed new.joined platform.pairs (offer_demands ps ++ offer_demands qs) new.pairs → HasNoImage new.passed false platform (ps ++ qs)
     → new.least_size ≡ max above.least_size more.least_size → new.greatest_size ≡ min above.greatest_size more.greatest_size → new.added ≡ above.added + more.added
     → SumsUp new platform (ps ++ qs)
-sums_both above more new platform ps qs first second counted placed place imageless paired least greatest many = record {
+sums_both above more new platform ps qs first second counted placed place imageless paired passed least greatest many = record {
   counts = rw map-append counted;
   places = rw map-append placed;
   place = place;
   no_image = rw map-append imageless;
   pairs = rw map-append paired;
+  passed = passed;
   sizes = rw (map-append, least, greatest) (sizes_both (offer_demands ps) (offer_demands qs) above.least_size above.greatest_size more.least_size more.greatest_size first.sizes second.sizes);
   many = omega (arith, many, first.many, second.many, length-append ps qs);
 }
@@ -113,15 +92,42 @@ pub sums_push : (kept new : SumFacts) (platform : PlatformFacts) (ps : List Part
     → counts.IsTallyOf new.counts (counts_asked ps ++ p.counts ∷ []) → places.AreDomainsLeft new.places platform.heaps (place_demands ps ++ place_demand p ∷ [])
     → IsPlaced platform (ps ++ p ∷ []) new.place
     → IsKept NoImage (offer_demands ps ++ offer_demand p ∷ []) new.no_image
-    → ArePairsKeptWhere (HasCountAndPlace platform (ps ++ p ∷ [])) platform.pairs (offer_demands ps ++ offer_demand p ∷ []) new.pairs
+    → ArePairsJoined new.passed new.joined platform.pairs (offer_demands ps ++ offer_demand p ∷ []) new.pairs → HasNoImage new.passed false platform (ps ++ p ∷ [])
     → new.least_size ≡ max kept.least_size p.memory.min_size_bytes → new.greatest_size ≡ min kept.greatest_size p.memory.max_size_bytes → new.added ≡ kept.added + 1
     → SumsUp new platform (ps ++ p ∷ [])
-sums_push kept new platform ps p sums counted placed place imageless paired least greatest many = record {
+sums_push kept new platform ps p sums counted placed place imageless paired passed least greatest many = record {
   counts = rw map_push counted;
   places = rw map_push placed;
   place = place;
   no_image = rw map_push imageless;
   pairs = rw map_push paired;
+  passed = passed;
   sizes = rw (map_push, least, greatest) (sizes_push (offer_demands ps) (offer_demand p) kept.least_size kept.greatest_size sums.sizes);
   many = omega (arith, many, sums.many, length-append ps (p ∷ []));
+}
+
+-- other pairs of the same participants stand in their place
+pub sums_with : (sum : SumFacts) (platform : PlatformFacts) (ps : List Participant) (pairs : List KeptPair) (passed joined : ℕ) → SumsUp sum platform ps
+    → ArePairsJoined passed joined platform.pairs (offer_demands ps) pairs → HasNoImage passed false platform ps
+    → SumsUp (record {
+      counts = sum.counts;
+      places = sum.places;
+      place = sum.place;
+      no_image = sum.no_image;
+      pairs = pairs;
+      passed = passed;
+      joined = joined;
+      least_size = sum.least_size;
+      greatest_size = sum.greatest_size;
+      added = sum.added;
+    }) platform ps
+sums_with sum platform ps pairs passed joined sums are none = record {
+  counts = sums.counts;
+  places = sums.places;
+  place = sums.place;
+  no_image = sums.no_image;
+  pairs = are;
+  passed = none;
+  sizes = sums.sizes;
+  many = sums.many;
 }

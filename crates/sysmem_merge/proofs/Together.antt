@@ -1,5 +1,5 @@
 -- The first fit, the first place and the least count are best together.
-use Rattle.std.proofs.Common.{ℕ, ◌≡◌, Bool, true, false, List, All, refl, subst}
+use Rattle.std.proofs.Common.{ℕ, ◌≡◌, Bool, true, false, List, All, Contains, refl, subst}
 use Rattle.std.proofs.lemmas.List.Elements.{All-map, All-weaker}
 use Rattle.list_lemmas.proofs.CallerLemmas.{All-unmap}
 use Rattle.sysmem_counts.specs.Counts.{IsLeastCount, HasNoCount}
@@ -11,11 +11,12 @@ use Rattle.sysmem_memory.specs.Place.{IsPlace, IsRefused, IsFirstPlace, HasNoPla
 use Rattle.sysmem_memory.specs.PlaceTable.{AllowsPlace, PlaceDemand}
 use Rattle.offer_fits.specs.declared.fit.Fit.{Fit}
 use Rattle.sysmem_merge.specs.declared.settings.Settings.{Settings}
-use Rattle.sysmem_merge.specs.Best.{IsBest, IsUnmet}
+use Rattle.sysmem_merge.specs.Asked.{settings_of}
+use Rattle.sysmem_merge.specs.Best.{IsBest, IsEarlierOffer, IsUnmet}
 use Rattle.sysmem_merge.specs.Demands.{OfferDemand, counts_asked, place_demand, place_demands, offer_demand, offer_demands}
 use Rattle.sysmem_merge.specs.FirstFit.{IsFirstFit}
-use Rattle.sysmem_merge.specs.Fit.{fit_of, CoversFit, MeetsFit}
-use Rattle.sysmem_merge.specs.Reasons.{AreOffersRefused}
+use Rattle.sysmem_merge.specs.Fit.{fit_of, CoversFit, IsBestFit, MeetsFit}
+use Rattle.sysmem_merge.specs.Reasons.{AreOffersRefused, IsOfferRefused}
 use Rattle.sysmem_merge.specs.Settings.{Covers, IsNamed, MeetsLoosely, MeetsAs}
 use Rattle.negotiation_inputs.specs.Participant.{Participant}
 use Rattle.negotiation_inputs.specs.Platform.{PlatformFacts, offers_of}
@@ -60,35 +61,48 @@ place_met whole platform ps t meets = let m : MeetsLoosely platform ps t = loose
       (All-weaker (Covers m.heap t) (λ p. AllowsPlace p.memory p.usage m.heap t.place.coherency) (λ p c. c.place) ps m.covers)),
 )
 
--- the first fit, the first place and the least count together
-pub best_together : (whole : Bool) (platform : PlatformFacts) (ps : List Participant) (fit : Fit) (place : Place) (count : ℕ)
-    → IsFirstFit whole (offers_of platform) (offer_demands ps) fit → IsFirstPlace platform.heaps (place_demands ps) place
-    → IsLeastCount (counts_asked ps) count
-    → IsBest whole platform ps (record { offer = fit.offer; place = place; count = count; size_bytes = fit.size_bytes; bounds = fit.bounds })
-best_together whole platform ps fit place count found first least =
-    let s : Settings = record { offer = fit.offer; place = place; count = count; size_bytes = fit.size_bytes; bounds = fit.bounds } in
+-- a fit than which no settings have an earlier offer, the first place and the least count together
+pub best_of : (whole : Bool) (platform : PlatformFacts) (ps : List Participant) (fit : Fit) (place : Place) (count : ℕ)
+    → Contains (offers_of platform) fit.offer → IsBestFit fit.offer (offer_demands ps) fit → (whole ≡ true → IsNamed fit.offer ps)
+    → ((t : Settings) → MeetsAs whole platform ps t → ¬ (IsEarlierOffer (offers_of platform) t.offer fit.offer))
+    → IsFirstPlace platform.heaps (place_demands ps) place → IsLeastCount (counts_asked ps) count
+    → IsBest whole platform ps (settings_of fit place count)
+best_of whole platform ps fit place count offered fits names none first least =
+    let s : Settings = settings_of fit place count in
     let allowed = All-unmap (λ (q : PlaceDemand). AllowsPlace q.memory q.usage first.info place.coherency) place_demand ps first.allowed in
-    let covered = All-unmap (λ (d : OfferDemand). CoversFit fit d) offer_demand ps found.best.meets.covers in
+    let covered = All-unmap (λ (d : OfferDemand). CoversFit fit d) offer_demand ps fits.meets.covers in
     let met : MeetsLoosely platform ps s = record {
       heap = first.info;
       sound = record {
-        offer = found.offered;
+        offer = offered;
         place = first.place;
-        fit = found.best.meets.sound;
+        fit = fits.meets.sound;
       };
       covers = λ k d inside. record { fit = covered k d inside; place = allowed k d inside };
       counted = least.counted;
     } in record {
-      meets = meets_as whole platform ps s met found.named;
+      meets = meets_as whole platform ps s met names;
       best = λ t meets.
           let m : MeetsLoosely platform ps t = loosely whole platform ps t meets in
           let suits : MeetsFit (offer_demands ps) (fit_of t) = fit_met platform ps t m in record {
-            offer = λ earlier. refused_unmet whole t.offer (offer_demands ps) (found.first t.offer earlier) (fit_of t) refl suits (named whole platform ps t meets);
+            offer = none t meets;
             place = λ _ earlier. let at = place_met whole platform ps t meets in at.2 (first.earlier t.place at.0 at.1 earlier);
             count = least.least t.count m.counted;
-            fit = λ same _. found.best.best (fit_of t) same suits;
+            fit = λ same _. fits.best (fit_of t) same suits;
           };
     }
+
+-- no settings have a refused offer
+pub refused_none : (whole : Bool) (platform : PlatformFacts) (ps : List Participant) (t : Settings) → MeetsAs whole platform ps t → ¬ (IsOfferRefused whole t.offer (offer_demands ps))
+refused_none whole platform ps t meets refused =
+    refused_unmet whole t.offer (offer_demands ps) refused (fit_of t) refl (fit_met platform ps t (loosely whole platform ps t meets)) (named whole platform ps t meets)
+
+-- the first fit, the first place and the least count together
+pub best_together : (whole : Bool) (platform : PlatformFacts) (ps : List Participant) (fit : Fit) (place : Place) (count : ℕ)
+    → IsFirstFit whole (offers_of platform) (offer_demands ps) fit → IsFirstPlace platform.heaps (place_demands ps) place
+    → IsLeastCount (counts_asked ps) count → IsBest whole platform ps (settings_of fit place count)
+best_together whole platform ps fit place count found =
+    best_of whole platform ps fit place count found.offered found.best found.named (λ t meets earlier. refused_none whole platform ps t meets (found.first t.offer earlier))
 
 -- without a count, a place or an offer no settings meet participants
 pub unmet_by_count : (whole : Bool) (platform : PlatformFacts) (ps : List Participant) → HasNoCount (counts_asked ps) → IsUnmet whole platform ps
@@ -100,5 +114,4 @@ unmet_by_place whole platform ps none t meets =
 
 pub unmet_by_offer : (whole : Bool) (platform : PlatformFacts) (ps : List Participant) → AreOffersRefused whole (offers_of platform) (offer_demands ps) → IsUnmet whole platform ps
 unmet_by_offer whole platform ps refused t meets =
-    let m : MeetsLoosely platform ps t = loosely whole platform ps t meets in
-    refused_unmet whole t.offer (offer_demands ps) (refused t.offer m.sound.offer) (fit_of t) refl (fit_met platform ps t m) (named whole platform ps t meets)
+    refused_none whole platform ps t meets (refused t.offer (loosely whole platform ps t meets).sound.offer)

@@ -1,4 +1,5 @@
 pub mod Aggregate
+pub mod Asked
 pub mod Best
 pub mod Failing
 pub mod First

@@ -1,5 +1,5 @@
 -- What is kept of the offers of a pair, of which there is one for each colour space.
-use Rattle.std.specs.Prelude.{◌≡◌, ◌==◌, ◌++◌, ◌∷◌, [], ℕ, List, length, Bool, true}
+use Rattle.std.specs.Prelude.{◌≡◌, ◌<◌, ◌≤◌, ◌==◌, ◌++◌, ◌∷◌, [], ℕ, List, length, Bool, true}
 use Rattle.std.specs.Prelude.{false, Some, slice_get}
 use Rattle.std.specs.Int.{bit_at}
 use Rattle.sysmem_counts.specs.declared.field.Field.TheVariants.{ColorSpaces}
@@ -90,8 +90,13 @@ pub record ArePairsKept (pairs : List Pair) (ds : List OfferDemand)
   pub each : (k : ℕ) (pair : Pair) (one : KeptPair) → slice_get pairs k ≡ Some pair
       → slice_get kept k ≡ Some one → IsPairKept pair ds one
 
--- it is kept for these participants where C holds, else perhaps for others
-pub record ArePairsKeptWhere (C : Type 0) (pairs : List Pair) (ds : List OfferDemand)
+-- what is kept of the pairs between two places stands for these participants, and of each other one
+-- for some
+pub record ArePairsJoined (from to : ℕ) (pairs : List Pair) (ds : List OfferDemand)
     (kept : List KeptPair) : Type 0 where
-  pub these : C → ArePairsKept pairs ds kept
-  pub some : (others : List OfferDemand) × ArePairsKept pairs others kept
+  pub many : length kept ≡ length pairs
+  pub within : to ≤ length pairs
+  pub these : (k : ℕ) (pair : Pair) (one : KeptPair) → from ≤ k → k < to
+      → slice_get pairs k ≡ Some pair → slice_get kept k ≡ Some one → IsPairKept pair ds one
+  pub each : (k : ℕ) (pair : Pair) (one : KeptPair) → slice_get pairs k ≡ Some pair
+      → slice_get kept k ≡ Some one → (others : List OfferDemand) × IsPairKept pair others one

@@ -156,6 +156,7 @@ impl KeptBounds {
     }
 
     /// Becomes the bounds above, joined with those for more participants, whatever it was.
+    #[inline]
     pub(crate) fn join_of(&mut self, above: &KeptBounds, more: &KeptBounds)
         ensures { (o : Offer) (ds es : List OfferDemand) → AreKeptBounds o ds above.now
             → AreKeptBounds o es more.now → AreKeptBounds o (ds ++ es) self.new }
@@ -166,6 +167,15 @@ impl KeptBounds {
         if let KeptBounds::Refused(field) = more {
             return self.become_refused(*field);
         }
+        self.join_merged(above, more);
+    }
+
+    /// The same. Where neither is refused, it isn't in line, so that a refusal costs little.
+    #[inline(never)]
+    fn join_merged(&mut self, above: &KeptBounds, more: &KeptBounds)
+        ensures { (o : Offer) (ds es : List OfferDemand) → AreKeptBounds o ds above.now
+            → AreKeptBounds o es more.now → AreKeptBounds o (ds ++ es) self.new }
+    {
         *self = *above;
         if above.covers(more) {
             return;

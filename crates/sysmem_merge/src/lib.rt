@@ -10,6 +10,7 @@
 #![tactic(auto)]
 
 mod aggregate;
+mod asked;
 mod colours;
 mod failing;
 mod fit;
@@ -31,6 +32,7 @@ mod tighter;
 mod walk;
 
 pub use aggregate::Aggregate;
+pub use asked::Asked;
 pub use failing::{fails_in, first_uncovered};
 pub use meets::meets_one;
 pub use offer_fits::Fit;

@@ -1,55 +1,26 @@
-//! The first offer of a platform that participants can share, by what is kept of its pairs.
+//! The first offer of a pair that participants can share, by what is kept of the pair.
 
 ghost use Rattle.std.specs.Prelude.{◌≡◌, Bool, true, false, List, map, Some, slice_get, IfSome, IfNone};
 ghost use Rattle.sysmem_formats.specs.declared.colour_space.ColourSpace.{ColourSpace as Colour};
-ghost use Rattle.sysmem_formats.specs.declared.offer.Offer.TheVariants.{NoImage, Image};
+ghost use Rattle.sysmem_formats.specs.declared.offer.Offer.TheVariants.{Image};
 ghost use Rattle.sysmem_formats.specs.declared.offer.Pair.{Pair as APair};
-ghost use Rattle.sysmem_merge.specs.Aggregate.{AreSizes, IsKept};
+ghost use Rattle.sysmem_merge.specs.Aggregate.{AreSizes};
 ghost use Rattle.sysmem_merge.specs.Demands.{OfferDemand};
 ghost use Rattle.sysmem_merge.specs.FirstFit.{IsFirstFit};
 ghost use Rattle.sysmem_merge.specs.Fit.{IsBestFit};
 ghost use Rattle.sysmem_merge.specs.Offers.{is_named};
-ghost use Rattle.sysmem_merge.specs.Pairs.{ArePairsKept, IsPairKept, has};
+ghost use Rattle.sysmem_merge.specs.Pairs.{IsPairKept, has};
 ghost use Rattle.sysmem_merge.specs.Reasons.{IsOfferRefused, AreOffersRefused};
-ghost use Rattle.negotiation_inputs.specs.Platform.{offers_of};
 
 use crate::fit::best_fit;
-use crate::kept::{KeptBounds, KeptOffer};
+use crate::kept::KeptBounds;
 use crate::pair::KeptPair;
-use crate::walk::fit_of;
 use negotiation_inputs::Platform;
 use offer_fits::Fit;
 use sysmem_formats::{ColourSpace, Offer, Pair};
 
-/// The first of the platform's offers that suits the participants, with its least size and bounds.
-pub(crate) fn first_shared(
-    platform: &Platform,
-    no_image: &KeptOffer,
-    kept: &[KeptPair],
-    least_size: u64,
-    greatest_size: u64,
-    whole: bool,
-) -> Option<Fit>
-    ensures first { (ds : List OfferDemand) → IsKept NoImage ds no_image.now
-        → ArePairsKept platform.now.pairs ds kept.now → AreSizes ds least_size greatest_size
-        → IfSome result (IsFirstFit whole (offers_of platform.now) ds) }
-    ensures none { (ds : List OfferDemand) → IsKept NoImage ds no_image.now
-        → ArePairsKept platform.now.pairs ds kept.now → AreSizes ds least_size greatest_size
-        → IfNone result (AreOffersRefused whole (offers_of platform.now) ds) }
-{
-    if let Some(fit) = fit_of(no_image, &Offer::NoImage, least_size, greatest_size, whole) {
-        return Some(fit);
-    }
-    for (index, one) in kept.iter().enumerate() {
-        if let Some(fit) = fit_at(platform, index, one, least_size, greatest_size, whole) {
-            return Some(fit);
-        }
-    }
-    None
-}
-
 /// The first offer of the pair at this index that suits the participants.
-fn fit_at(
+pub(crate) fn fit_at(
     platform: &Platform,
     index: usize,
     kept: &KeptPair,

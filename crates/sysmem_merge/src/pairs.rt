@@ -1,9 +1,9 @@
 //! What is kept of each pair of a platform.
 
-ghost use Rattle.std.specs.Prelude.{◌≡◌, List, [], ◌∷◌, ◌++◌, IfOk, IsTrue, Some, slice_get};
+ghost use Rattle.std.specs.Prelude.{◌≡◌, ◌<◌, ◌≤◌, ◌+◌, ℕ, List, [], ◌∷◌, ◌++◌, IfOk, Some, slice_get};
 ghost use Rattle.sysmem_formats.specs.declared.offer.Pair.{Pair as APair};
 ghost use Rattle.sysmem_merge.specs.Demands.{OfferDemand};
-ghost use Rattle.sysmem_merge.specs.Pairs.{ArePairsKept, ArePairsKeptWhere, IsPairKept};
+ghost use Rattle.sysmem_merge.specs.Pairs.{ArePairsJoined, ArePairsKept, IsPairKept};
 
 use crate::pair::KeptPair;
 use std::alloc::{AllocError, Global};
@@ -42,33 +42,35 @@ fn add_at(kept: &mut KeptPair, pairs: &[Pair], index: usize, matches: &FirstMatc
     }
 }
 
-/// Keeps of each pair what those above ask, then more participants, whatever was kept of it.
-pub(crate) fn join_pairs(kept: &mut [KeptPair], above: &[KeptPair], more: &[KeptPair])
-    ensures { (pairs : List APair) (others ds es : List OfferDemand)
-        → ArePairsKept pairs others kept.old → ArePairsKept pairs ds above.now
-        → ArePairsKept pairs es more.now → ArePairsKept pairs (ds ++ es) kept.new }
-{
-    if above.len() < kept.len() || more.len() < kept.len() {
-        return;
-    }
-    for (index, one) in kept.iter_mut().enumerate() {
-        one.join_of(&above[index], &more[index]);
-    }
-}
-
-/// The same where this is wished; else what is kept stays that of others.
-pub(crate) fn join_pairs_where(
-    wished: bool,
+/// Keeps of each pair between two indices what those above ask, then more participants, whatever
+/// was kept of it.
+pub(crate) fn join_pairs(
     kept: &mut [KeptPair],
     above: &[KeptPair],
     more: &[KeptPair],
+    from: usize,
+    to: usize,
 )
-    ensures { (pairs : List APair) (others ds es : List OfferDemand)
-        → ArePairsKept pairs others kept.old
-        → (IsTrue wished → ArePairsKept pairs ds above.now × ArePairsKept pairs es more.now)
-        → ArePairsKeptWhere (IsTrue wished) pairs (ds ++ es) kept.new }
+    ensures { (pairs : List APair) (low : ℕ) (ds es : List OfferDemand) → from ≤ to
+        → (from < to → low ≤ from) → ArePairsJoined low from pairs (ds ++ es) kept.old
+        → ArePairsJoined low to pairs ds above.now → ArePairsKept pairs es more.now
+        → ArePairsJoined low to pairs (ds ++ es) kept.new }
 {
-    if wished {
-        join_pairs(kept, above, more);
+    for index in from..to {
+        join_at(kept, above, more, index);
     }
+}
+
+/// The same of the pair at this index.
+#[inline]
+fn join_at(kept: &mut [KeptPair], above: &[KeptPair], more: &[KeptPair], index: usize)
+    ensures { (pairs : List APair) (low : ℕ) (ds es : List OfferDemand) → low ≤ index
+        → ArePairsJoined low index pairs (ds ++ es) kept.old
+        → ArePairsJoined low (index + 1) pairs ds above.now → ArePairsKept pairs es more.now
+        → ArePairsJoined low (index + 1) pairs (ds ++ es) kept.new }
+{
+    if index >= kept.len() || index >= above.len() || index >= more.len() {
+        return;
+    }
+    kept[index].join_of(&above[index], &more[index]);
 }

@@ -184,7 +184,7 @@ fn search_together<G: Gate + Sync, R: Threads + Sync>(
     requires few { workers ≤ MOST_WORKERS }
     ensures { IfOk result (λ found. IfSome found (λ all. IsFirstOfAll subject.now all.chosen)) }
 {
-    let question = Question::new(subject)?;
+    let mut question = Question::new(subject)?;
     let Some(many) = question.children() else {
         return Ok(None);
     };

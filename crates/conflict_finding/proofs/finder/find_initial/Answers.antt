@@ -13,7 +13,8 @@ use Rattle.verdict_claims.specs.FirstConflict.{IsOfferLineGiven, IsPlaceLineGive
 use Rattle.verdict_claims.specs.Line.{LineFacts}
 use Rattle.verdict_claims.specs.Members.{participants}
 use Rattle.conflict_finding.specs.Refusals.{AreRefusals, Ends, ShareOffer, SharePlace}
-use Rattle.conflict_finding.proofs.FirstKinds.{count_first, offers_conflict, offers_found, places_found, places_refuse}
+use Rattle.sysmem_merge.proofs.CallerLemmas.{first_count}
+use Rattle.conflict_finding.proofs.FirstKinds.{offers_conflict, offers_found, places_found, places_refuse}
 use Rattle.conflict_finding.proofs.FoundConflicts.{count_found, initial_met, tally_of_all}
 use Rattle.conflict_finding.proofs.finder.find_initial.Goals as goal
 
@@ -26,7 +27,7 @@ pub returns-in-Err-clause-first : goal.returns-in-Err-clause-first
 returns-in-Err-clause-first c = λ d stand whole.
     let tally = tally_of_all c.args.tree.now.nodes c.args.nodes.now c.args.nodes.now c.args.nodes.now refl refl (settled d) stand c.counts_at.result c.counts_at.ensures in
     subst (λ (line : LineFacts). IsFirstReason (is_none (choices d)) c.args.platform.now (participants (settled d)) (reasons.Count line.field)) (sym c.in_ok-line.ensures.line)
-    (count_first (is_none (choices d)) c.args.platform.now (participants (settled d)) c.in-Err.field (c.in-Err.ensures.cases (counts_asked (participants (settled d))) tally))
+    (first_count (is_none (choices d)) c.args.platform.now (participants (settled d)) c.in-Err.field (c.in-Err.ensures.cases (counts_asked (participants (settled d))) tally))
 
 pub returns-in-Whole-clause-conflict : goal.returns-in-Whole-clause-conflict
 returns-in-Whole-clause-conflict c = λ d stand whole. places_refuse (settled d) (places_of c.args.platform.now.heaps) c.in-Whole.lines

@@ -11,3 +11,6 @@ returns-then-is_some-clause-there c = λ slot own.
 
 pub returns-clause-parts : goal.returns-clause-parts
 returns-clause-parts c = λ are. c.read_part.ensures.parts (λ place slot part own here. are place slot part own (c.reserve_slot.ensures.kept slot part here))
+
+pub returns-clause-filled : goal.returns-clause-filled
+returns-clause-filled c = λ at filled. c.read_part.ensures.filled at (c.reserve_slot.ensures.filled at filled)

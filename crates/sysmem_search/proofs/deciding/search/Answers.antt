@@ -37,7 +37,7 @@ unreachable-requires g c =
     let (found, any, h) = c.in_ok-search_from.ensures.found in
     let is_best = best_found c.args.platform.now c.args.tree.now.nodes c.args.domain base c.in_ok-question.question.matter c.in_ok-question.question.choices c.search_from.new.question.choices
     c.search_from.new.visits found c.search_from.new.question.matter c.best.result (ap (λ (s : Standing). s.matter) c.in_ok-question.ensures ∙ c.new-subject.ensures) (ap (λ (s : Standing). s.choices) c.in_ok-question.ensures) (sym any ∙ c.if-not-branch.false) h
-    (c.in_ok-search_from.ensures.matter ∙ (ap (λ (s : Standing). s.matter) c.in_ok-question.ensures ∙ c.new-subject.ensures)) c.best.ensures in
+    (c.in_ok-search_from.ensures.matter ∙ (ap (λ (s : Standing). s.matter) c.in_ok-question.ensures ∙ c.new-subject.ensures)) c.best.ensures.best in
     subst (λ o. MatchOption o ⊥ (λ s. IsFoundOf (record { platform = c.args.platform.now; nodes = c.args.tree.now.nodes; domain = c.args.domain; base = base }) (shape_of c.args.tree.now.nodes c.args.domain) [] c.search_from.new.question.choices 0 c.search_from.new.visits (Some s))) c.in_default.is is_best
 
 pub returns-clause-optimal : goal.returns-clause-optimal
@@ -47,10 +47,10 @@ returns-clause-optimal g c =
     let (found, any, h) = c.in_ok-search_from.ensures.found in
     let is_best = best_found c.args.platform.now c.args.tree.now.nodes c.args.domain base c.in_ok-question.question.matter c.in_ok-question.question.choices c.search_from.new.question.choices
     c.search_from.new.visits found c.search_from.new.question.matter c.best.result (ap (λ (s : Standing). s.matter) c.in_ok-question.ensures ∙ c.new-subject.ensures) (ap (λ (s : Standing). s.choices) c.in_ok-question.ensures) (sym any ∙ c.if-not-branch.false) h
-    (c.in_ok-search_from.ensures.matter ∙ (ap (λ (s : Standing). s.matter) c.in_ok-question.ensures ∙ c.new-subject.ensures)) c.best.ensures in
+    (c.in_ok-search_from.ensures.matter ∙ (ap (λ (s : Standing). s.matter) c.in_ok-question.ensures ∙ c.new-subject.ensures)) c.best.ensures.best in
     let (optimal, visits) = decided_chosen c.args.platform.now c.args.tree.now.nodes c.args.domain base c.search_from.new.question.choices c.search_from.new.visits c.in-Some.settings c.new-2.result few
     (subst (λ o. MatchOption o ⊥ (λ s. IsFoundOf (record { platform = c.args.platform.now; nodes = c.args.tree.now.nodes; domain = c.args.domain; base = base }) (shape_of c.args.tree.now.nodes c.args.domain) [] c.search_from.new.question.choices 0 c.search_from.new.visits (Some s))) c.in-Some.is is_best)
-    (c.new-2.ensures ∙ ap (λ xs. record { selection = xs; settings = c.in-Some.settings }) c.into_prefix.ensures) in
+    (c.new-2.ensures ∙ ap (λ xs. record { selection = xs; settings = c.in-Some.settings }) (c.into_prefix.ensures ∙ ap (λ (s : Standing). s.choices) c.best.ensures.same)) in
     optimal
 
 pub returns-clause-visits : goal.returns-clause-visits
@@ -60,8 +60,8 @@ returns-clause-visits g c =
     let (found, any, h) = c.in_ok-search_from.ensures.found in
     let is_best = best_found c.args.platform.now c.args.tree.now.nodes c.args.domain base c.in_ok-question.question.matter c.in_ok-question.question.choices c.search_from.new.question.choices
     c.search_from.new.visits found c.search_from.new.question.matter c.best.result (ap (λ (s : Standing). s.matter) c.in_ok-question.ensures ∙ c.new-subject.ensures) (ap (λ (s : Standing). s.choices) c.in_ok-question.ensures) (sym any ∙ c.if-not-branch.false) h
-    (c.in_ok-search_from.ensures.matter ∙ (ap (λ (s : Standing). s.matter) c.in_ok-question.ensures ∙ c.new-subject.ensures)) c.best.ensures in
+    (c.in_ok-search_from.ensures.matter ∙ (ap (λ (s : Standing). s.matter) c.in_ok-question.ensures ∙ c.new-subject.ensures)) c.best.ensures.best in
     let (optimal, visits) = decided_chosen c.args.platform.now c.args.tree.now.nodes c.args.domain base c.search_from.new.question.choices c.search_from.new.visits c.in-Some.settings c.new-2.result few
     (subst (λ o. MatchOption o ⊥ (λ s. IsFoundOf (record { platform = c.args.platform.now; nodes = c.args.tree.now.nodes; domain = c.args.domain; base = base }) (shape_of c.args.tree.now.nodes c.args.domain) [] c.search_from.new.question.choices 0 c.search_from.new.visits (Some s))) c.in-Some.is is_best)
-    (c.new-2.ensures ∙ ap (λ xs. record { selection = xs; settings = c.in-Some.settings }) c.into_prefix.ensures) in
+    (c.new-2.ensures ∙ ap (λ xs. record { selection = xs; settings = c.in-Some.settings }) (c.into_prefix.ensures ∙ ap (λ (s : Standing). s.choices) c.best.ensures.same)) in
     visits

@@ -1,9 +1,10 @@
 -- What refutes each choice for the next group refutes all that goes on from there.
 use Rattle.std.proofs.Common.{[], ◌∷◌, ◌++◌, refl, sym, ◌∙◌, ap, subst, arith}
-use Rattle.std.specs.Prelude.{IfSome}
+use Rattle.std.specs.Prelude.{IfSome, OnOk}
+use Rattle.sysmem_merge.specs.declared.settings.Settings.{Settings}
 use Rattle.verdict_claims.specs.Matter.{forest}
 use Rattle.verdict_claims.specs.Verdict.{IsForestUnmet}
-use Rattle.search_questions.specs.Question.{MeetsOf}
+use Rattle.search_questions.specs.Question.{MeetsHere, MeetsOf}
 use Rattle.sysmem_search.specs.Refuting.{AddsRefutation}
 use Rattle.search_questions.specs.Standing.{Standing}
 use Rattle.search_questions.proofs.CallerLemmas.{entered_at, long_push, pushed_prefix, met_prefix, unmet_prefix, unmet_selection}
@@ -20,13 +21,23 @@ refute_here-requires-clause-unmet t c =
 pub refute_here-requires-then-not-is_met-clause-unmet : goal.refute_here-requires-then-not-is_met-clause-unmet
 refute_here-requires-then-not-is_met-clause-unmet t c =
     let q = c.args.question.now in
-    unmet_prefix q.matter (after (forest q.matter) q.choices) c.in-Some.children c.is_met.result c.if-not-is_met.true c.in-Some.ensures.number c.is_met.ensures
+    subst (λ (s : Standing). IfSome (after (forest s.matter) s.choices) (λ d. (t : Settings) → ¬ (MeetsHere s.matter d t))) (sym c.is_met.ensures.same)
+    (unmet_prefix q.matter (after (forest q.matter) q.choices) c.in-Some.children c.is_met.result c.if-not-is_met.true c.in-Some.ensures.number c.is_met.ensures.met)
+
+pub refute_here-requires-then-not-is_met-clause-prefix : goal.refute_here-requires-then-not-is_met-clause-prefix
+refute_here-requires-then-not-is_met-clause-prefix t c = subst (λ (s : Standing). IsPrefix (forest s.matter) s.choices) (sym c.is_met.ensures.same) c.requires.prefix
+
+pub returns-then-not-is_met-clause-refuted : goal.returns-then-not-is_met-clause-refuted
+returns-then-not-is_met-clause-refuted t c =
+    subst (λ (s : Standing). OnOk c.refute_here-then-not-is_met.result
+    (IfSome (after (forest s.matter) s.choices) (λ d. AddsRefutation s.matter d c.args.items.now.items c.refute_here-then-not-is_met.new.items.items)))
+    c.is_met.ensures.same c.refute_here-then-not-is_met.ensures.refuted
 
 pub loop-choice-init : goal.loop-choice-init
 loop-choice-init t c =
     let q = c.args.question.now in
     record {
-      same = refl;
+      same = c.is_met.ensures.same;
       added = no_choice_added q.matter (after (forest q.matter) q.choices) c.in-Some.children c.args.items.now.items c.push.new.self.items c.in-Some.ensures.number c.in_ok-push.ensures.items;
     }
 
@@ -99,4 +110,4 @@ returns-clause-refuted t c =
     let q = c.args.question.now in
     all_choices_added q.matter (after (forest q.matter) q.choices) c.loop-choice.choice c.in-Some.children c.args.items.now.items c.loop-choice.items.items
     (omega (arith, c.loop-choice-test.false)) c.loop-choice.auto.choice-end c.in-Some.ensures.number
-    (met_prefix q.matter (after (forest q.matter) q.choices) c.is_met.result c.if-not-is_met.false c.is_met.ensures) c.loop-choice.invariant.added
+    (met_prefix q.matter (after (forest q.matter) q.choices) c.is_met.result c.if-not-is_met.false c.is_met.ensures.met) c.loop-choice.invariant.added

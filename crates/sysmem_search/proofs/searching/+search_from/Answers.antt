@@ -10,24 +10,27 @@ use Rattle.sysmem_search.proofs.searching.+search_from.Goals as goal
 
 pub returns-in_default-clause-found : goal.returns-in_default-clause-found
 returns-in_default-clause-found g t c =
-    let (best, is, asked) = c.has_best.ensures in (
+    let q = c.args.question.now in
+    let (best, is, asked) = c.has_best.ensures.best in (
       best,
       is,
-      found_here c.args.question.now.matter (after (forest c.args.question.now.matter) c.args.question.now.choices) c.args.question.now.choices _ _ best
-          c.in_default.ensures.number c.saturating_add.ensures asked,
+      subst (λ (s : Standing). IfSome (after (forest q.matter) q.choices) (λ d. IsFoundOf q.matter d q.choices s.choices c.args.visits.now c.saturating_add.result best)) (sym c.has_best.ensures.same)
+          (found_here q.matter (after (forest q.matter) q.choices) q.choices c.args.visits.now c.saturating_add.result best c.in_default.ensures.number c.saturating_add.ensures asked),
     )
 
 pub returns-then-not-is_met-clause-found : goal.returns-then-not-is_met-clause-found
-returns-then-not-is_met-clause-found g t c = (
-  None,
-  refl,
-  found_cut c.args.question.now.matter (after (forest c.args.question.now.matter) c.args.question.now.choices) c.args.question.now.choices _ _ c.is_met.result
-      c.cuts_lose_nothing.ensures c.if-not-is_met.true c.saturating_add.ensures c.is_met.ensures,
-)
+returns-then-not-is_met-clause-found g t c =
+    let q = c.args.question.now in (
+      None,
+      refl,
+      subst (λ (s : Standing). IfSome (after (forest q.matter) q.choices) (λ d. IsFoundOf q.matter d q.choices s.choices c.args.visits.now c.saturating_add.result None)) (sym c.is_met.ensures.same)
+          (found_cut q.matter (after (forest q.matter) q.choices) q.choices c.args.visits.now c.saturating_add.result c.is_met.result
+          c.cuts_lose_nothing.ensures c.if-not-is_met.true c.saturating_add.ensures c.is_met.ensures.met),
+    )
 
 pub loop-choice-init : goal.loop-choice-init
 loop-choice-init g t c = record {
-  same = refl;
+  same = c.is_met.ensures.same;
   gone = begun c.args.question.now.matter (after (forest c.args.question.now.matter) c.args.question.now.choices) c.in-Some.children _ _ c.in-Some.ensures.number c.saturating_add.ensures;
 }
 
@@ -64,7 +67,7 @@ returns-then-branch-clause-found g t c =
       Some s,
       refl,
       found_below q.matter q.choices c.enter.new.self.choices c.loop-choice.choice c.in-Some.children _ c.requires.prefix c.loop-choice-test.true is c.in-Some.ensures.number
-          c.is_met.result c.if-not-is_met.false c.is_met.ensures _ _ _ c.loop-choice.invariant.gone s found_is,
+          c.is_met.result c.if-not-is_met.false c.is_met.ensures.met _ _ _ c.loop-choice.invariant.gone s found_is,
     )
 
 pub loop-choice-preserved : goal.loop-choice-preserved
@@ -75,11 +78,11 @@ loop-choice-preserved g t c =
     let found = subst (λ x. IfSome (after (forest x) c.enter.new.self.choices) (λ e. IsFoundOf x e c.enter.new.self.choices c.search_from.new.question.choices c.loop-choice.visits c.search_from.new.visits best)) matter_is below in
     let found_is = subst (λ f. IfSome (after (forest q.matter) c.enter.new.self.choices) (λ e. IsFoundOf q.matter e c.enter.new.self.choices c.search_from.new.question.choices c.loop-choice.visits c.search_from.new.visits f)) (none_best best (sym any ∙ c.if-branch.false)) found in
     let back = same_below q.matter q.choices c.enter.new.self.choices c.loop-choice.choice c.in-Some.children _ c.requires.prefix c.loop-choice-test.true is c.in-Some.ensures.number
-    c.is_met.result c.if-not-is_met.false c.is_met.ensures _ _ _ c.loop-choice.invariant.gone found_is in
+    c.is_met.result c.if-not-is_met.false c.is_met.ensures.met _ _ _ c.loop-choice.invariant.gone found_is in
     record {
       same = c.leave.ensures q.choices c.loop-choice.choice (back ∙ is) ∙ ap (λ x. record { matter = x; choices = q.choices }) (c.in_ok-search_from.ensures.matter ∙ matter_is);
       gone = unmet_below q.matter q.choices c.enter.new.self.choices c.loop-choice.choice c.in-Some.children _ c.requires.prefix c.loop-choice-test.true is c.in-Some.ensures.number
-          c.is_met.result c.if-not-is_met.false c.is_met.ensures _ _ _ c.loop-choice.invariant.gone found_is;
+          c.is_met.result c.if-not-is_met.false c.is_met.ensures.met _ _ _ c.loop-choice.invariant.gone found_is;
     }
 
 pub returns-clause-found : goal.returns-clause-found

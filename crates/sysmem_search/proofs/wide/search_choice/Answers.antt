@@ -33,13 +33,14 @@ unreachable-requires g c =
     let (best, any, h) = c.in_ok-search_from.ensures.found in
     subst (λ o. MatchOption o ⊥ (λ b. IsFirstAt q.matter c.args.choice (record { selection = c.search_from.new.question.choices; settings = b }))) c.in_default.is
     (best_at q.matter c.enter.new.self c.args.choice c.search_from.new.question.choices _ _ at c.requires.prefix best c.search_from.new.question.matter c.best.result (sym any ∙ c.if-not-branch.false) h
-    (c.in_ok-search_from.ensures.matter ∙ ap (λ (s : Standing). s.matter) at) c.best.ensures)
+    (c.in_ok-search_from.ensures.matter ∙ ap (λ (s : Standing). s.matter) at) c.best.ensures.best)
 
 pub returns : goal.returns
 returns g c =
     let q = c.args.question.now in
     let at = entered c.enter.new.self q c.args.choice c.in_ok-enter.ensures c.requires.start in
     let (best, any, h) = c.in_ok-search_from.ensures.found in
-    subst (λ o. MatchOption o ⊥ (λ b. IsFirstAt q.matter c.args.choice (record { selection = c.search_from.new.question.choices; settings = b }))) c.in-Some.is
+    subst (λ (s : Standing). IsFirstAt q.matter c.args.choice (record { selection = s.choices; settings = c.in-Some.settings })) (sym c.best.ensures.same)
+    (subst (λ o. MatchOption o ⊥ (λ b. IsFirstAt q.matter c.args.choice (record { selection = c.search_from.new.question.choices; settings = b }))) c.in-Some.is
     (best_at q.matter c.enter.new.self c.args.choice c.search_from.new.question.choices _ _ at c.requires.prefix best c.search_from.new.question.matter c.best.result (sym any ∙ c.if-not-branch.false) h
-    (c.in_ok-search_from.ensures.matter ∙ ap (λ (s : Standing). s.matter) at) c.best.ensures)
+    (c.in_ok-search_from.ensures.matter ∙ ap (λ (s : Standing). s.matter) at) c.best.ensures.best))

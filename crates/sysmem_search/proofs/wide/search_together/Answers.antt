@@ -13,7 +13,7 @@ use Rattle.sysmem_search.proofs.wide.search_together.Goals as goal
 
 pub returns-then-not-is_met : goal.returns-then-not-is_met
 returns-then-not-is_met g c = cut_at_once c.args.subject.now c.is_met.result c.cuts_lose_nothing.ensures c.if-not-is_met.true
-    (subst (λ (s : Standing). IfSome (after (forest s.matter) s.choices) (λ d. IsTrue c.is_met.result ↔ SomeMeet (MeetsSoFar s.matter) d)) c.in_ok-question.ensures c.is_met.ensures)
+    (subst (λ (s : Standing). IfSome (after (forest s.matter) s.choices) (λ d. IsTrue c.is_met.result ↔ SomeMeet (MeetsSoFar s.matter) d)) c.in_ok-question.ensures c.is_met.ensures.met)
 
 pub search_shares-requires-clause-prefixes : goal.search_shares-requires-clause-prefixes
 search_shares-requires-clause-prefixes g c κs within = λ i less. prefix_of c.args.subject.now c.in-Some.many i

@@ -25,8 +25,8 @@ behind-requires-clause-few c =
     let few = few_different c.in-Some.base.now.accepted _ given.1.once (named_there m.nodes (λ n. n.domain ≢ m.domain) c.in-Some.base.now.accepted given.1.elsewhere) in
     subst (λ xs. length xs ≤ 128) (sym c.accepted.ensures) (omega (arith, few, c.recall.ensures.tree.few))
 
-pub returns-in-Some : goal.returns-in-Some
-returns-in-Some c =
+pub returns-in-Some-clause-kept : goal.returns-in-Some-clause-kept
+returns-in-Some-clause-kept c =
     let m = c.args.subject.now in
     let base = c.in-Some.base.now in
     subst (λ o. IsKeptOf m.platform m.nodes o (kept_as.OnBase c.behind.result) []) (sym (ap (option_map (λ b. b.now)) c.in-Some.is) ∙ c.base.ensures)

@@ -59,7 +59,7 @@ invariant_of-self c =
     let m = c.self.inside.subject.now in
     let keeps = c.self.invariant.0 in (
       more_kept m c.self.inside.layout c.self.inside.parts.items c.keep_part.new.parts.items c.self.inside.levels.items c.self.inside.levels.items c.choices-depth.result.now c.self.inside.prefix c.choices-depth.ensures
-          keeps (c.keep_part.ensures.parts keeps.shares) (λ k within. refl) keeps.made,
+          keeps (c.keep_part.ensures.parts keeps.shares) c.keep_part.ensures.filled (λ k within. refl) keeps.made,
       c.self.invariant.1,
     )
 
@@ -73,7 +73,7 @@ invariant_of-self-in_err-reserve_level c =
     let m = c.self.inside.subject.now in
     let keeps = c.self.invariant.0 in (
       more_kept m c.self.inside.layout c.self.inside.parts.items c.keep_part.new.parts.items c.self.inside.levels.items c.reserve_level.new.levels.items c.choices-depth.result.now c.self.inside.prefix c.choices-depth.ensures
-          keeps (c.keep_part.ensures.parts keeps.shares) c.reserve_level.ensures.kept (c.reserve_level.ensures.made keeps.made),
+          keeps (c.keep_part.ensures.parts keeps.shares) c.keep_part.ensures.filled c.reserve_level.ensures.kept (c.reserve_level.ensures.made keeps.made),
       c.self.invariant.1,
     )
 
@@ -82,20 +82,20 @@ invariant_of-self-in_default-index c =
     let m = c.self.inside.subject.now in
     let keeps = c.self.invariant.0 in (
       more_kept m c.self.inside.layout c.self.inside.parts.items c.keep_part.new.parts.items c.self.inside.levels.items c.reserve_level.new.levels.items c.choices-depth.result.now c.self.inside.prefix c.choices-depth.ensures
-          keeps (c.keep_part.ensures.parts keeps.shares) c.reserve_level.ensures.kept (c.reserve_level.ensures.made keeps.made),
+          keeps (c.keep_part.ensures.parts keeps.shares) c.keep_part.ensures.filled c.reserve_level.ensures.kept (c.reserve_level.ensures.made keeps.made),
       c.self.invariant.1,
     )
 
 pub index-requires-2 : goal.index-requires-2
 index-requires-2 c =
-    let (kept, kept_is) = c.in_ok-keep_part.ensures.there c.slot_of.result c.slot_of.ensures in
-    let within = slice_get_within c.keep_part.new.parts.items c.slot_of.result (Some kept) kept_is in
+    let (kept, kept_is) = c.in_ok-keep_part.ensures.there c.slot_of-slot.result c.slot_of-slot.ensures in
+    let within = slice_get_within c.keep_part.new.parts.items c.slot_of-slot.result (Some kept) kept_is in
     omega (arith, within, c.keep_part.new.parts.ok)
 
 pub returns-in_default-index : goal.returns-in_default-index
 returns-in_default-index c =
-    let (kept, kept_is) = c.in_ok-keep_part.ensures.there c.slot_of.result c.slot_of.ensures in
-    let read = at_index c.keep_part.new.parts.items c.slot_of.result c.index-2.result.now c.index-2.ensures (slice_get_within c.keep_part.new.parts.items c.slot_of.result (Some kept) kept_is) in
+    let (kept, kept_is) = c.in_ok-keep_part.ensures.there c.slot_of-slot.result c.slot_of-slot.ensures in
+    let read = at_index c.keep_part.new.parts.items c.slot_of-slot.result c.index-2.result.now c.index-2.ensures (slice_get_within c.keep_part.new.parts.items c.slot_of-slot.result (Some kept) kept_is) in
     let same : Some kept ≡ c.index-2.result.now = same_Some (Some kept) c.index-2.result.now (sym kept_is ∙ read) in
     absurd (none-some kept (sym c.in_default-index.is ∙ sym same))
 
@@ -125,12 +125,12 @@ join_level-requires-clause-room c =
     let here = numbers_left m.nodes m.domain cs c.self.invariant.0.given.tree root (ap is_some level.leads) in
     let few = share_few c.self.inside.layout (numbers m) cs c.args.choice c.child_at-child.result c.choice_settles_share.ensures child here
     (λ xs e leads. few_settled m.nodes m.domain xs e c.self.invariant.0.given.tree root leads) in
-    let (kept, kept_is) = c.in_ok-keep_part.ensures.there c.slot_of.result c.slot_of.ensures in
-    let read = at_index c.keep_part.new.parts.items c.slot_of.result c.index-2.result.now c.index-2.ensures (slice_get_within c.keep_part.new.parts.items c.slot_of.result (Some kept) kept_is) in
+    let (kept, kept_is) = c.in_ok-keep_part.ensures.there c.slot_of-slot.result c.slot_of-slot.ensures in
+    let read = at_index c.keep_part.new.parts.items c.slot_of-slot.result c.index-2.result.now c.index-2.ensures (slice_get_within c.keep_part.new.parts.items c.slot_of-slot.result (Some kept) kept_is) in
     let same : Some kept ≡ c.index-2.result.now = same_Some (Some kept) c.index-2.result.now (sym kept_is ∙ read) in
     λ above above_is. room_for m c.self.inside.layout c.self.inside.parts.items c.self.inside.levels.items c.reserve_level.new.levels.items c.choices-depth.result.now cs above c.in-Some-index.part
     (share_of c.self.inside.layout c.child_at-child.result) c.choices-depth.ensures keeps c.reserve_level.ensures.kept above_is
-    (c.keep_part.ensures.parts keeps.shares c.child_at-child.result c.slot_of.result c.in-Some-index.part c.slot_of.ensures (kept_is ∙ ap Some (same ∙ c.in-Some-index.is))) few
+    (c.keep_part.ensures.parts keeps.shares c.child_at-child.result c.slot_of-slot.result c.in-Some-index.part c.slot_of-slot.ensures (kept_is ∙ ap Some (same ∙ c.in-Some-index.is))) few
 
 pub invariant_of-self-2 : goal.invariant_of-self-2
 invariant_of-self-2 c =
@@ -146,13 +146,13 @@ invariant_of-self-2 c =
     let here = numbers_left m.nodes m.domain cs c.self.invariant.0.given.tree root (ap is_some level.leads) in
     let few = share_few c.self.inside.layout (numbers m) cs c.args.choice c.child_at-child.result c.choice_settles_share.ensures child here
     (λ xs e leads. few_settled m.nodes m.domain xs e c.self.invariant.0.given.tree root leads) in
-    let (kept, kept_is) = c.in_ok-keep_part.ensures.there c.slot_of.result c.slot_of.ensures in
-    let read = at_index c.keep_part.new.parts.items c.slot_of.result c.index-2.result.now c.index-2.ensures (slice_get_within c.keep_part.new.parts.items c.slot_of.result (Some kept) kept_is) in
+    let (kept, kept_is) = c.in_ok-keep_part.ensures.there c.slot_of-slot.result c.slot_of-slot.ensures in
+    let read = at_index c.keep_part.new.parts.items c.slot_of-slot.result c.index-2.result.now c.index-2.ensures (slice_get_within c.keep_part.new.parts.items c.slot_of-slot.result (Some kept) kept_is) in
     let same : Some kept ≡ c.index-2.result.now = same_Some (Some kept) c.index-2.result.now (sym kept_is ∙ read) in (
       entered m c.self.inside.layout c.self.inside.parts.items c.keep_part.new.parts.items c.self.inside.levels.items c.reserve_level.new.levels.items c.join_level.new.levels.items cs c.push.new.self
-          c.args.choice c.child_at-child.result c.slot_of.result c.in-Some-index.part c.open_after-next.result c.choices-depth.result.now c.choices-depth.ensures c.push.ensures keeps
-          (c.keep_part.ensures.parts keeps.shares) c.reserve_level.ensures.kept (c.reserve_level.ensures.made keeps.made) c.in_ok-reserve_level.ensures.there c.join_level.ensures.same
-          c.join_level.ensures.joined c.slot_of.ensures (kept_is ∙ ap Some (same ∙ c.in-Some-index.is)) c.sums_in_any_order.ensures c.choice_settles_share.ensures child here shape_prefix
+          c.args.choice c.child_at-child.result c.slot_of-slot.result c.in-Some-index.part c.open_after-next.result c.choices-depth.result.now c.choices-depth.ensures c.push.ensures keeps
+          (c.keep_part.ensures.parts keeps.shares) c.keep_part.ensures.filled c.reserve_level.ensures.kept (c.reserve_level.ensures.made keeps.made) c.in_ok-reserve_level.ensures.there c.join_level.ensures.same
+          c.join_level.ensures.joined c.slot_of-slot.ensures (kept_is ∙ ap Some (same ∙ c.in-Some-index.is)) c.sums_in_any_order.ensures c.choice_settles_share.ensures child here shape_prefix
           (c.open_after-next.ensures (numbers m) cs c.args.choice child),
       c.self.invariant.1,
     )

@@ -1,19 +1,17 @@
--- What is kept where the question stands is asked.
-use Rattle.std.proofs.Common.{subst}
-use Rattle.std.specs.Prelude.{◌↔◌, IfSome, IsTrue}
-use Rattle.search_questions.specs.Live.{SomeMeet}
-use Rattle.search_questions.specs.Question.{MeetsSoFar}
-use Rattle.verdict_claims.specs.Matter.{forest}
+-- Some settings meet exactly where there is an answer.
+use Rattle.std.proofs.Common.{false}
+use Rattle.list_lemmas.proofs.CallerLemmas.{of_some}
+use Rattle.search_questions.specs.Asking.{IsAnswer}
 use Rattle.search_questions.proofs.AskedMembers.{if_some}
-use Rattle.search_questions.proofs.Entering.{level_at, kept_at}
+use Rattle.search_questions.proofs.Keeping.{told_met}
 use Rattle.sysmem_tree.specs.Forest.{settled}
 use Rattle.sysmem_tree.specs.Selection.{after}
+use Rattle.verdict_claims.specs.Matter.{forest}
 use Rattle.search_questions.proofs.question.Question.is_met.Goals as goal
 
-pub returns : goal.returns
-returns c =
-    let m = c.self.inside.subject.now in
-    let cs = c.self.inside.prefix in
-    let level = level_at m c.self.inside.layout c.self.inside.parts.items c.self.inside.levels.items c.choices.result.now cs c.index-level.result.now c.choices.ensures c.self.invariant.0 c.index-level.ensures in
-    subst (λ s. IfSome (after (forest s.matter) s.choices) (λ d. IsTrue c.is_met.result ↔ SomeMeet (MeetsSoFar s.matter) d)) c.self.view_is
-    (if_some _ (after (forest m) cs) (λ d leads. c.is_met.ensures (settled d) (kept_at m c.self.inside.layout cs c.index-level.result.now level d leads)))
+pub returns-clause-met : goal.returns-clause-met
+returns-clause-met c =
+    let m = c.args.self.now.matter in
+    let left = after (forest m) c.args.self.now.choices in
+    if_some _ left (λ d leads. told_met m d c.best_as.result c.is_some.result c.is_some.ensures
+    (of_some (λ x. IsAnswer false m (settled x) c.best_as.result) left d leads c.best_as.ensures.answer))

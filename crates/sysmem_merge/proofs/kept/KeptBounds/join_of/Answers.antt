@@ -6,6 +6,3 @@ returns-in-Refused c o ds es left right = rw c.become_refused.ensures (refused_f
 
 pub returns-in-Refused-more : goal.returns-in-Refused-more
 returns-in-Refused-more c o ds es left right = rw c.become_refused-in-Refused-more.ensures (refused_second c.in-Refused-more.field o ds es (rw c.in-Refused-more.is at right))
-
-pub returns-then-covers : goal.returns-then-covers
-returns-then-covers c o ds es left right = c.covers.ensures o ds es c.if-covers.true left right
