@@ -220,11 +220,10 @@ IsLookedAt m levels levels' depth index whole found = (old : Level) → slice_ge
 
 -- one pair more was joined and looked at
 pub looked_on : (m : Matter) (layout : Layout) (parts : List (Option ChoiceShare)) (levels between levels' : List Level) (cs : List ℕ) (depth index : ℕ) (whole : Bool) (found : Option Settings) → length cs ≡ depth
-    → index < length m.platform.pairs → StandsAt m layout parts levels cs → IfSome (after (forest m) cs) (λ d. IsOpenOf index whole m (settled d)) → JoinsTo parts levels between depth (index + 1)
+    → index < length m.platform.pairs → StandsAt m layout parts levels cs → IfSome (after (forest m) cs) (λ d. IsOpenOf index whole m (settled d)) → StandsAt m layout parts between cs × HasPairsAt between depth (index + 1)
     → ((k : ℕ) → k ≢ depth → slice_get levels' k ≡ slice_get between k) → IsLookedAt m between levels' depth index whole found
     → StandsAt m layout parts levels' cs × IfSome (after (forest m) cs) (λ d. IsAnswerAt index whole m (settled d) found)
-looked_on m layout parts levels between levels' cs depth index whole found long less keeps open' joins same looked =
-    let joined = joins m layout cs (omega (arith, long)) (omega (arith, less)) keeps in
+looked_on m layout parts levels between levels' cs depth index whole found long less keeps open' joined same looked =
     let (l, l_is, level) = there (IsLevel m layout cs) (slice_get between (length cs)) (level_here m layout cs between joined.0.fronts) in
     let both = looked_keeps m layout parts between cs joined.0 levels' index whole found level.left
     (subst (λ n. (k : ℕ) → k ≢ n → slice_get levels' k ≡ slice_get between k) (sym long) same) (subst (λ n. IsLookedAt m between levels' n index whole found) (sym long) looked)

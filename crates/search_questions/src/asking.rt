@@ -54,6 +54,32 @@ fn join_to(levels: &mut Vec<Level>, parts: &[Option<ChoiceShare>], depth: usize,
     join_below(levels, depth - 1, part, pairs);
 }
 
+/// Has the pair at this index joined on the level at this depth. Where it isn't, as many behind it
+/// are too as were looked at from the first on, so that few calls join many.
+#[inline(always)]
+fn join_ahead(
+    levels: &mut Vec<Level>,
+    parts: &[Option<ChoiceShare>],
+    depth: usize,
+    first: usize,
+    index: usize,
+    all: usize,
+)
+    requires there { depth < length levels.old.items }
+    requires within { index < all }
+    ensures many { length levels.new.items ≡ length levels.old.items }
+    ensures stands { (m : Matter) (layout : Layout) (cs : List ℕ) → depth ≤ length cs
+        → all ≤ length m.platform.pairs → StandsAt m layout parts.now levels.old.items cs
+        → StandsAt m layout parts.now levels.new.items cs
+        × HasPairsAt levels.new.items depth (index + 1) }
+{
+    if levels[depth].kept.has_pairs(index + 1) {
+        return;
+    }
+    let ahead = index.saturating_sub(first);
+    join_to(levels, parts, depth, (index + 1).saturating_add(ahead).min(all));
+}
+
 /// What a look at the pair at this index gives for the level at this depth.
 #[inline(always)]
 fn look_at(
@@ -100,8 +126,9 @@ pub(crate) fn best_at(
         Ok(known) => return known,
         Err(from) => from,
     };
-    for index in from..subject.platform().pairs().len() {
-        join_to(levels, parts, depth, index + 1);
+    let all = subject.platform().pairs().len();
+    for index in from..all {
+        join_ahead(levels, parts, depth, from, index, all);
         let found = look_at(levels, subject, depth, index, whole);
         if found.is_some() {
             return found;

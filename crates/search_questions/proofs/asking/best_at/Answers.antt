@@ -24,15 +24,17 @@ loop-index-init c =
 pub loop-index-preserved : goal.loop-index-preserved
 loop-index-preserved c =
     let m = c.args.subject.now in
+    let every : length c.pairs-all.result.now ≤ length m.platform.pairs = subst (λ (p : PlatformFacts). length c.pairs-all.result.now ≤ length p.pairs) c.platform.ensures
+    (subst (λ xs. length c.pairs-all.result.now ≤ length xs) c.pairs-all.ensures.pairs (omega arith)) in
     let less : c.loop-index.index < length m.platform.pairs = subst (λ (p : PlatformFacts). c.loop-index.index < length p.pairs) c.platform.ensures
-    (subst (λ xs. c.loop-index.index < length xs) c.pairs-index-end.ensures.pairs c.loop-index-test.true) in record {
-      there = omega (arith, c.look_at-found.ensures.many, c.join_to.ensures.many, c.loop-index.invariant.there);
-      stands = λ layout cs long keeps. (looked_on m layout c.args.parts.now c.loop-index.levels.items c.join_to.new.levels.items c.look_at-found.new.levels.items cs c.args.depth c.loop-index.index
-          c.args.whole c.look_at-found.result long less (c.loop-index.invariant.stands layout cs long keeps) (c.loop-index.invariant.looked layout cs long keeps) c.join_to.ensures.stands
+    (subst (λ xs. c.loop-index.index < length xs) c.pairs-all.ensures.pairs c.loop-index-test.true) in record {
+      there = omega (arith, c.look_at-found.ensures.many, c.join_ahead.ensures.many, c.loop-index.invariant.there);
+      stands = λ layout cs long keeps. (looked_on m layout c.args.parts.now c.loop-index.levels.items c.join_ahead.new.levels.items c.look_at-found.new.levels.items cs c.args.depth c.loop-index.index
+          c.args.whole c.look_at-found.result long less (c.loop-index.invariant.stands layout cs long keeps) (c.loop-index.invariant.looked layout cs long keeps) (c.join_ahead.ensures.stands m layout cs (omega (arith, long)) every (c.loop-index.invariant.stands layout cs long keeps))
           c.look_at-found.ensures.same c.look_at-found.ensures.looked).0;
       looked = λ layout cs long keeps.
-          let both = looked_on m layout c.args.parts.now c.loop-index.levels.items c.join_to.new.levels.items c.look_at-found.new.levels.items cs c.args.depth c.loop-index.index
-          c.args.whole c.look_at-found.result long less (c.loop-index.invariant.stands layout cs long keeps) (c.loop-index.invariant.looked layout cs long keeps) c.join_to.ensures.stands
+          let both = looked_on m layout c.args.parts.now c.loop-index.levels.items c.join_ahead.new.levels.items c.look_at-found.new.levels.items cs c.args.depth c.loop-index.index
+          c.args.whole c.look_at-found.result long less (c.loop-index.invariant.stands layout cs long keeps) (c.loop-index.invariant.looked layout cs long keeps) (c.join_ahead.ensures.stands m layout cs (omega (arith, long)) every (c.loop-index.invariant.stands layout cs long keeps))
           c.look_at-found.ensures.same c.look_at-found.ensures.looked in
           if_some _ (after (forest m) cs) (λ d leads. none_found c.loop-index.index c.args.whole m (settled d) c.look_at-found.result c.is_some.result c.is_some.ensures c.if-is_some.false
           (of_some (λ x. IsAnswerAt c.loop-index.index c.args.whole m (settled x) c.look_at-found.result) (after (forest m) cs) d leads both.1));
@@ -41,19 +43,23 @@ loop-index-preserved c =
 pub returns-then-is_some-clause-stands : goal.returns-then-is_some-clause-stands
 returns-then-is_some-clause-stands c = λ layout cs long keeps.
     let m = c.args.subject.now in
+    let every : length c.pairs-all.result.now ≤ length m.platform.pairs = subst (λ (p : PlatformFacts). length c.pairs-all.result.now ≤ length p.pairs) c.platform.ensures
+    (subst (λ xs. length c.pairs-all.result.now ≤ length xs) c.pairs-all.ensures.pairs (omega arith)) in
     let less : c.loop-index.index < length m.platform.pairs = subst (λ (p : PlatformFacts). c.loop-index.index < length p.pairs) c.platform.ensures
-    (subst (λ xs. c.loop-index.index < length xs) c.pairs-index-end.ensures.pairs c.loop-index-test.true) in
-    (looked_on m layout c.args.parts.now c.loop-index.levels.items c.join_to.new.levels.items c.look_at-found.new.levels.items cs c.args.depth c.loop-index.index
-    c.args.whole c.look_at-found.result long less (c.loop-index.invariant.stands layout cs long keeps) (c.loop-index.invariant.looked layout cs long keeps) c.join_to.ensures.stands
+    (subst (λ xs. c.loop-index.index < length xs) c.pairs-all.ensures.pairs c.loop-index-test.true) in
+    (looked_on m layout c.args.parts.now c.loop-index.levels.items c.join_ahead.new.levels.items c.look_at-found.new.levels.items cs c.args.depth c.loop-index.index
+    c.args.whole c.look_at-found.result long less (c.loop-index.invariant.stands layout cs long keeps) (c.loop-index.invariant.looked layout cs long keeps) (c.join_ahead.ensures.stands m layout cs (omega (arith, long)) every (c.loop-index.invariant.stands layout cs long keeps))
     c.look_at-found.ensures.same c.look_at-found.ensures.looked).0
 
 pub returns-then-is_some-clause-answer : goal.returns-then-is_some-clause-answer
 returns-then-is_some-clause-answer c = λ layout cs long keeps.
     let m = c.args.subject.now in
+    let every : length c.pairs-all.result.now ≤ length m.platform.pairs = subst (λ (p : PlatformFacts). length c.pairs-all.result.now ≤ length p.pairs) c.platform.ensures
+    (subst (λ xs. length c.pairs-all.result.now ≤ length xs) c.pairs-all.ensures.pairs (omega arith)) in
     let less : c.loop-index.index < length m.platform.pairs = subst (λ (p : PlatformFacts). c.loop-index.index < length p.pairs) c.platform.ensures
-    (subst (λ xs. c.loop-index.index < length xs) c.pairs-index-end.ensures.pairs c.loop-index-test.true) in
-    let both = looked_on m layout c.args.parts.now c.loop-index.levels.items c.join_to.new.levels.items c.look_at-found.new.levels.items cs c.args.depth c.loop-index.index
-    c.args.whole c.look_at-found.result long less (c.loop-index.invariant.stands layout cs long keeps) (c.loop-index.invariant.looked layout cs long keeps) c.join_to.ensures.stands
+    (subst (λ xs. c.loop-index.index < length xs) c.pairs-all.ensures.pairs c.loop-index-test.true) in
+    let both = looked_on m layout c.args.parts.now c.loop-index.levels.items c.join_ahead.new.levels.items c.look_at-found.new.levels.items cs c.args.depth c.loop-index.index
+    c.args.whole c.look_at-found.result long less (c.loop-index.invariant.stands layout cs long keeps) (c.loop-index.invariant.looked layout cs long keeps) (c.join_ahead.ensures.stands m layout cs (omega (arith, long)) every (c.loop-index.invariant.stands layout cs long keeps))
     c.look_at-found.ensures.same c.look_at-found.ensures.looked in
     if_some _ (after (forest m) cs) (λ d leads. found_answers c.loop-index.index c.args.whole m (settled d) c.look_at-found.result c.is_some.result c.is_some.ensures c.if-is_some.true
     (of_some (λ x. IsAnswerAt c.loop-index.index c.args.whole m (settled x) c.look_at-found.result) (after (forest m) cs) d leads both.1))
@@ -62,6 +68,6 @@ pub returns-clause-answer : goal.returns-clause-answer
 returns-clause-answer c = λ layout cs long keeps.
     let m = c.args.subject.now in
     let all : length m.platform.pairs ≤ c.loop-index.index = subst (λ (p : PlatformFacts). length p.pairs ≤ c.loop-index.index) c.platform.ensures
-    (subst (λ xs. length xs ≤ c.loop-index.index) c.pairs-index-end.ensures.pairs c.loop-index-test.false) in
+    (subst (λ xs. length xs ≤ c.loop-index.index) c.pairs-all.ensures.pairs c.loop-index-test.false) in
     if_some _ (after (forest m) cs) (λ d leads. none_left c.loop-index.index c.args.whole m (settled d) all
     (of_some (λ x. IsOpenOf c.loop-index.index c.args.whole m (settled x)) (after (forest m) cs) d leads (c.loop-index.invariant.looked layout cs long keeps)))
