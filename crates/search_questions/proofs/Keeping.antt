@@ -1,12 +1,10 @@
 -- What is kept, of either kind of domain.
-use Rattle.std.proofs.Common.{◌≡◌, ◌≤◌, ◌<◌, ◌^◌, ◌+◌, ◌*◌, ℕ, inl, inr, Bool, true, false, List, [], ◌∷◌, ◌++◌, Contains, Option, Some, None, length, is_some, refl, sym, ◌∙◌, ap, subst, arith}
+use Rattle.std.proofs.Common.{◌≡◌, ◌≤◌, ◌<◌, ◌^◌, ◌+◌, ◌*◌, ℕ, Bool, true, false, List, [], ◌++◌, Option, Some, None, length, is_some, refl, sym, ◌∙◌, ap, subst, arith}
 use Rattle.std.specs.Prelude.{◌↔◌, All, IfNone, IfSome, IsTrue, option_map}
 use Rattle.std.specs.List.Sorted.{IsPermutation}
-use Rattle.std.proofs.lemmas.List.{map-append, take_all}
-use Rattle.std.proofs.lemmas.List.Elements.{Contains-append_cases, filter_map-append}
+use Rattle.std.proofs.lemmas.List.{map-append}
+use Rattle.std.proofs.lemmas.List.Elements.{filter_map-append}
 use Rattle.std.proofs.lemmas.List.Sorted.{All-permutation, IsPermutation-append_right, IsPermutation-map, IsPermutation-sym, length_permutation}
-use Rattle.sysmem_formats.specs.declared.offer.Offer.TheVariants.{NoImage}
-use Rattle.sysmem_formats.specs.Offers.{images}
 use Rattle.sysmem_counts.proofs.CallerLemmas.{tally_in_order}
 use Rattle.sysmem_counts.specs.Counts.{IsCounted}
 use Rattle.sysmem_counts.specs.declared.constraints.CountConstraints.{CountConstraints}
@@ -15,8 +13,8 @@ use Rattle.sysmem_merge.specs.declared.settings.Settings.{Settings}
 use Rattle.sysmem_merge.specs.declared.asked.Asked.{Asked}
 use Rattle.sysmem_merge.specs.declared.asked.Asked.TheVariants as asked_as
 use Rattle.sysmem_merge.specs.Asked.{IsAskedOf, IsOpenFrom}
+use Rattle.sysmem_merge.proofs.CallerLemmas as merged
 use Rattle.sysmem_merge.specs.Best as best
-use Rattle.sysmem_merge.specs.Settings as meeting
 use Rattle.offer_fits.specs.Demands.{counts_asked}
 use Rattle.sysmem_merge.specs.Settings.{CoversOn}
 use Rattle.sysmem_merge.specs.Sum.{SumFacts, SumsUp, SumsInAnyOrder}
@@ -184,18 +182,10 @@ sums_joined n above old new share joins joined m all ps qs order has keeps above
       joined,
     )
 
--- settings meet the participants at least but for names
-loosely_met : (whole : Bool) (platform : PlatformFacts) (ps : List Participant) (t : Settings) → meeting.MeetsAs whole platform ps t → meeting.MeetsLoosely platform ps t
-loosely_met true platform ps t meets = meets.loosely
-loosely_met false platform ps t meets = meets
-
 -- where each pair was looked at, none meet the members
 pub none_left : (n : ℕ) (whole : Bool) (m : Matter) (ms : List Member) → length m.platform.pairs ≤ n → IsOpenOf n whole m ms → (t : Settings) → ¬ (MeetsAs whole m ms t)
-none_left n whole m ms all open' = none_as whole m ms open'.initial (λ t meets.
-    elim (Contains-append_cases (NoImage ∷ []) (images m.platform.pairs m.platform.colours) t.offer (loosely_met whole m.platform (participants ms) t meets).sound.offer) as (λ _. ⊥) [
-      | inl plain ↦ open'.from.no_image t meets plain
-      | inr image ↦ open'.from.before t meets (subst (λ xs. Contains (images xs m.platform.colours) t.offer) (sym (take_all n m.platform.pairs all)) image)
-    ])
+none_left n whole m ms all open' =
+    none_as whole m ms open'.initial (merged.none_left whole m.platform (participants ms) n all open'.from.no_image open'.from.before)
 
 -- there is an answer exactly where some settings meet
 pub told_met : (m : Matter) (d : Forest Member) (answer : Option Settings) (found : Bool) → found ≡ is_some answer → IsAnswer false m (settled d) answer

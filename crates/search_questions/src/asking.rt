@@ -77,7 +77,12 @@ fn join_ahead(
         return;
     }
     let ahead = index.saturating_sub(first);
-    join_to(levels, parts, depth, (index + 1).saturating_add(ahead).min(all));
+    join_to(
+        levels,
+        parts,
+        depth,
+        (index + 1).saturating_add(ahead).min(all),
+    );
 }
 
 /// What a look at the pair at this index gives for the level at this depth.

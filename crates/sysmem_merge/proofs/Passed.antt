@@ -1,5 +1,5 @@
 -- Offers of which no settings meet participants.
-use Rattle.std.proofs.Common.{arith, ℕ, ◌+◌, ◌≡◌, ◌<◌, ◌≤◌, inl, inr, max, Bool, true, false, List, [], ◌∷◌, ◌++◌, Some, Contains, length, map, take, drop, slice_get, sym, ap, ◌∙◌, subst}
+use Rattle.std.proofs.Common.{arith, ℕ, ◌+◌, ◌≡◌, ◌≤◌, inl, inr, max, Bool, false, List, [], ◌∷◌, ◌++◌, Some, Contains, length, map, take, drop, slice_get, sym, ap, ◌∙◌, subst}
 use Rattle.std.proofs.lemmas.Bool.{cases_lt}
 use Rattle.std.proofs.lemmas.List.{take-take, take_all, take-append-drop}
 use Rattle.std.proofs.lemmas.Grind.{flat_map-append}
@@ -13,13 +13,11 @@ use Rattle.sysmem_formats.specs.Offers.{images}
 use Rattle.sysmem_memory.specs.declared.place.Place.{Place}
 use Rattle.sysmem_memory.specs.Place.{IsFirstPlace}
 use Rattle.offer_fits.specs.declared.fit.Fit.{Fit}
-use Rattle.sysmem_merge.specs.declared.settings.Settings.{Settings}
 use Rattle.sysmem_merge.specs.Asked.{settings_of}
 use Rattle.sysmem_merge.specs.Best.{IsBest, IsEarlierOffer, IsUnmet}
 use Rattle.sysmem_merge.specs.Demands.{counts_asked, place_demands, offer_demands}
 use Rattle.sysmem_merge.specs.FirstFit.{IsFirstFit}
 use Rattle.sysmem_merge.specs.Reasons.{AreOffersRefused}
-use Rattle.sysmem_merge.specs.Settings.{MeetsAs}
 use Rattle.sysmem_merge.specs.Sum.{HasNone, HasNoImage}
 use Rattle.negotiation_inputs.specs.Participant.{Participant}
 use Rattle.negotiation_inputs.specs.Platform.{PlatformFacts, offers_of}

@@ -1,15 +1,11 @@
 -- What stands for participants and for more of them stands for both together.
-use Rattle.std.proofs.Common.{arith, ℕ, ◌≡◌, ◌≤◌, ◌+◌, ◌↔◌, max, min, Bool, false, List, [], ◌∷◌, ◌++◌, All, Option, Some, None, IfSome, IfNone, IsTrue, is_some, length-append}
+use Rattle.std.proofs.Common.{arith, ℕ, ◌≡◌, ◌≤◌, ◌+◌, max, min, false, List, [], ◌∷◌, ◌++◌, All, Option, Some, None, IfSome, IfNone, length-append}
 use Rattle.std.proofs.lemmas.List.{map-append}
 use Rattle.std.proofs.lemmas.List.Elements.{All-append, All-nil, All-cons, All-head, All-tail}
-use Rattle.list_lemmas.specs.Some.{AreSomeOf}
-use Rattle.list_lemmas.proofs.CallerLemmas.{All-some, some_both, some_front, some_itself, some_map, some_none}
-use Rattle.sysmem_counts.proofs.CallerLemmas.{counted_some}
 use Rattle.sysmem_counts.specs.Counts.{HasNoCount, IsLeastCount}
 use Rattle.sysmem_counts.specs.Bounds as counts
 use Rattle.sysmem_memory.specs.declared.place.Place.{Place}
 use Rattle.sysmem_memory.specs.Place as places
-use Rattle.sysmem_memory.specs.PlaceTable.{AllowsPlace, PlaceDemand}
 use Rattle.sysmem_formats.specs.declared.offer.Offer.TheVariants.{NoImage}
 use Rattle.sysmem_merge.specs.declared.pair.KeptPair.{KeptPair}
 use Rattle.sysmem_merge.specs.Aggregate.{AreSizes, IsKept}

@@ -1,7 +1,7 @@
-use Rattle.std.proofs.Common.{arith, List, ◌≡◌, ◌++◌, ◌∷◌, [], length, refl, sym, ap, ◌∙◌, subst}
+use Rattle.std.proofs.Common.{arith, ◌≡◌, ◌++◌, ◌∷◌, [], length, refl, sym, ap, ◌∙◌, subst}
 use Rattle.list_lemmas.proofs.CallerLemmas.{some_front}
 use Rattle.sysmem_memory.specs.Wishes.{MemoryWishes}
-use Rattle.sysmem_merge.specs.Demands.{OfferDemand, counts_asked, place_demands, offer_demand, offer_demands}
+use Rattle.sysmem_merge.specs.Demands.{counts_asked, place_demands, offer_demand, offer_demands}
 use Rattle.sysmem_merge.specs.Pairs.{ArePairsKept}
 use Rattle.sysmem_merge.specs.Sum.{IsWhole, SumFacts, SumsUp}
 use Rattle.sysmem_merge.proofs.Adding.{all_written, map_push}
