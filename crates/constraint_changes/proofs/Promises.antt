@@ -10,6 +10,7 @@ use Rattle.sysmem_memory.specs.Heap.{HeapFacts}
 use Rattle.serde_json.specs.Data.{Data}
 use Rattle.negotiation_inputs.specs.Platform.{PlatformFacts}
 use Rattle.script_reading.specs.Script.{CallFacts}
+use Rattle.script_story.specs.declared.outcome.Outcome.{Outcome}
 use Rattle.constraint_edits.specs.declared.change.Change.{Change}
 use Rattle.constraint_changes.specs.declared.trials.editing.EditedCall.{EditedCall}
 use Rattle.constraint_changes.specs.Edited.{AreEdited, AreExchanged, IsEdited, States, IsTried, IsPromised, edits_of, stating, unedited, edited_too}
@@ -25,7 +26,7 @@ pub edit_at : (heaps : List HeapFacts) (rs : List CallFacts) (place : ℕ) (chan
 edit_at heaps rs place changes before after was edited = record { before = before; after = after; was = was; edited = edited; now = refl }
 
 -- what is tried of an edited record is promised of the edit
-pub promised_alone : (platform : PlatformFacts) (rs : List CallFacts) (place : ℕ) (changes : List Change) (d : Data) (path what : List ℕ)
+pub promised_alone : (platform : PlatformFacts) (rs : List CallFacts) (place : ℕ) (changes : List Change) (d : Data) (path : List ℕ) (what : Outcome)
     → IsEdited platform.heaps rs place changes (stating rs place d) → IsTried platform rs place d path what → IsPromised platform rs ((place, changes) ∷ []) path what
 promised_alone platform rs place changes d path what edited tried = record {
   calls = stating rs place d;

@@ -7,6 +7,7 @@ use Rattle.negotiation_inputs.specs.Platform.{PlatformFacts}
 use Rattle.script_reading.specs.Call.{states}
 use Rattle.script_reading.specs.Script.{CallFacts}
 use Rattle.script_story.specs.Told.{IsReportedOn}
+use Rattle.script_story.specs.declared.outcome.Outcome.{Outcome}
 use Rattle.constraint_edits.specs.declared.change.Change.{Change}
 use Rattle.constraint_edits.specs.EditedRecords.{IsRecordEdited}
 use Rattle.constraint_changes.specs.declared.trials.editing.EditedCall.{EditedCall}
@@ -40,10 +41,10 @@ pub data AreEdited (heaps : List HeapFacts) (rs : List CallFacts)
       (changes : List Change) → AreEdited heaps rs edits qs → IsEdited heaps qs place changes ps
       → AreEdited heaps rs (edits ++ (place, changes) ∷ []) ps
 
--- after these changes of what some calls ask, the report of the calls says this of the domain at a
--- path
+-- after these changes of what some calls ask, this becomes of the domain at a path, as the report
+-- of the calls says it
 pub record IsPromised (platform : PlatformFacts) (rs : List CallFacts)
-    (edits : List (ℕ × List Change)) (path what : List ℕ) : Type 0 where
+    (edits : List (ℕ × List Change)) (path : List ℕ) (what : Outcome) : Type 0 where
   pub calls : List CallFacts
   pub edited : AreEdited platform.heaps rs edits calls
   pub reported : IsReportedOn platform calls path what
@@ -52,9 +53,9 @@ pub record IsPromised (platform : PlatformFacts) (rs : List CallFacts)
 abbrev pub edits_of : List EditedCall → List (ℕ × List Change)
 edits_of edits = map (λ edit. (edit.place, edit.changes.items)) edits
 
--- with this record in the call at a place, the report of the calls says this of the domain at a
--- path
-abbrev pub IsTried : PlatformFacts → List CallFacts → ℕ → Data → List ℕ → List ℕ → Type 0
+-- with this record in the call at a place, this becomes of the domain at a path, as the report of
+-- the calls says it
+abbrev pub IsTried : PlatformFacts → List CallFacts → ℕ → Data → List ℕ → Outcome → Type 0
 IsTried platform rs place stated path what =
     IsReportedOn platform (stating rs place stated) path what
 
@@ -64,9 +65,10 @@ pub data IsRestated (rs : List CallFacts) : List CallFacts → Type 0 where
   one_more : (qs : List CallFacts) (place : ℕ) (d : Data) → IsRestated rs qs
       → IsRestated rs (stating qs place d)
 
--- with other constraints in some calls, the report of the calls says this of the domain at a path
-pub record IsPromisedSo (platform : PlatformFacts) (rs : List CallFacts)
-    (path what : List ℕ) : Type 0 where
+-- with other constraints in some calls, this becomes of the domain at a path, as the report of the
+-- calls says it
+pub record IsPromisedSo (platform : PlatformFacts) (rs : List CallFacts) (path : List ℕ)
+    (what : Outcome) : Type 0 where
   pub calls : List CallFacts
   pub restated : IsRestated rs calls
   pub reported : IsReportedOn platform calls path what
@@ -80,10 +82,10 @@ pub record AreExchanged (rs : List CallFacts) (one other : ℕ) (qs : List CallF
   pub second : States rs other its
   pub now : qs ≡ stating (stating rs one its) other mine
 
--- with the records of two calls exchanged, the report of the calls says this of the domain at a
--- path
+-- with the records of two calls exchanged, this becomes of the domain at a path, as the report of
+-- the calls says it
 pub record IsPromisedExchanged (platform : PlatformFacts) (rs : List CallFacts)
-    (one other : ℕ) (path what : List ℕ) : Type 0 where
+    (one other : ℕ) (path : List ℕ) (what : Outcome) : Type 0 where
   pub calls : List CallFacts
   pub exchanged : AreExchanged rs one other calls
   pub reported : IsReportedOn platform calls path what

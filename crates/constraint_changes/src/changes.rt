@@ -1,7 +1,6 @@
 //! Single changes that make an empty decision one that chooses, found by trying each.
 
 ghost use Rattle.std.specs.Prelude.{[], ◌∷◌, map};
-ghost use Rattle.std.specs.String.{string_bytes};
 ghost use Rattle.script_reading.specs.Seen.{call_seen};
 ghost use Rattle.serde_json.specs.View.{view};
 ghost use Rattle.constraint_changes.specs.Edited.{IsPromised, IsTried};
@@ -242,13 +241,13 @@ fn try_change(
     if known.is_none() && leaves_none(alloc, group, search.parties, from_ref(&stated))? {
         return Ok(());
     }
-    let Some(line) = trial.outcome(alloc, &stated.value)? else {
+    let Some(outcome) = trial.outcome(alloc, &stated.value)? else {
         return Ok(());
     };
     let found = TrialResult {
         change: made,
         words,
-        line,
+        outcome,
         value: stated.into_value(),
     };
     let least = trial.least(alloc, group, search.parties, value, edit, found)?;
@@ -267,9 +266,9 @@ fn put_found(
 ) -> Result<(), AllocError>
     requires { IsTried trial.scenario.now.platform.now
         (map call_seen trial.scenario.now.calls.now) trial.place (view found.value)
-        trial.path.now (string_bytes found.line) }
+        trial.path.now found.outcome }
 {
-    if is_absurd(&found.line, search.is_sized) {
+    if is_absurd(&found.outcome.said, search.is_sized) {
         search.absurd = search.absurd.saturating_add(1);
         return Ok(());
     }
@@ -277,7 +276,7 @@ fn put_found(
     if !trial.is_edit(alloc, &found.change, &found.value)? {
         return Ok(());
     }
-    let choice = choices_in(alloc, group.story, group.root, &found.line)?;
+    let choice = choices_in(alloc, group.story, group.root, &found.outcome.said)?;
     let who = group.who_changes(alloc, participant, edit, &found.value)?;
     let label = search.label();
     put_change(&mut search.found, trial, label, &who, found);
@@ -344,10 +343,10 @@ fn put_change(
 )
     requires { IsPromised trial.scenario.now.platform.now
         (map call_seen trial.scenario.now.calls.now) ((trial.place, found.change ∷ []) ∷ [])
-        trial.path.now (string_bytes found.line) }
+        trial.path.now found.outcome }
 {
     let mut words = TextBuilder::of_text(items.alloc(), who);
     words.put(": ").put_text(&found.words);
     items.say(2, label, words);
-    items.promise(3, found.into_line())
+    items.promise(3, found.into_outcome().into_said())
 }

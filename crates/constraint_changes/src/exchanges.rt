@@ -1,7 +1,6 @@
 //! The constraints of two participants exchanged, each of whom another decision asks otherwise.
 
 ghost use Rattle.std.specs.Prelude.{map, IfOk, IfSome};
-ghost use Rattle.std.specs.String.{string_bytes};
 ghost use Rattle.script_reading.specs.Seen.{call_seen};
 ghost use Rattle.constraint_changes.specs.Edited.{IsPromisedExchanged};
 
@@ -12,7 +11,7 @@ use crate::trials::{
 };
 use domain_reasons::{are_exchanged, choices_in};
 use explanation_text::{ListBuilder, TextBuilder};
-use script_story::{Milestone, Scenario, Story, asked_in};
+use script_story::{Milestone, Outcome, Scenario, Story, asked_in};
 use serde_json::Value;
 use std::alloc::{AllocError, Global};
 use value_sources::NamedParticipant;
@@ -115,13 +114,13 @@ fn try_exchange(
     }
     search.tried = search.tried.saturating_add(1);
     match outcome_of(alloc, search, group, partner, &exchange)? {
-        Some(line) => write_exchange(
+        Some(outcome) => write_exchange(
             search,
             group,
             participant,
             partner.participant,
             &exchange,
-            line,
+            outcome,
         ),
         None => Ok(()),
     }
@@ -135,20 +134,20 @@ fn outcome_of(
     group: Group<'_, '_>,
     partner: Partner<'_>,
     exchange: &Exchange,
-) -> Result<Option<String>, AllocError>
+) -> Result<Option<Outcome>, AllocError>
     ensures { IfOk result (λ said. IfSome said (λ what. IsPromisedExchanged
         group.entry.scenario.now.platform.now (map call_seen group.entry.scenario.now.calls.now)
-        exchange.now.one exchange.now.other group.entry.path.now (string_bytes what))) }
+        exchange.now.one exchange.now.other group.entry.path.now what)) }
 {
     if leaves_none(alloc, group, search.parties, &exchange.stated)? {
         return Ok(None);
     }
-    let Some(line) = outcome(alloc, group.scenario, exchange, group.path)? else {
+    let Some(own) = outcome(alloc, group.scenario, exchange, group.path)? else {
         return Ok(None);
     };
     let path = group.story.path(group.story.root_of(partner.domain));
     match outcome(alloc, group.scenario, exchange, path)? {
-        Some(_) => Ok(Some(line)),
+        Some(_) => Ok(Some(own)),
         None => Ok(None),
     }
 }
@@ -160,16 +159,16 @@ fn write_exchange(
     participant: NamedParticipant<'_>,
     other: NamedParticipant<'_>,
     exchange: &Exchange,
-    line: String,
+    outcome: Outcome,
 ) -> Result<(), AllocError>
     requires { IsPromisedExchanged group.scenario.now.platform.now
         (map call_seen group.scenario.now.calls.now) exchange.now.one exchange.now.other
-        group.path.now (string_bytes line) }
+        group.path.now outcome }
 {
     let alloc = search.found.alloc();
-    let choice = choices_in(alloc, group.story, group.root, &line)?;
+    let choice = choices_in(alloc, group.story, group.root, &outcome.said)?;
     put_exchange(search, group, participant, other)?;
-    put_exchanged(&mut search.found, group, 3, exchange, line);
+    put_exchanged(&mut search.found, group, 3, exchange, outcome);
     put_choice(&mut search.found, 3, choice);
     Ok(())
 }
@@ -235,10 +234,10 @@ fn outcome(
     scenario: &Scenario<'_>,
     exchange: &Exchange,
     path: &str,
-) -> Result<Option<String>, AllocError>
+) -> Result<Option<Outcome>, AllocError>
     ensures { IfOk result (λ said. IfSome said (λ what. IsPromisedExchanged
         scenario.now.platform.now (map call_seen scenario.now.calls.now) exchange.now.one
-        exchange.now.other path.now (string_bytes what))) }
+        exchange.now.other path.now what)) }
 {
     match exchanged_calls(alloc, scenario.calls, exchange.one, exchange.other)? {
         Some(calls) => chosen_with(alloc, scenario, &calls, path),

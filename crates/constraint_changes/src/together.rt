@@ -1,7 +1,6 @@
 //! Several changes that together make an empty decision one that chooses, where no single one does.
 
 ghost use Rattle.std.specs.Prelude.{map, IfOk, IfSome};
-ghost use Rattle.std.specs.String.{string_bytes};
 ghost use Rattle.script_reading.specs.Seen.{call_seen};
 ghost use Rattle.constraint_changes.specs.Edited.{IsPromised, IsPromisedSo, edits_of};
 
@@ -18,7 +17,7 @@ use crate::walk::{Run, Walk};
 use constraint_edits::{Amount, Edit, Halving, changes, is_absurd};
 use domain_reasons::choices_in;
 use explanation_text::{Items, ListBuilder, Text, TextBuilder};
-use script_story::Milestone;
+use script_story::{Milestone, Outcome};
 use serde_json::Value;
 use std::alloc::{AllocError, Global};
 use value_sources::NamedParticipant;
@@ -79,12 +78,12 @@ fn add_least_changes(
     }
     let alloc = items.alloc();
     let mut parts = Vec::from_slice(alloc, fewest)?;
-    let Some(mut line) = joint.outcome(alloc, &parts)? else {
+    let Some(mut outcome) = joint.outcome(alloc, &parts)? else {
         return Ok(());
     };
     for index in 0..parts.len() {
-        if let Some(other) = joint.lessen(shelf, alloc, &mut parts, index, &line)? {
-            line = other;
+        if let Some(other) = joint.lessen(shelf, alloc, &mut parts, index, &outcome)? {
+            outcome = other;
         }
     }
     joint.tell(items, &parts, before)
@@ -348,19 +347,19 @@ impl CombinedChange<'_, '_> {
         }
     }
 
-    /// Finds the least change of the part of an index with which all do still, where leaving its
-    /// field out gives this line; and what comes then, if it can be less.
+    /// Finds the least change of the part of an index with which all do still, where by leaving its
+    /// field out this comes; and what comes then, if it can be less.
     fn lessen(
         &self,
         shelf: &mut RecordCache,
         alloc: Global,
         parts: &mut [PartyChange],
         index: usize,
-        line: &str,
-    ) -> Result<Option<String>, AllocError> {
+        left_out: &Outcome,
+    ) -> Result<Option<Outcome>, AllocError> {
         let known = self.known_of(shelf, alloc, parts, parts)?;
         for others in [known.as_ref(), None] {
-            let best = self.least(shelf, alloc, parts, index, line, others)?;
+            let best = self.least(shelf, alloc, parts, index, left_out, others)?;
             set_amount(parts, index, best);
             if best.is_none() {
                 return Ok(None);
@@ -381,11 +380,11 @@ impl CombinedChange<'_, '_> {
         alloc: Global,
         parts: &mut [PartyChange],
         index: usize,
-        line: &str,
+        left_out: &Outcome,
         others: Option<&RestatedParticipants>,
     ) -> Result<Option<Amount>, AllocError> {
         let mut best = None;
-        let Some(mut halving) = self.halving(parts.get(index), line) else {
+        let Some(mut halving) = self.halving(parts.get(index), left_out) else {
             return Ok(best);
         };
         for _halving in 0..MOST_HALVINGS {
@@ -408,11 +407,11 @@ impl CombinedChange<'_, '_> {
         Ok(best)
     }
 
-    /// The values that a part leaves between, where leaving its field out gives this line.
-    fn halving(&self, part: Option<&PartyChange>, line: &str) -> Option<Halving> {
+    /// The values that a part leaves between, where by leaving its field out this comes.
+    fn halving(&self, part: Option<&PartyChange>, left_out: &Outcome) -> Option<Halving> {
         let part = part?;
         let value = self.group.participants.get(part.person)?.stated?;
-        Halving::of(value, part.edit, line)
+        Halving::of(value, part.edit, &left_out.said)
     }
 
     /// Whether participants aren't known to leave no settings with the part of an index, where it
@@ -438,11 +437,11 @@ impl CombinedChange<'_, '_> {
     }
 
     /// What the domain becomes by some changes, if it is chosen then with a row that may be meant.
-    fn outcome(&self, alloc: Global, parts: &[PartyChange]) -> Result<Option<String>, AllocError>
+    fn outcome(&self, alloc: Global, parts: &[PartyChange]) -> Result<Option<Outcome>, AllocError>
         ensures { IfOk result (λ said. IfSome said (λ what. IsPromisedSo
             self.now.group.scenario.now.platform.now
             (map call_seen self.now.group.scenario.now.calls.now)
-            self.now.group.path.now (string_bytes what))) }
+            self.now.group.path.now what)) }
     {
         if self.leave_none_after(alloc, parts)? || self.group.scenario.effort.is_spent() {
             return Ok(None);
@@ -456,15 +455,15 @@ impl CombinedChange<'_, '_> {
         &self,
         alloc: Global,
         stated: &[RestatedConstraints],
-    ) -> Result<Option<String>, AllocError>
+    ) -> Result<Option<Outcome>, AllocError>
         ensures { IfOk result (λ said. IfSome said (λ what. IsPromisedSo
             self.now.group.scenario.now.platform.now
             (map call_seen self.now.group.scenario.now.calls.now)
-            self.now.group.path.now (string_bytes what))) }
+            self.now.group.path.now what)) }
     {
         let calls = restated(alloc, self.group.scenario.calls, stated)?;
         match chosen_with(alloc, self.group.scenario, &calls, self.group.path)? {
-            Some(line) if !is_absurd(&line, false) => Ok(Some(line)),
+            Some(outcome) if !is_absurd(&outcome.said, false) => Ok(Some(outcome)),
             _ => Ok(None),
         }
     }
@@ -528,24 +527,24 @@ impl CombinedChange<'_, '_> {
         ensures { IfOk result (λ made. IfSome made (λ promise. IsPromised
             self.now.group.scenario.now.platform.now
             (map call_seen self.now.group.scenario.now.calls.now) (edits_of promise.edits.items)
-            self.now.group.path.now (string_bytes promise.line))) }
+            self.now.group.path.now promise.outcome)) }
     {
         if self.leave_none_after(alloc, parts)? || self.group.scenario.effort.is_spent() {
             return Ok(None);
         }
         let edits = self.edits(alloc, parts)?;
-        match self.line_by(alloc, &edits)? {
-            Some(line) => Ok(Some(Promise { edits, line })),
+        match self.outcome_by(alloc, &edits)? {
+            Some(outcome) => Ok(Some(Promise { edits, outcome })),
             None => Ok(None),
         }
     }
 
     /// The decision that comes where calls state edited records.
-    fn line_by(&self, alloc: Global, edits: &[EditedCall]) -> Result<Option<String>, AllocError>
+    fn outcome_by(&self, alloc: Global, edits: &[EditedCall]) -> Result<Option<Outcome>, AllocError>
         ensures { IfOk result (λ said. IfSome said (λ what. IsPromised
             self.now.group.scenario.now.platform.now
             (map call_seen self.now.group.scenario.now.calls.now) (edits_of edits.now)
-            self.now.group.path.now (string_bytes what))) }
+            self.now.group.path.now what)) }
     {
         let scenario = self.group.scenario;
         let heaps = scenario.platform.heaps();
@@ -553,7 +552,7 @@ impl CombinedChange<'_, '_> {
             return Ok(None);
         };
         match chosen_with(alloc, scenario, &calls, self.group.path)? {
-            Some(line) if !is_absurd(&line, false) => Ok(Some(line)),
+            Some(outcome) if !is_absurd(&outcome.said, false) => Ok(Some(outcome)),
             _ => Ok(None),
         }
     }
@@ -592,11 +591,11 @@ impl CombinedChange<'_, '_> {
         let Some(promise) = self.promise(alloc, parts)? else {
             return Ok(());
         };
-        if is_absurd(&promise.line, are_sized(self.group.participants)) {
+        if is_absurd(&promise.outcome.said, are_sized(self.group.participants)) {
             return Ok(());
         }
         self.put_parts(items, parts, before)?;
-        let choice = choices_in(alloc, self.group.story, self.group.root, &promise.line)?;
+        let choice = choices_in(alloc, self.group.story, self.group.root, &promise.outcome.said)?;
         put_promise(items, self.group, 2, promise);
         put_choice(items, 2, choice);
         Ok(())

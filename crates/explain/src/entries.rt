@@ -2,7 +2,6 @@
 //! with them first.
 
 ghost use Rattle.std.specs.Prelude.{[], ◌∷◌, map};
-ghost use Rattle.std.specs.String.{string_bytes};
 ghost use Rattle.script_reading.specs.Seen.{call_seen};
 ghost use Rattle.constraint_changes.specs.Edited.{IsPromised};
 
@@ -11,7 +10,7 @@ use constraint_edits::{Change, Edit, EditedConstraints, edited};
 use domain_reasons::choices_in;
 use explanation_text::{Items, Step, TextBuilder};
 use script_faults::{Document, RecordPart};
-use script_story::{Became, Milestone, Scenario, Story, asked_in};
+use script_story::{Became, Milestone, Outcome, Scenario, Story, asked_in};
 use settings_reasons::{holder_of, is_taken, unused_entries};
 use std::alloc::{AllocError, Global};
 use sysmem_formats::{Modifier, Pair, PixelFormat};
@@ -77,7 +76,7 @@ fn became_at(story: &Story<'_>, index: usize) -> Option<Became> {
 /// What the report's line says of a domain, by index.
 fn told_of<'b>(story: &'b Story<'_>, index: usize) -> &'b str {
     match story.domains.get(index) {
-        Some(domain) => &domain.told,
+        Some(domain) => &domain.told.said,
         None => "",
     }
 }
@@ -169,11 +168,11 @@ impl Teller<'_, '_> {
             path: self.story.path(root),
             place: self.number.saturating_sub(1),
         };
-        let Some(line) = trial.outcome(items.alloc(), &changed.value)? else {
+        let Some(outcome) = trial.outcome(items.alloc(), &changed.value)? else {
             self.write_first(items, item, "nothing would be chosen");
             return Ok(());
         };
-        if line.as_str() == told_of(self.story, self.index) {
+        if outcome.said.as_str() == told_of(self.story, self.index) {
             self.write_first(items, item, "the decision would be the same");
             return Ok(());
         }
@@ -181,8 +180,8 @@ impl Teller<'_, '_> {
             return Ok(());
         }
         self.write_first(items, item, "it would be:");
-        let choice = choices_in(items.alloc(), self.story, root, &line)?;
-        put_promised(items, trial, changed.change, line);
+        let choice = choices_in(items.alloc(), self.story, root, &outcome.said)?;
+        put_promised(items, trial, changed.change, outcome);
         put_choice(items, 2, choice);
         Ok(())
     }
@@ -259,12 +258,12 @@ impl Teller<'_, '_> {
 }
 
 /// Puts the decision that comes with an entry first.
-fn put_promised(items: &mut Items, trial: Trial<'_, '_>, change: Change, line: String)
+fn put_promised(items: &mut Items, trial: Trial<'_, '_>, change: Change, outcome: Outcome)
     requires { IsPromised trial.scenario.now.platform.now
         (map call_seen trial.scenario.now.calls.now) ((trial.place, change ∷ []) ∷ [])
-        trial.path.now (string_bytes line) }
+        trial.path.now outcome }
 {
-    items.promise(2, line)
+    items.promise(2, outcome.into_said())
 }
 
 /// Puts a format and a modifier after a text.

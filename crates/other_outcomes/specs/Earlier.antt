@@ -4,6 +4,7 @@ use Rattle.negotiation_inputs.specs.Platform.{PlatformFacts}
 use Rattle.script_reading.specs.Seen.{call_seen}
 use Rattle.script_reading.specs.declared.call.Call.{Call}
 use Rattle.script_story.specs.Told.{IsReportedOn}
+use Rattle.script_story.specs.declared.outcome.Outcome.{Outcome}
 use Rattle.other_outcomes.specs.Moved.{IsMoved}
 
 -- the place that a name has once the second is made right before the first
@@ -24,9 +25,9 @@ pub record IsEarlier (calls : List Call) (made : List Call) : Type 0 where
   pub second : ℕ
   pub placed : made ≡ map (in_turn first second) others
 
--- with such calls the report says this of the domain at a path
+-- with such calls this becomes of the domain at a path, as the report says it
 pub record IsPromisedEarlier (platform : PlatformFacts) (calls : List Call)
-    (path what : List ℕ) : Type 0 where
+    (path : List ℕ) (what : Outcome) : Type 0 where
   pub made : List Call
   pub earlier : IsEarlier calls made
   pub reported : IsReportedOn platform (map call_seen made) path what

@@ -4,6 +4,7 @@ use Rattle.negotiation_inputs.specs.Platform.{PlatformFacts}
 use Rattle.script_reading.specs.Seen.{call_seen}
 use Rattle.script_reading.specs.declared.call.Call.{Call}
 use Rattle.script_story.specs.Told.{IsReportedOn}
+use Rattle.script_story.specs.declared.outcome.Outcome.{Outcome}
 
 -- the calls, of which that at the first place, from 0, stands right after that at the second, a
 -- later one
@@ -19,9 +20,9 @@ pub data IsMoved (calls : List Call) : List Call → Type 0 where
   one_more : (others : List Call) (from to : ℕ) → from < to → to < length others
       → IsMoved calls others → IsMoved calls (moving others from to)
 
--- with some calls later, the report says this of the domain at a path
+-- with some calls later this becomes of the domain at a path, as the report says it
 pub record IsPromisedMoved (platform : PlatformFacts) (calls : List Call)
-    (path what : List ℕ) : Type 0 where
+    (path : List ℕ) (what : Outcome) : Type 0 where
   pub others : List Call
   pub moved : IsMoved calls others
   pub reported : IsReportedOn platform (map call_seen others) path what

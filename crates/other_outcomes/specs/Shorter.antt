@@ -4,6 +4,7 @@ use Rattle.negotiation_inputs.specs.Platform.{PlatformFacts}
 use Rattle.script_reading.specs.Seen.{call_seen}
 use Rattle.script_reading.specs.declared.call.Call.{Call}
 use Rattle.script_story.specs.Told.{IsReportedOn}
+use Rattle.script_story.specs.declared.outcome.Outcome.{Outcome}
 
 -- the calls without the one at a place, from 0
 abbrev pub leaving_out : List Call → ℕ → List Call
@@ -15,9 +16,9 @@ pub data IsShorter (calls : List Call) : List Call → Type 0 where
   one_less : (others : List Call) (place : ℕ) → place < length others
       → IsShorter calls others → IsShorter calls (leaving_out others place)
 
--- without some calls, the report says this of the domain at a path
+-- without some calls this becomes of the domain at a path, as the report says it
 pub record IsPromisedShorter (platform : PlatformFacts) (calls : List Call)
-    (path what : List ℕ) : Type 0 where
+    (path : List ℕ) (what : Outcome) : Type 0 where
   pub others : List Call
   pub shorter : IsShorter calls others
   pub reported : IsReportedOn platform (map call_seen others) path what

@@ -1,13 +1,12 @@
 //! Later children of groups in the place of those that were chosen.
 
 ghost use Rattle.std.specs.Prelude.{◌≡◌, map, IfOk, IfSome};
-ghost use Rattle.std.specs.String.{string_bytes};
 ghost use Rattle.other_outcomes.specs.Exchanged.{IsPromisedExchanged, on_other};
 
 use crate::pending::place_of;
 use explanation_text::{Items, ListBuilder, TextBuilder};
 use script_reading::Call;
-use script_story::{MadeCall, Scenario, Story};
+use script_story::{MadeCall, Outcome, Scenario, Story};
 use std::alloc::{AllocError, Global};
 
 /// How many children are tried.
@@ -47,11 +46,11 @@ fn try_exchanged(
     pair: Siblings,
     path: &str,
 ) -> Result<(), AllocError> {
-    let Some(line) = outcome_with(items.alloc(), scenario, story, pair, path)? else {
+    let Some(outcome) = outcome_with(items.alloc(), scenario, story, pair, path)? else {
         return Ok(());
     };
     add_exchanged(items, story, pair);
-    put_promised(items, scenario, path, line);
+    put_promised(items, scenario, path, outcome);
     add_choice(items, story, pair);
     Ok(())
 }
@@ -129,9 +128,9 @@ fn outcome_with(
     story: &Story<'_>,
     pair: Siblings,
     path: &str,
-) -> Result<Option<String>, AllocError>
+) -> Result<Option<Outcome>, AllocError>
     ensures { IfOk result (λ said. IfSome said (λ what. IsPromisedExchanged
-        scenario.now.platform.now scenario.now.calls.now path.now (string_bytes what))) }
+        scenario.now.platform.now scenario.now.calls.now path.now what)) }
 {
     let a = place_of(story, Some(pair.first));
     let b = place_of(story, Some(pair.second));
@@ -140,32 +139,40 @@ fn outcome_with(
         return Ok(None);
     }
     match outcome_exchanged(alloc, scenario, a, b, path)? {
-        Some(line) if is_now(story, pair, choices_of(&line)) => Ok(Some(line)),
+        Some(outcome) if is_now(story, pair, &outcome) => Ok(Some(outcome)),
         _ => Ok(None),
     }
 }
 
-/// What the report would say last of the domain at a path if each call on one of two names were
-/// made on the other; `None` where it would say nothing, and where nothing more is to be tried.
+/// What would become last of the domain at a path if each call on one of two names were made on the
+/// other; `None` where nothing would, and where nothing more is to be tried.
 fn outcome_exchanged(
     alloc: Global,
     scenario: &Scenario<'_>,
     a: usize,
     b: usize,
     path: &str,
-) -> Result<Option<String>, AllocError>
+) -> Result<Option<Outcome>, AllocError>
     ensures { IfOk result (λ said. IfSome said (λ what. IsPromisedExchanged
-        scenario.now.platform.now scenario.now.calls.now path.now (string_bytes what))) }
+        scenario.now.platform.now scenario.now.calls.now path.now what)) }
 {
     let calls = exchanged(alloc, scenario.calls, a, b)?;
     scenario.outcome(alloc, &calls, path)
 }
 
-/// Whether these are the choices of the domain of two children, if that is chosen.
-fn is_now(story: &Story<'_>, pair: Siblings, choices: &str) -> bool {
+/// Whether the same children are chosen as in the domain of two, if that is chosen.
+fn is_now(story: &Story<'_>, pair: Siblings, outcome: &Outcome) -> bool {
     match story.domain_of(pair.chosen) {
-        Some(domain) => !choices.is_empty() && choices == choices_of(&domain.told),
+        Some(domain) => are_same_children(outcome, &domain.told),
         None => false,
+    }
+}
+
+/// Whether the same children are chosen in two domains: none in both where neither has groups.
+fn are_same_children(one: &Outcome, other: &Outcome) -> bool {
+    match (one.chosen(), other.chosen()) {
+        (Some(one), Some(other)) => one.selection().choices() == other.selection().choices(),
+        _ => false,
     }
 }
 
@@ -177,17 +184,6 @@ fn is_called(calls: &[MadeCall<'_>], place: usize) -> bool {
         }
     }
     false
-}
-
-/// The choices that a line on a domain that is chosen names, as a text; empty where it isn't.
-fn choices_of(line: &str) -> &str {
-    match line.strip_prefix("chosen ") {
-        Some(rest) => match rest.split_once(' ') {
-            Some((choices, _)) => choices,
-            None => rest,
-        },
-        None => "",
-    }
 }
 
 /// The calls with those on one of two names made on the other.
@@ -221,9 +217,9 @@ fn on_other<'a>(call: &Call<'a>, a: usize, b: usize) -> Call<'a>
 }
 
 /// Puts the decision that comes once two names are exchanged.
-fn put_promised(items: &mut Items, scenario: &Scenario<'_>, path: &str, line: String)
+fn put_promised(items: &mut Items, scenario: &Scenario<'_>, path: &str, outcome: Outcome)
     requires { IsPromisedExchanged scenario.now.platform.now scenario.now.calls.now path.now
-        (string_bytes line) }
+        outcome }
 {
-    items.promise(2, line)
+    items.promise(2, outcome.into_said())
 }

@@ -1,18 +1,17 @@
 //! Room that an attached domain has since others were released or closed before.
 
 ghost use Rattle.std.specs.Prelude.{◌≡◌, ◌<◌, List, length, IfOk, IfSome};
-ghost use Rattle.std.specs.String.{string_bytes};
 ghost use Rattle.script_reading.specs.declared.call.Call.{Call as Called};
 ghost use Rattle.other_outcomes.specs.Moved.{IsPromisedMoved};
 ghost use Rattle.other_outcomes.specs.Shorter.{IsPromisedShorter, IsShorter, leaving_out};
 
 use crate::ended_later::{End, ended_by, ending, put_calls, put_names};
 use crate::moved::{outcome_moved, with_moves};
-use crate::otherwise::{Otherwise, is_chosen};
+use crate::otherwise::Otherwise;
 use domain_reasons::{accepted_before, count_above, gone_before};
 use explanation_text::{Items, TextBuilder};
 use script_reading::Call;
-use script_story::{Move, Scenario, Story, asked_in};
+use script_story::{Became, Move, Outcome, Scenario, Story, asked_in};
 use std::alloc::{AllocError, Global};
 use std::slice::from_ref;
 use value_sources::{NamedParticipant, needed};
@@ -108,11 +107,11 @@ fn add_after<'a>(
     let alloc = items.alloc();
     let moves = moves_of(alloc, ends, decided)?;
     match outcome_moved(alloc, scenario, &moves, path)? {
-        Some(line) if !is_chosen(&line) && line.as_str() != "pending" => {
-            let then = with_moves(alloc, scenario, &moves, &line)?;
-            let never = is_so_without(alloc, scenario, ends, path, &line)?;
+        Some(outcome) if !matches!(outcome.became(), Became::Chosen | Became::Pending) => {
+            let then = with_moves(alloc, scenario, &moves, &outcome)?;
+            let never = is_so_without(alloc, scenario, ends, path, &outcome)?;
             put_head(items, story, ends, decided, never);
-            put_promised(items, scenario, path, line);
+            put_promised(items, scenario, path, outcome);
             Ok(Some(then))
         }
         _ => Ok(None),
@@ -131,16 +130,16 @@ fn moves_of(alloc: Global, ends: &[End], decided: usize) -> Result<Vec<Move>, Al
     Ok(moves)
 }
 
-/// Whether the report says this of the domain at a path too without the calls that end those.
+/// Whether the report says the same of the domain at a path without the calls that end those.
 fn is_so_without(
     alloc: Global,
     scenario: &Scenario<'_>,
     ends: &[End],
     path: &str,
-    line: &str,
+    outcome: &Outcome,
 ) -> Result<bool, AllocError> {
     match outcome_without(alloc, scenario, ends, path)? {
-        Some(other) => Ok(other.as_str() == line),
+        Some(other) => Ok(other.said.as_str() == outcome.said.as_str()),
         None => Ok(false),
     }
 }
@@ -166,9 +165,9 @@ fn outcome_without(
     scenario: &Scenario<'_>,
     ends: &[End],
     path: &str,
-) -> Result<Option<String>, AllocError>
+) -> Result<Option<Outcome>, AllocError>
     ensures { IfOk result (λ said. IfSome said (λ what. IsPromisedShorter
-        scenario.now.platform.now scenario.now.calls.now path.now (string_bytes what))) }
+        scenario.now.platform.now scenario.now.calls.now path.now what)) }
 {
     let calls = without(alloc, scenario.calls, ends)?;
     scenario.outcome(alloc, &calls, path)
@@ -211,9 +210,9 @@ fn all_but<'a>(alloc: Global, calls: &[Call<'a>], place: usize) -> Result<Vec<Ca
 }
 
 /// Puts the decision that comes once calls are moved.
-fn put_promised(items: &mut Items, scenario: &Scenario<'_>, path: &str, line: String)
+fn put_promised(items: &mut Items, scenario: &Scenario<'_>, path: &str, outcome: Outcome)
     requires { IsPromisedMoved scenario.now.platform.now scenario.now.calls.now path.now
-        (string_bytes line) }
+        outcome }
 {
-    items.promise(2, line)
+    items.promise(2, outcome.into_said())
 }

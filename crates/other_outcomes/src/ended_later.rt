@@ -1,7 +1,6 @@
 //! Room that those take who are released or closed only after a domain was decided.
 
 ghost use Rattle.std.specs.Prelude.{List, IfOk, IfSome};
-ghost use Rattle.std.specs.String.{string_bytes};
 ghost use Rattle.script_reading.specs.declared.call.Call.{Call as Called};
 ghost use Rattle.other_outcomes.specs.Moved.{IsMoved, IsPromisedMoved};
 
@@ -10,7 +9,7 @@ use domain_reasons::{accepted_before, room_needed};
 use explanation_text::wording::{MOST_NAMES, mark_after, put_few};
 use explanation_text::{Items, ListBuilder, TextBuilder};
 use script_reading::{Act, Call};
-use script_story::{Milestone, Scenario, Story};
+use script_story::{Milestone, Outcome, Scenario, Story};
 use std::alloc::{AllocError, Global};
 use value_sources::NamedParticipant;
 
@@ -80,11 +79,11 @@ fn add_before(
     decided: usize,
     path: &str,
 ) -> Result<bool, AllocError> {
-    let Some(line) = outcome_before(items.alloc(), scenario, ends, decided, path)? else {
+    let Some(outcome) = outcome_before(items.alloc(), scenario, ends, decided, path)? else {
         return Ok(false);
     };
     put_head(items, story, ends, decided);
-    put_promised(items, scenario, path, line);
+    put_promised(items, scenario, path, outcome);
     Ok(true)
 }
 
@@ -206,13 +205,13 @@ fn outcome_before(
     ends: &[End],
     decided: usize,
     path: &str,
-) -> Result<Option<String>, AllocError>
+) -> Result<Option<Outcome>, AllocError>
     ensures { IfOk result (λ said. IfSome said (λ what. IsPromisedMoved
-        scenario.now.platform.now scenario.now.calls.now path.now (string_bytes what))) }
+        scenario.now.platform.now scenario.now.calls.now path.now what)) }
 {
     let calls = put_before(alloc, scenario.calls, ends, decided)?;
     match scenario.outcome(alloc, &calls, path)? {
-        Some(line) if line.as_str().starts_with("chosen ") => Ok(Some(line)),
+        Some(outcome) if outcome.is_chosen() => Ok(Some(outcome)),
         _ => Ok(None),
     }
 }
@@ -256,9 +255,9 @@ pub(crate) fn carried<'a>(
 }
 
 /// Puts the decision that comes once calls are moved.
-fn put_promised(items: &mut Items, scenario: &Scenario<'_>, path: &str, line: String)
+fn put_promised(items: &mut Items, scenario: &Scenario<'_>, path: &str, outcome: Outcome)
     requires { IsPromisedMoved scenario.now.platform.now scenario.now.calls.now path.now
-        (string_bytes line) }
+        outcome }
 {
-    items.promise(2, line)
+    items.promise(2, outcome.into_said())
 }

@@ -1,15 +1,14 @@
 //! Two groups of one parent of which the other one is made first.
 
 ghost use Rattle.std.specs.Prelude.{◌≡◌, map, IfOk, IfSome};
-ghost use Rattle.std.specs.String.{string_bytes};
 ghost use Rattle.other_outcomes.specs.Earlier.{IsEarlier, IsPromisedEarlier, in_turn};
 
 use crate::ended_later::{FARTHEST, carried};
-use crate::otherwise::{Otherwise, is_chosen};
+use crate::otherwise::Otherwise;
 use crate::pending::place_of;
 use explanation_text::{Items, TextBuilder};
 use script_reading::Call;
-use script_story::{Scenario, Story, story_of};
+use script_story::{Outcome, Scenario, Story, story_of};
 use serde_json::Value;
 use std::alloc::{AllocError, Global};
 
@@ -121,9 +120,9 @@ fn list_exchanged<'a>(
         return Ok(None);
     }
     match outcome_earlier(alloc, scenario, story, pair, path)? {
-        Some(line) if is_chosen(&line) => {
+        Some(outcome) if outcome.is_chosen() => {
             put_head(items, story, pair);
-            put_promised(items, scenario, path, line);
+            put_promised(items, scenario, path, outcome);
             Ok(Some(Otherwise {
                 calls,
                 order: Vec::new(alloc),
@@ -141,9 +140,9 @@ fn outcome_earlier(
     story: &Story<'_>,
     pair: Groups,
     path: &str,
-) -> Result<Option<String>, AllocError>
+) -> Result<Option<Outcome>, AllocError>
     ensures { IfOk result (λ said. IfSome said (λ what. IsPromisedEarlier
-        scenario.now.platform.now scenario.now.calls.now path.now (string_bytes what))) }
+        scenario.now.platform.now scenario.now.calls.now path.now what)) }
 {
     let calls = earlier(alloc, scenario.calls, story, pair)?;
     scenario.outcome(alloc, &calls, path)
@@ -248,9 +247,9 @@ fn chosen_of<'a>(story: &Story<'a>, group: &str) -> &'a str {
 }
 
 /// Puts the decision that comes once a group is made earlier.
-fn put_promised(items: &mut Items, scenario: &Scenario<'_>, path: &str, line: String)
+fn put_promised(items: &mut Items, scenario: &Scenario<'_>, path: &str, outcome: Outcome)
     requires { IsPromisedEarlier scenario.now.platform.now scenario.now.calls.now path.now
-        (string_bytes line) }
+        outcome }
 {
-    items.promise(2, line)
+    items.promise(2, outcome.into_said())
 }

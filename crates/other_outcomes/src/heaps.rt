@@ -2,7 +2,7 @@
 
 use crate::platforms::{heaps_of, outcome_on};
 use explanation_text::{Items, TextBuilder};
-use script_story::Scenario;
+use script_story::{Outcome, Scenario};
 use std::alloc::{AllocError, Global};
 use sysmem_memory::Heap;
 use value_sources::NamedParticipant;
@@ -68,9 +68,9 @@ fn add_first(
 ) -> Result<(), AllocError> {
     let alloc = items.alloc();
     for (index, info) in scenario.platform.heaps().iter().enumerate() {
-        if let Some(line) = outcome_so(alloc, scenario, path, index, wanted)? {
+        if let Some(outcome) = outcome_so(alloc, scenario, path, index, wanted)? {
             add_heap(items, &info.heap, wanted);
-            items.promise(2, line);
+            items.promise(2, outcome.into_said());
             return Ok(());
         }
     }
@@ -93,7 +93,7 @@ fn outcome_so(
     path: &str,
     index: usize,
     wanted: Trait,
-) -> Result<Option<String>, AllocError> {
+) -> Result<Option<Outcome>, AllocError> {
     let mut heaps = heaps_of(alloc, scenario.platform)?;
     let Some(info) = heaps.get_mut(index) else {
         return Ok(None);

@@ -3,7 +3,7 @@
 use crate::platforms::{heaps_of, outcome_on};
 use explanation_text::{Items, ListBuilder, TextBuilder};
 use negotiation_inputs::Platform;
-use script_story::{Scenario, Story, asked_in};
+use script_story::{Outcome, Scenario, Story, asked_in};
 use settings_reasons::listed_before;
 use std::alloc::{AllocError, Global};
 use sysmem_formats::{Offer, Pair};
@@ -52,11 +52,11 @@ fn try_pair_first(
     pair: Pair,
     chosen: Pair,
 ) -> Result<(), AllocError> {
-    let Some(line) = outcome_first(items.alloc(), scenario, path, pair)? else {
+    let Some(outcome) = outcome_first(items.alloc(), scenario, path, pair)? else {
         return Ok(());
     };
     add_pair(items, pair, chosen);
-    items.promise(2, line);
+    items.promise(2, outcome.into_said());
     Ok(())
 }
 
@@ -90,12 +90,12 @@ fn outcome_first(
     scenario: &Scenario<'_>,
     path: &str,
     pair: Pair,
-) -> Result<Option<String>, AllocError> {
+) -> Result<Option<Outcome>, AllocError> {
     let pairs = pairs_from(alloc, scenario.platform, pair)?;
     let heaps = heaps_of(alloc, scenario.platform)?;
     match outcome_on(alloc, scenario, heaps, pairs, path)? {
-        Some(line) => if_of(alloc, line, pair),
-        None => Ok(None),
+        Some(outcome) if is_of(&outcome, pair) => Ok(Some(outcome)),
+        _ => Ok(None),
     }
 }
 
@@ -111,15 +111,10 @@ fn pairs_from(alloc: Global, platform: &Platform, first: Pair) -> Result<Vec<Pai
     pairs.done()
 }
 
-/// What was chosen, if that is an image of a pair.
-fn if_of(alloc: Global, line: String, pair: Pair) -> Result<Option<String>, AllocError> {
-    let mut words = TextBuilder::of(alloc, " image ");
-    words.put(pair.format.name()).put(" ");
-    words.put(pair.modifier.name()).put(" ");
-    let image = words.done()?;
-    if line.as_str().contains(image.as_str()) {
-        Ok(Some(line))
-    } else {
-        Ok(None)
+/// Whether an image of a pair was chosen.
+fn is_of(outcome: &Outcome, pair: Pair) -> bool {
+    match outcome.chosen() {
+        Some(chosen) => matches!(chosen.settings().offer, Offer::Image(other, _) if other == pair),
+        None => false,
     }
 }

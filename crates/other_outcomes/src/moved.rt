@@ -1,14 +1,13 @@
 //! What the calls do once those that stand too early are moved.
 
 ghost use Rattle.std.specs.Prelude.{◌≡◌, ◌<◌, List, length, IfOk, IfSome};
-ghost use Rattle.std.specs.String.{string_bytes};
 ghost use Rattle.script_reading.specs.declared.call.Call.{Call as Called};
 ghost use Rattle.other_outcomes.specs.Moved.{IsMoved, IsPromisedMoved, moving};
 
-use crate::otherwise::{Otherwise, is_chosen, reordered};
+use crate::otherwise::{Otherwise, reordered};
 use explanation_text::{Items, ListBuilder, TextBuilder};
 use script_reading::{Call, ParseFault, read_script};
-use script_story::{Move, Scenario, Story, moves_in};
+use script_story::{Became, Move, Outcome, Scenario, Story, moves_in};
 use serde_json::Value;
 use std::alloc::{AllocError, Global};
 
@@ -164,9 +163,9 @@ pub(crate) fn outcome_moved(
     scenario: &Scenario<'_>,
     moves: &[Move],
     path: &str,
-) -> Result<Option<String>, AllocError>
+) -> Result<Option<Outcome>, AllocError>
     ensures { IfOk result (λ said. IfSome said (λ what. IsPromisedMoved
-        scenario.now.platform.now scenario.now.calls.now path.now (string_bytes what))) }
+        scenario.now.platform.now scenario.now.calls.now path.now what)) }
 {
     let calls = moved(alloc, scenario.calls, moves)?;
     scenario.outcome(alloc, &calls, path)
@@ -185,10 +184,10 @@ pub fn add_then<'a>(
         return Ok(None);
     }
     match outcome_moved(items.alloc(), scenario, &moves, path)? {
-        Some(line) if line.as_str() != "pending" => {
-            let then = with_moves(items.alloc(), scenario, &moves, &line)?;
-            add_moves(items, &moves, ending_of(is_chosen(&line)));
-            put_promised(items, scenario, path, line);
+        Some(outcome) if outcome.became() != Became::Pending => {
+            let then = with_moves(items.alloc(), scenario, &moves, &outcome)?;
+            add_moves(items, &moves, ending_of(outcome.is_chosen()));
+            put_promised(items, scenario, path, outcome);
             Ok(Some(then))
         }
         _ => Ok(None),
@@ -205,17 +204,17 @@ fn ending_of(is_chosen: bool) -> &'static str {
     }
 }
 
-/// The calls once some are moved, with which a report's line says this of a domain.
+/// The calls once some are moved, with which this becomes of a domain.
 pub(crate) fn with_moves<'a>(
     alloc: Global,
     scenario: &Scenario<'a>,
     moves: &[Move],
-    line: &str,
+    outcome: &Outcome,
 ) -> Result<Otherwise<'a>, AllocError> {
     Ok(Otherwise {
         calls: moved(alloc, scenario.calls, moves)?,
         order: order_of(alloc, scenario.calls.len(), moves)?,
-        is_chosen: is_chosen(line),
+        is_chosen: outcome.is_chosen(),
     })
 }
 
@@ -231,9 +230,9 @@ fn make_name(story: &Story<'_>, moves: &[Move]) -> bool {
 }
 
 /// Puts the decision that comes once calls are moved.
-fn put_promised(items: &mut Items, scenario: &Scenario<'_>, path: &str, line: String)
+fn put_promised(items: &mut Items, scenario: &Scenario<'_>, path: &str, outcome: Outcome)
     requires { IsPromisedMoved scenario.now.platform.now scenario.now.calls.now path.now
-        (string_bytes line) }
+        outcome }
 {
-    items.promise(2, line)
+    items.promise(2, outcome.into_said())
 }

@@ -36,8 +36,3 @@ fn in_order(alloc: Global, calls: &[Value], order: &[usize]) -> Result<Vec<Value
     }
     list.done()
 }
-
-/// Whether a report's line on a domain says that settings are chosen.
-pub(crate) fn is_chosen(line: &str) -> bool {
-    line.starts_with("chosen ")
-}

@@ -1,11 +1,11 @@
 //! What would be decided of a domain without those who are awaited.
 
-use crate::otherwise::{Otherwise, is_chosen};
+use crate::otherwise::Otherwise;
 use domain_reasons::who_holds_up;
 use explanation_text::wording::{MOST_NAMES, put_few};
 use explanation_text::{Items, Name, TextBuilder};
 use script_reading::{Act, Call};
-use script_story::{Scenario, Story};
+use script_story::{Became, Scenario, Story};
 use std::alloc::{AllocError, Global};
 
 /// Tells what the domain of an index would be if nobody who is awaited stated anything, and says
@@ -38,14 +38,14 @@ fn add_with<'a>(
 ) -> Result<Option<Otherwise<'a>>, AllocError> {
     let alloc = items.alloc();
     match scenario.outcome(alloc, &calls, path)? {
-        Some(line) if line.as_str() != "pending" => {
+        Some(outcome) if outcome.became() != Became::Pending => {
             add_ended(items, story, awaited, " it would be:")?;
-            let chooses = is_chosen(&line);
-            items.promise(2, line);
+            let is_chosen = outcome.is_chosen();
+            items.promise(2, outcome.into_said());
             Ok(Some(Otherwise {
                 calls,
                 order: Vec::new(alloc),
-                is_chosen: chooses,
+                is_chosen,
             }))
         }
         _ => {

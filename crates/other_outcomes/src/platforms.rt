@@ -2,7 +2,7 @@
 
 use explanation_text::{Items, ListBuilder, TextBuilder};
 use negotiation_inputs::Platform;
-use script_story::Scenario;
+use script_story::{Outcome, Scenario};
 use std::alloc::{AllocError, Global};
 use sysmem_formats::{Modifier, Pair};
 use sysmem_memory::{Heap, HeapInfo};
@@ -22,9 +22,9 @@ pub fn add_platform(
     let alloc = items.alloc();
     let lacked = lacked_pairs(alloc, scenario.platform, participants)?;
     for pair in lacked.iter().take(MOST) {
-        if let Some(line) = outcome_with(alloc, scenario, path, *pair)? {
+        if let Some(outcome) = outcome_with(alloc, scenario, path, *pair)? {
             add_pair(items, *pair);
-            items.promise(2, line);
+            items.promise(2, outcome.into_said());
             return Ok(());
         }
     }
@@ -45,7 +45,7 @@ fn outcome_with(
     scenario: &Scenario<'_>,
     path: &str,
     pair: Pair,
-) -> Result<Option<String>, AllocError> {
+) -> Result<Option<Outcome>, AllocError> {
     let mut pairs = Vec::from_slice(alloc, scenario.platform.pairs())?;
     pairs.push(pair)?;
     let heaps = heaps_of(alloc, scenario.platform)?;
@@ -100,7 +100,7 @@ pub(crate) fn outcome_on(
     heaps: Vec<HeapInfo>,
     pairs: Vec<Pair>,
     path: &str,
-) -> Result<Option<String>, AllocError> {
+) -> Result<Option<Outcome>, AllocError> {
     let colours = Vec::from_slice(alloc, scenario.platform.colours())?;
     let Ok(platform) = Platform::of(heaps, pairs, colours) else {
         return Ok(None);
@@ -111,7 +111,7 @@ pub(crate) fn outcome_on(
         effort: scenario.effort,
     };
     match other.outcome(alloc, scenario.calls, path)? {
-        Some(line) if line.as_str().starts_with("chosen ") => Ok(Some(line)),
+        Some(outcome) if outcome.is_chosen() => Ok(Some(outcome)),
         _ => Ok(None),
     }
 }

@@ -1,6 +1,7 @@
--- What became of a domain, and its word.
+-- What became of a domain, its word, and what was chosen.
 use Rattle.std.specs.Prelude.{ℕ, List, Option, Some, None, codes}
 use Rattle.sysmem_alloc.specs.Decision.{verdict_in}
+use Rattle.verdict_claims.specs.Chosen.{ChosenFacts}
 use Rattle.verdict_claims.specs.declared.verdict.Verdict.{Verdict}
 use Rattle.verdict_claims.specs.declared.verdict.Verdict.TheVariants as verdicts
 use Rattle.script_replay.specs.Events.{FateFacts, decided, failed, pending}
@@ -30,3 +31,13 @@ became_word Empty = codes "empty"
 became_word TooMany = codes "too_many"
 became_word NoMemory = codes "no_memory"
 became_word Failed = codes "failed"
+
+-- what a verdict chooses
+abbrev pub chosen_by : Option Verdict → Option ChosenFacts
+chosen_by (Some (verdicts.Chosen chosen)) = Some chosen
+chosen_by _ = None
+
+-- what was chosen in a domain of this fate
+abbrev pub chosen_in : FateFacts → Option ChosenFacts
+chosen_in (decided claim corner) = chosen_by (verdict_in claim)
+chosen_in _ = None

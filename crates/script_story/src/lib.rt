@@ -11,6 +11,7 @@
 mod asked;
 mod effort;
 mod moves;
+mod outcome;
 mod refused;
 mod scenario;
 mod story;
@@ -19,6 +20,7 @@ mod telling;
 pub use asked::{asked_by, asked_in};
 pub use effort::Effort;
 pub use moves::{Move, moves_in};
+pub use outcome::Outcome;
 pub use refused::{left_out, list_refused, put_domain, refused_calls, refused_words};
 pub use scenario::Scenario;
 pub use story::{Became, Domain, MadeCall, Milestone, Milestones, Node, Story};

@@ -3,16 +3,17 @@
 ghost use Rattle.std.specs.Prelude.{◌≡◌, map, IfOk, IfSome};
 ghost use Rattle.std.specs.String.{string_bytes};
 ghost use Rattle.script_reading.specs.Seen.{call_seen};
-ghost use Rattle.script_replay.specs.Events.{HappensTo, events_of, events_text, fate_seen, fate_text};
+ghost use Rattle.script_replay.specs.Events.{HappensTo, events_of, events_text, fate_seen};
 ghost use Rattle.script_replay.specs.Outcome.{anyhow};
 ghost use Rattle.script_replay.specs.Replayed.{LeavesIn, end_of};
 ghost use Rattle.script_replay.specs.Report.{IsReported};
 ghost use Rattle.script_story.specs.Told.{BecomesOn, IsReportedOn};
 
 use crate::effort::Effort;
+use crate::outcome::Outcome;
 use negotiation_inputs::Platform;
 use script_reading::Call;
-use script_replay::{DomainFate, Event, Events, ReplayedCalls, put_fate, replay, text_of_path};
+use script_replay::{DomainFate, Event, Events, ReplayedCalls, replay, text_of_path};
 use std::alloc::{AllocError, Global};
 
 /// A script's platform and its calls, with what its runs cost so far.
@@ -48,17 +49,17 @@ impl<'a> Scenario<'a> {
         Ok(told)
     }
 
-    /// What the report of these calls says last of the domain at a path; `None` where it has no
-    /// line on it, and where nothing more is to be tried. `AllocError` also where memory was
-    /// refused in a reply or a decision.
+    /// What becomes of the domain at a path at last by these calls, and what their report says of
+    /// it; `None` where it has no line on it, and where nothing more is to be tried. `AllocError`
+    /// also where memory was refused in a reply or a decision.
     pub fn outcome(
         &self,
         alloc: Global,
         calls: &[Call<'_>],
         path: &str,
-    ) -> Result<Option<String>, AllocError>
+    ) -> Result<Option<Outcome>, AllocError>
         ensures { IfOk result (λ said. IfSome said (λ what. IsReportedOn self.now.platform.now
-            (map call_seen calls.now) path.now (string_bytes what))) }
+            (map call_seen calls.now) path.now what)) }
     {
         if self.effort.is_spent() {
             return Ok(None);
@@ -68,7 +69,7 @@ impl<'a> Scenario<'a> {
             return Err(AllocError);
         }
         match last_on(&told.events, alloc, path)? {
-            Some(fate) => Ok(Some(fate_text(alloc, told.book().platform(), fate)?)),
+            Some(fate) => Ok(Some(Outcome::of(alloc, told.book().platform(), fate)?)),
             None => Ok(None),
         }
     }
@@ -97,18 +98,4 @@ fn last_on<'a>(
         }
     }
     Ok(last)
-}
-
-/// What a report says of a domain of which this becomes.
-pub(crate) fn fate_text(
-    alloc: Global,
-    platform: &Platform,
-    fate: &DomainFate,
-) -> Result<String, AllocError>
-    ensures { IfOk result (λ what.
-        string_bytes what ≡ fate_text platform.now (fate_seen fate.now)) }
-{
-    let mut what = String::new(alloc);
-    put_fate(&mut what, platform, fate)?;
-    Ok(what)
 }

@@ -6,6 +6,7 @@ ghost use Rattle.script_replay.specs.Lines.{reply_text};
 ghost use Rattle.script_story.specs.Became.{became_word};
 ghost use Rattle.script_story.specs.Paths.{path_at};
 
+use crate::outcome::Outcome;
 use explanation_text::{Name, TextBuilder};
 use negotiation_inputs::Constraints;
 use script_reading::Act;
@@ -195,8 +196,8 @@ pub struct Domain {
     /// The node to which its root was attached, by number; `None` of the initial one.
     pub host: Option<usize>,
     pub became: Became,
-    /// What the report says of it after its path: of a verdict the word, and what was chosen.
-    pub told: String,
+    /// What became of it, and what the report says of it.
+    pub told: Outcome,
     /// The call after which that came; `None` where it has no verdict.
     pub ended: Option<usize>,
     /// The settings that were chosen.

@@ -1,21 +1,21 @@
 //! The story of a script's calls, told from their replay.
 
-ghost use Rattle.std.specs.Prelude.{◌≡◌, All, Contains, IfOk, IfSome, IsTrue, List, OnOk, option_map, slice_get};
+ghost use Rattle.std.specs.Prelude.{◌≡◌, All, Contains, IfOk, IfSome, IsTrue, List, OnOk, slice_get};
 ghost use Rattle.script_replay.specs.Events.{EventFacts, becomes, events_of, fate_seen};
 ghost use Rattle.script_replay.specs.Replayed.{end_of};
-ghost use Rattle.script_story.specs.Became.{became_by, became_of};
+ghost use Rattle.script_story.specs.Became.{became_of};
 ghost use Rattle.script_story.specs.Paths.{path_at};
 ghost use Rattle.script_story.specs.Told.{AreTold, IsUntold};
 ghost use Rattle.sysmem_tree.specs.Domain.{HasDomain};
 ghost use Rattle.sysmem_tree.specs.Nodes.{HasNode};
 
-use crate::scenario::fate_text;
+use crate::outcome::Outcome;
 use crate::story::{Became, Domain, MadeCall, Milestones, Node, Story};
 use explanation_text::ListBuilder;
 use negotiation_inputs::Platform;
 use script_faults::actor_of;
 use script_reading::Call;
-use script_replay::{DomainEvent, DomainFate, Event, ReplayedCalls, Reply, text_of_path};
+use script_replay::{DomainEvent, Event, ReplayedCalls, Reply, text_of_path};
 use serde_json::Value;
 use std::alloc::{AllocError, Global};
 use sysmem_alloc::Book;
@@ -198,7 +198,7 @@ fn domain_of(alloc: Global, book: &Book, domain: DomainId) -> Domain
         root: tree.number_of(tree.root_of(domain)) as usize,
         host,
         became: Became::Pending,
-        told: String::new(alloc),
+        told: Outcome::untold(alloc),
         ended: None,
         settings: settings_in(book.verdict_of(domain)),
     }
@@ -246,21 +246,22 @@ fn keep_fate(
         return Ok(());
     };
     story.order.push(index)?;
-    let told = fate_text(alloc, platform, &one.fate)?;
+    let told = Outcome::of(alloc, platform, &one.fate)?;
     let Some(domain) = story.domains.get(index) else {
         return Ok(());
     };
-    let next = with_fate(domain, told, became_of(&one.fate), number);
+    let next = with_fate(domain, told, number);
     story.domains[index] = next;
     Ok(())
 }
 
-/// A domain once this became of it after the call of a number, of which this is told.
-fn with_fate(domain: &Domain, told: String, became: Became, number: usize) -> Domain
+/// A domain once this became of it after the call of a number.
+fn with_fate(domain: &Domain, told: Outcome, number: usize) -> Domain
     ensures root { result.root ≡ domain.now.root }
     ensures told { result.told ≡ told }
-    ensures became { result.became ≡ became }
+    ensures became { result.became ≡ became_of (fate_seen told.fate) }
 {
+    let became = told.became();
     let ended = match became {
         Became::Pending => domain.ended,
         _ => Some(number),
@@ -272,30 +273,6 @@ fn with_fate(domain: &Domain, told: String, became: Became, number: usize) -> Do
         told,
         ended,
         settings: domain.settings,
-    }
-}
-
-/// What became of a domain by its fate.
-fn became_of(fate: &DomainFate) -> Became
-    ensures { result ≡ became_of (fate_seen fate.now) }
-{
-    match fate {
-        DomainFate::Pending => Became::Pending,
-        DomainFate::Failed => Became::Failed,
-        DomainFate::Decided(one) => became_by(one.verdict()),
-    }
-}
-
-/// What became of a domain by its verdict, or by none where memory was refused.
-fn became_by(verdict: Option<&Verdict>) -> Became
-    ensures { result ≡ became_by (option_map (λ verdict. verdict.now) verdict.entry) }
-{
-    match verdict {
-        Some(Verdict::Chosen(_)) => Became::Chosen,
-        Some(Verdict::IntersectionEmpty) => Became::Empty,
-        Some(Verdict::TooMany) => Became::TooMany,
-        Some(Verdict::Failed) => Became::Failed,
-        Some(Verdict::NoMemory) | None => Became::NoMemory,
     }
 }
 

@@ -1,7 +1,6 @@
 //! The decision that comes by several changes, told.
 
 ghost use Rattle.std.specs.Prelude.{◌≡◌, map};
-ghost use Rattle.std.specs.String.{string_bytes};
 ghost use Rattle.script_reading.specs.Seen.{call_seen};
 ghost use Rattle.constraint_changes.specs.Edited.{IsPromised, IsPromisedExchanged, edits_of};
 
@@ -9,22 +8,23 @@ use crate::trials::editing::EditedCall;
 use crate::trials::exchanging::Exchange;
 use crate::trials::group::Group;
 use explanation_text::{Item, Items, Kind, Text};
+use script_story::Outcome;
 use std::alloc::AllocError;
 
 /// The decision that comes by edits of calls.
 #[derive(Drop)]
 pub struct Promise {
     pub edits: Vec<EditedCall>,
-    pub line: String,
+    pub outcome: Outcome,
 }
 
 impl Promise {
     /// The decision alone.
-    fn into_line(self) -> String
-        ensures { result ≡ self.line }
+    fn into_outcome(self) -> Outcome
+        ensures { result ≡ self.outcome }
     {
-        let Promise { edits: _, line } = self;
-        line
+        let Promise { edits: _, outcome } = self;
+        outcome
     }
 }
 
@@ -32,9 +32,9 @@ impl Promise {
 pub fn put_promise(items: &mut Items, group: Group<'_, '_>, depth: usize, promise: Promise)
     requires { IsPromised group.scenario.now.platform.now
         (map call_seen group.scenario.now.calls.now) (edits_of promise.edits.items)
-        group.path.now (string_bytes promise.line) }
+        group.path.now promise.outcome }
 {
-    items.promise(depth, promise.into_line())
+    items.promise(depth, promise.into_outcome().into_said())
 }
 
 /// Puts the decision that comes where the records of two calls are exchanged.
@@ -43,13 +43,13 @@ pub fn put_exchanged(
     group: Group<'_, '_>,
     depth: usize,
     exchange: &Exchange,
-    line: String,
+    outcome: Outcome,
 )
     requires { IsPromisedExchanged group.scenario.now.platform.now
         (map call_seen group.scenario.now.calls.now) exchange.now.one exchange.now.other
-        group.path.now (string_bytes line) }
+        group.path.now outcome }
 {
-    items.promise(depth, line)
+    items.promise(depth, outcome.into_said())
 }
 
 /// Puts which children a decision chooses, if it chooses some.

@@ -1,7 +1,6 @@
 //! A change of one participant's constraints, tried by a run of the changed script.
 
 ghost use Rattle.std.specs.Prelude.{◌≡◌, [], ◌∷◌, map, IfOk, IfSome, IsTrue};
-ghost use Rattle.std.specs.String.{string_bytes};
 ghost use Rattle.serde_json.specs.View.{view};
 ghost use Rattle.script_reading.specs.Seen.{call_seen};
 ghost use Rattle.script_story.specs.Told.{IsReportedOn};
@@ -14,7 +13,7 @@ use crate::trials::unmet::least_met;
 use constraint_edits::{Amount, Change, Edit, EditedConstraints, Halving, is_absurd};
 use explanation_text::Text;
 use script_reading::{Act, Call};
-use script_story::Scenario;
+use script_story::{Outcome, Scenario};
 use serde_json::Value;
 use std::alloc::{AllocError, Global};
 use std::slice::from_ref;
@@ -26,7 +25,7 @@ pub const MOST_HALVINGS: usize = 140;
 pub struct TrialResult {
     pub change: Change,
     pub words: Text,
-    pub line: String,
+    pub outcome: Outcome,
     /// The constraints with the change.
     pub value: Value,
 }
@@ -36,40 +35,40 @@ impl Drop for TrialResult {
         let TrialResult {
             change: _,
             words: _,
-            line: _,
+            outcome: _,
             value: _,
         } = self;
     }
 }
 
 impl TrialResult {
-    /// A change that gives a line.
-    pub fn of(changed: EditedConstraints, line: String) -> TrialResult
+    /// A change by which this comes.
+    pub fn of(changed: EditedConstraints, outcome: Outcome) -> TrialResult
         ensures change { result.change ≡ changed.change }
         ensures value { result.value ≡ changed.value }
-        ensures line { result.line ≡ line }
+        ensures outcome { result.outcome ≡ outcome }
     {
         let change = changed.change;
         let (value, words) = changed.into_parts();
         TrialResult {
             change,
             words,
-            line,
+            outcome,
             value,
         }
     }
 
-    /// The line of the decision alone.
-    pub fn into_line(self) -> String
-        ensures { result ≡ self.line }
+    /// What comes then alone.
+    pub fn into_outcome(self) -> Outcome
+        ensures { result ≡ self.outcome }
     {
         let TrialResult {
             change: _,
-            line,
+            outcome,
             words: _,
             value: _,
         } = self;
-        line
+        outcome
     }
 }
 
@@ -85,11 +84,11 @@ pub struct Trial<'a, 'b> {
 impl Trial<'_, '_> {
     /// What the domain becomes where the participant states these constraints, if it is chosen
     /// then.
-    pub fn outcome(&self, alloc: Global, value: &Value) -> Result<Option<String>, AllocError>
+    pub fn outcome(&self, alloc: Global, value: &Value) -> Result<Option<Outcome>, AllocError>
         ensures { IfOk result (λ said. IfSome said (λ what. IsReportedOn
             self.now.scenario.now.platform.now (stating (map call_seen
             self.now.scenario.now.calls.now) self.now.place (view value.now)) self.now.path.now
-            (string_bytes what))) }
+            what)) }
     {
         let calls = replaced(alloc, self.scenario.calls, self.place, value)?;
         chosen_with(alloc, self.scenario, &calls, self.path)
@@ -122,12 +121,12 @@ impl Trial<'_, '_> {
     ) -> Result<TrialResult, AllocError>
         requires { IsTried self.now.scenario.now.platform.now
             (map call_seen self.now.scenario.now.calls.now) self.now.place (view found.value)
-            self.now.path.now (string_bytes found.line) }
+            self.now.path.now found.outcome }
         ensures { IfOk result (λ best. IsTried self.now.scenario.now.platform.now
             (map call_seen self.now.scenario.now.calls.now) self.now.place (view best.value)
-            self.now.path.now (string_bytes best.line)) }
+            self.now.path.now best.outcome) }
     {
-        let Some(change) = least_met(alloc, group, parties, self.place, value, edit, &found.line)?
+        let Some(change) = least_met(alloc, group, parties, self.place, value, edit, &found.outcome.said)?
         else {
             return Ok(found);
         };
@@ -147,13 +146,13 @@ impl Trial<'_, '_> {
     ) -> Result<TrialResult, AllocError>
         requires { IsTried self.now.scenario.now.platform.now
             (map call_seen self.now.scenario.now.calls.now) self.now.place (view found.value)
-            self.now.path.now (string_bytes found.line) }
+            self.now.path.now found.outcome }
         ensures { IfOk result (λ best. IsTried self.now.scenario.now.platform.now
             (map call_seen self.now.scenario.now.calls.now) self.now.place (view best.value)
-            self.now.path.now (string_bytes best.line)) }
+            self.now.path.now best.outcome) }
     {
         let mut best = found;
-        let Some(mut halving) = Halving::of(value, edit, &best.line) else {
+        let Some(mut halving) = Halving::of(value, edit, &best.outcome.said) else {
             return Ok(best);
         };
         for _halving in 0..MOST_HALVINGS {
@@ -188,10 +187,12 @@ impl Trial<'_, '_> {
     ) -> Result<Option<TrialResult>, AllocError>
         ensures { IfOk result (λ told. IfSome told (λ found. IsTried
             self.now.scenario.now.platform.now (map call_seen self.now.scenario.now.calls.now)
-            self.now.place (view found.value) self.now.path.now (string_bytes found.line))) }
+            self.now.place (view found.value) self.now.path.now found.outcome)) }
     {
         match self.outcome(alloc, &change.value)? {
-            Some(line) if !is_absurd(&line, false) => Ok(Some(TrialResult::of(change, line))),
+            Some(outcome) if !is_absurd(&outcome.said, false) => {
+                Ok(Some(TrialResult::of(change, outcome)))
+            }
             _ => Ok(None),
         }
     }
@@ -203,12 +204,12 @@ pub fn chosen_with(
     scenario: &Scenario<'_>,
     calls: &[Call<'_>],
     path: &str,
-) -> Result<Option<String>, AllocError>
+) -> Result<Option<Outcome>, AllocError>
     ensures { IfOk result (λ said. IfSome said (λ what. IsReportedOn
-        scenario.now.platform.now (map call_seen calls.now) path.now (string_bytes what))) }
+        scenario.now.platform.now (map call_seen calls.now) path.now what)) }
 {
     match scenario.outcome(alloc, calls, path)? {
-        Some(line) if line.as_str().starts_with("chosen ") => Ok(Some(line)),
+        Some(outcome) if outcome.is_chosen() => Ok(Some(outcome)),
         _ => Ok(None),
     }
 }

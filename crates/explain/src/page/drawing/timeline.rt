@@ -70,7 +70,7 @@ fn line_of(alloc: Global, story: &Story<'_>, domain: &Domain) -> Result<Line, Al
     words
         .put(story.path(domain.root))
         .put(" ")
-        .put(&domain.told);
+        .put(&domain.told.said);
     Ok(Line {
         number: None,
         actor: 0,

@@ -1,7 +1,6 @@
 use Rattle.std.proofs.Common.{◌≡◌, ◌∙◌, Some, IfSome, ap, refl, slice_get, sym, subst}
 use Rattle.std.proofs.lemmas.List.Elements.{All-set}
 use Rattle.std.proofs.lemmas.Option.{slice_get_read}
-use Rattle.std.specs.String.{string_bytes}
 use Rattle.script_replay.specs.Events.{fate_seen}
 use Rattle.script_story.specs.Paths.{path_at}
 use Rattle.script_story.specs.Told.{IsTold}
@@ -22,5 +21,5 @@ returns c =
     let on : IfSome (Some old) (λ (d : Domain). path ≡ path_at nodes d.root) =
     subst (λ o. IfSome o (λ (d : Domain). path ≡ path_at nodes d.root)) at c.in-Some.ensures in
     λ events has told. All-set (IsTold c.args.platform.now events nodes) domains c.in-Some.index _
-    (told_as c.args.platform.now events nodes old c.with_fate-next.result c.args.one.now.path path (fate_seen c.args.one.now.fate) (c.deref.ensures ∙ c.in_ok-path.ensures) on
-    c.with_fate-next.ensures.root (ap string_bytes c.with_fate-next.ensures.told ∙ c.in_ok-told.ensures) (c.with_fate-next.ensures.became ∙ c.became_of.ensures) has) told
+    (told_as c.args.platform.now events nodes old c.with_fate-next.result c.args.one.now.path path (fate_seen c.args.one.now.fate) c.in_ok-told.told (c.deref.ensures ∙ c.in_ok-path.ensures) on
+    c.in_ok-told.ensures.fate c.in_ok-told.ensures.said c.with_fate-next.ensures.root c.with_fate-next.ensures.told c.with_fate-next.ensures.became has) told
