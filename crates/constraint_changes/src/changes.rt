@@ -8,7 +8,7 @@ ghost use Rattle.constraint_changes.specs.Edited.{IsPromised, IsTried};
 use crate::exchanges::try_exchanges;
 use crate::trials::{
     Group, Party, RestatedConstraints, Trial, TrialResult, are_sized, can_help, change_leaves_none,
-    entries_behind, has_groups, is_worth, leaves_none, parties_of, put_choice,
+    entries_behind, has_groups, is_worth, leaves_none, parties_of, put_choice, reached_by,
 };
 use constraint_edits::{Change, Edit, changes, edited, is_absurd};
 use domain_reasons::{choices_in, room_needed};
@@ -268,7 +268,7 @@ fn put_found(
         (map call_seen trial.scenario.now.calls.now) trial.place (view found.value)
         trial.path.now found.outcome }
 {
-    if is_absurd(&found.outcome.said, search.is_sized) {
+    if is_absurd(reached_by(&found.outcome), search.is_sized) {
         search.absurd = search.absurd.saturating_add(1);
         return Ok(());
     }

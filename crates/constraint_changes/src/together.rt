@@ -11,10 +11,11 @@ use crate::parts::{
 };
 use crate::trials::{
     EditedCall, Group, MOST_HALVINGS, Party, Promise, ReadRecord, RestatedConstraints, are_sized,
-    chosen_with, edited_calls, is_worth, leave_none, parties_of, put_choice, put_promise, restated,
+    chosen_with, edited_calls, is_worth, leave_none, parties_of, put_choice, put_promise,
+    reached_by, restated,
 };
 use crate::walk::{Run, Walk};
-use constraint_edits::{Amount, Edit, Halving, changes, is_absurd};
+use constraint_edits::{Amount, Edit, Halving, Reached, changes, is_absurd};
 use domain_reasons::choices_in;
 use explanation_text::{Items, ListBuilder, Text, TextBuilder};
 use script_story::{Milestone, Outcome};
@@ -82,7 +83,7 @@ fn add_least_changes(
         return Ok(());
     };
     for index in 0..parts.len() {
-        if let Some(other) = joint.lessen(shelf, alloc, &mut parts, index, &outcome)? {
+        if let Some(other) = joint.lessen(shelf, alloc, &mut parts, index, reached_by(&outcome))? {
             outcome = other;
         }
     }
@@ -348,18 +349,18 @@ impl CombinedChange<'_, '_> {
     }
 
     /// Finds the least change of the part of an index with which all do still, where by leaving its
-    /// field out this comes; and what comes then, if it can be less.
+    /// field out this is reached; and what comes then, if it can be less.
     fn lessen(
         &self,
         shelf: &mut RecordCache,
         alloc: Global,
         parts: &mut [PartyChange],
         index: usize,
-        left_out: &Outcome,
+        reached: Reached,
     ) -> Result<Option<Outcome>, AllocError> {
         let known = self.known_of(shelf, alloc, parts, parts)?;
         for others in [known.as_ref(), None] {
-            let best = self.least(shelf, alloc, parts, index, left_out, others)?;
+            let best = self.least(shelf, alloc, parts, index, reached, others)?;
             set_amount(parts, index, best);
             if best.is_none() {
                 return Ok(None);
@@ -380,11 +381,11 @@ impl CombinedChange<'_, '_> {
         alloc: Global,
         parts: &mut [PartyChange],
         index: usize,
-        left_out: &Outcome,
+        reached: Reached,
         others: Option<&RestatedParticipants>,
     ) -> Result<Option<Amount>, AllocError> {
         let mut best = None;
-        let Some(mut halving) = self.halving(parts.get(index), left_out) else {
+        let Some(mut halving) = self.halving(parts.get(index), reached) else {
             return Ok(best);
         };
         for _halving in 0..MOST_HALVINGS {
@@ -407,11 +408,11 @@ impl CombinedChange<'_, '_> {
         Ok(best)
     }
 
-    /// The values that a part leaves between, where by leaving its field out this comes.
-    fn halving(&self, part: Option<&PartyChange>, left_out: &Outcome) -> Option<Halving> {
+    /// The values that a part leaves between, where by leaving its field out this is reached.
+    fn halving(&self, part: Option<&PartyChange>, reached: Reached) -> Option<Halving> {
         let part = part?;
         let value = self.group.participants.get(part.person)?.stated?;
-        Halving::of(value, part.edit, &left_out.said)
+        Halving::of(value, part.edit, reached)
     }
 
     /// Whether participants aren't known to leave no settings with the part of an index, where it
@@ -463,7 +464,7 @@ impl CombinedChange<'_, '_> {
     {
         let calls = restated(alloc, self.group.scenario.calls, stated)?;
         match chosen_with(alloc, self.group.scenario, &calls, self.group.path)? {
-            Some(outcome) if !is_absurd(&outcome.said, false) => Ok(Some(outcome)),
+            Some(outcome) if !is_absurd(reached_by(&outcome), false) => Ok(Some(outcome)),
             _ => Ok(None),
         }
     }
@@ -552,7 +553,7 @@ impl CombinedChange<'_, '_> {
             return Ok(None);
         };
         match chosen_with(alloc, scenario, &calls, self.group.path)? {
-            Some(outcome) if !is_absurd(&outcome.said, false) => Ok(Some(outcome)),
+            Some(outcome) if !is_absurd(reached_by(&outcome), false) => Ok(Some(outcome)),
             _ => Ok(None),
         }
     }
@@ -591,7 +592,8 @@ impl CombinedChange<'_, '_> {
         let Some(promise) = self.promise(alloc, parts)? else {
             return Ok(());
         };
-        if is_absurd(&promise.outcome.said, are_sized(self.group.participants)) {
+        let reached = reached_by(&promise.outcome);
+        if is_absurd(reached, are_sized(self.group.participants)) {
             return Ok(());
         }
         self.put_parts(items, parts, before)?;

@@ -3,3 +3,4 @@ pub mod Edited
 pub mod EditedBounds
 pub mod EditedNumbers
 pub mod EditedRecords
+pub mod Reached

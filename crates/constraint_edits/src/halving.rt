@@ -2,67 +2,24 @@
 
 use crate::amount::{Amount, amount_in, with_amount};
 use crate::edits::{Edit, EditedConstraints};
+use crate::reached::Reached;
 use serde_json::Value;
 use std::alloc::{AllocError, Global};
 use sysmem_counts::Field;
 use sysmem_image::bounds_table;
 
-/// What a decision says of its buffers.
-#[derive(Clone, Copy)]
-struct DecisionLine {
-    count: u64,
-    size: u64,
-    width: u64,
-    height: u64,
-    row: u64,
-}
-
-/// Reads what a report's line says of a decision that chose.
-fn said_by(line: &str) -> DecisionLine {
-    let mut said = DecisionLine {
-        count: 0,
-        size: 0,
-        width: 0,
-        height: 0,
-        row: 0,
-    };
-    let mut last = "";
-    let mut before = "";
-    for word in line.split(' ') {
-        match last {
-            "count" => said.count = number_of(word),
-            "size" => said.size = number_of(word),
-            "row" => {
-                said.row = number_of(word);
-                if let Some((width, height)) = before.split_once('x') {
-                    said.width = number_of(width);
-                    said.height = number_of(height);
-                }
-            }
-            _ => {}
-        }
-        before = last;
-        last = word;
-    }
-    said
-}
-
-fn number_of(word: &str) -> u64 {
-    match word.parse::<u64>() {
-        Ok(number) => number,
-        Err(_) => 0,
-    }
-}
-
 /// What a greatest value has to be for a decision.
-fn raised(field: Field, line: &str) -> Option<Amount> {
-    let said = said_by(line);
+fn raised(field: Field, reached: Reached) -> Option<Amount> {
+    let (width, height) = (
+        u64::from(reached.corner.width),
+        u64::from(reached.corner.height),
+    );
     match field {
-        Field::MaxBufferCount => Some(Amount::Number(said.count)),
-        Field::MaxSizeBytes => Some(Amount::Number(said.size)),
-        Field::MaxBytesPerRow => Some(Amount::Number(said.row)),
-        Field::MaxSize => Some(Amount::Sides(said.width, said.height)),
-        Field::MaxWidthTimesHeight => Some(Amount::Number(said.width.saturating_mul(said.height))),
+        Field::MaxBufferCount => Some(Amount::Number(u64::from(reached.count))),
+        Field::MaxSizeBytes => Some(Amount::Number(reached.size_bytes)),
+        Field::MaxBytesPerRow => Some(Amount::Number(u64::from(reached.corner.bytes_per_row))),
+        Field::MaxSize => Some(Amount::Sides(width, height)),
+        Field::MaxWidthTimesHeight => Some(Amount::Number(width.saturating_mul(height))),
         _ => None,
     }
 }
@@ -115,11 +72,11 @@ pub struct Halving {
 }
 
 impl Halving {
-    /// The values that a change leaves between, where leaving the field out gives this line.
-    pub fn of(value: &Value, edit: Edit, line: &str) -> Option<Halving> {
+    /// The values that a change leaves between, where by leaving the field out this is reached.
+    pub fn of(value: &Value, edit: Edit, reached: Reached) -> Option<Halving> {
         let field = edit.left_out()?;
         let stated = amount_in(value, edit)?;
-        if let Some(goal) = raised(field, line) {
+        if let Some(goal) = raised(field, reached) {
             return Some(Halving {
                 edit,
                 stated,
@@ -178,17 +135,18 @@ impl Halving {
 }
 
 /// A row of at least so many bytes may be too long to be meant.
-const LONG: u64 = 1_048_576;
+const LONG: u32 = 1_048_576;
 
 /// Fewer pixels than so many in a side are few.
-const SMALL: u64 = 16;
+const SMALL: u32 = 16;
 
 /// Whether a decision that a change of constraints gives can't be meant: its row is long beyond all
 /// measure of its width; or, where sizes are asked for, its image is tiny.
-pub fn is_absurd(line: &str, is_sized: bool) -> bool {
-    let said = said_by(line);
-    if said.row >= LONG && said.row > said.width.saturating_mul(64) {
+pub fn is_absurd(reached: Reached, is_sized: bool) -> bool {
+    let image = reached.corner;
+    let most = image.width.saturating_mul(64);
+    if image.bytes_per_row >= LONG && image.bytes_per_row > most {
         return true;
     }
-    is_sized && said.width > 0 && (said.width < SMALL || said.height < SMALL)
+    is_sized && image.width > 0 && (image.width < SMALL || image.height < SMALL)
 }

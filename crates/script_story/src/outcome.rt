@@ -70,6 +70,14 @@ impl Outcome {
         self.became() == Became::Chosen
     }
 
+    /// The decision, if one was made.
+    pub fn decision(&self) -> Option<&Decision> {
+        match &self.fate {
+            DomainFate::Decided(one) => Some(one),
+            _ => None,
+        }
+    }
+
     /// What was chosen, if something was.
     pub fn chosen(&self) -> Option<&Chosen>
         ensures { option_map (λ chosen. chosen.now) result ≡ chosen_in (fate_seen self.now.fate) }

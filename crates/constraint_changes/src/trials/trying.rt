@@ -10,7 +10,7 @@ use crate::trials::editing::is_edit;
 use crate::trials::group::Group;
 use crate::trials::parties::Party;
 use crate::trials::unmet::least_met;
-use constraint_edits::{Amount, Change, Edit, EditedConstraints, Halving, is_absurd};
+use constraint_edits::{Amount, Change, Edit, EditedConstraints, Halving, Reached, is_absurd};
 use explanation_text::Text;
 use script_reading::{Act, Call};
 use script_story::{Outcome, Scenario};
@@ -126,7 +126,8 @@ impl Trial<'_, '_> {
             (map call_seen self.now.scenario.now.calls.now) self.now.place (view best.value)
             self.now.path.now best.outcome) }
     {
-        let Some(change) = least_met(alloc, group, parties, self.place, value, edit, &found.outcome.said)?
+        let reached = reached_by(&found.outcome);
+        let Some(change) = least_met(alloc, group, parties, self.place, value, edit, reached)?
         else {
             return Ok(found);
         };
@@ -152,7 +153,7 @@ impl Trial<'_, '_> {
             self.now.path.now best.outcome) }
     {
         let mut best = found;
-        let Some(mut halving) = Halving::of(value, edit, &best.outcome.said) else {
+        let Some(mut halving) = Halving::of(value, edit, reached_by(&best.outcome)) else {
             return Ok(best);
         };
         for _halving in 0..MOST_HALVINGS {
@@ -190,7 +191,7 @@ impl Trial<'_, '_> {
             self.now.place (view found.value) self.now.path.now found.outcome)) }
     {
         match self.outcome(alloc, &change.value)? {
-            Some(outcome) if !is_absurd(&outcome.said, false) => {
+            Some(outcome) if !is_absurd(reached_by(&outcome), false) => {
                 Ok(Some(TrialResult::of(change, outcome)))
             }
             _ => Ok(None),
@@ -211,6 +212,18 @@ pub fn chosen_with(
     match scenario.outcome(alloc, calls, path)? {
         Some(outcome) if outcome.is_chosen() => Ok(Some(outcome)),
         _ => Ok(None),
+    }
+}
+
+/// What a decision reached; nothing where none chose.
+pub fn reached_by(outcome: &Outcome) -> Reached {
+    match (outcome.decision(), outcome.chosen()) {
+        (Some(decision), Some(chosen)) => {
+            let settings = chosen.settings();
+            let (count, size_bytes) = (settings.count, settings.size_bytes);
+            Reached::of(count, size_bytes, settings.offer, decision.corner)
+        }
+        _ => Reached::NOTHING,
     }
 }
 

@@ -6,7 +6,7 @@ use crate::trials::need::{need_too_many, together_need_too_many};
 use crate::trials::parties::Party;
 use crate::trials::restating::RestatedConstraints;
 use crate::trials::trying::MOST_HALVINGS;
-use constraint_edits::{Amount, Change, Edit, EditedConstraints, Halving, read_asked};
+use constraint_edits::{Amount, Change, Edit, EditedConstraints, Halving, Reached, read_asked};
 use explanation_text::ListBuilder;
 use negotiation_inputs::Constraints;
 use script_story::Story;
@@ -156,7 +156,7 @@ pub fn change_leaves_none(
 
 /// The least change of the field that an edit of the constraints of the call at a place, from 0,
 /// leaves out with which those of a group have settings; `None` where leaving it out is the least,
-/// or isn't lessened. What is chosen once it is left out is `line`.
+/// or isn't lessened. By leaving it out this is reached.
 pub(crate) fn least_met(
     alloc: Global,
     group: Group<'_, '_>,
@@ -164,10 +164,10 @@ pub(crate) fn least_met(
     place: usize,
     value: &Value,
     edit: Edit,
-    line: &str,
+    reached: Reached,
 ) -> Result<Option<EditedConstraints>, AllocError> {
     let mut best = None;
-    let Some(mut halving) = Halving::of(value, edit, line) else {
+    let Some(mut halving) = Halving::of(value, edit, reached) else {
         return Ok(None);
     };
     for _halving in 0..MOST_HALVINGS {
