@@ -276,7 +276,7 @@ fn put_found(
     if !trial.is_edit(alloc, &found.change, &found.value)? {
         return Ok(());
     }
-    let choice = choices_in(alloc, group.story, group.root, &found.outcome.said)?;
+    let choice = choices_in(alloc, group.story, group.root, found.outcome.selection())?;
     let who = group.who_changes(alloc, participant, edit, &found.value)?;
     let label = search.label();
     put_change(&mut search.found, trial, label, &who, found);

@@ -166,7 +166,7 @@ fn write_exchange(
         group.path.now outcome }
 {
     let alloc = search.found.alloc();
-    let choice = choices_in(alloc, group.story, group.root, &outcome.said)?;
+    let choice = choices_in(alloc, group.story, group.root, outcome.selection())?;
     put_exchange(search, group, participant, other)?;
     put_exchanged(&mut search.found, group, 3, exchange, outcome);
     put_choice(&mut search.found, 3, choice);

@@ -597,7 +597,8 @@ impl CombinedChange<'_, '_> {
             return Ok(());
         }
         self.put_parts(items, parts, before)?;
-        let choice = choices_in(alloc, self.group.story, self.group.root, &promise.outcome.said)?;
+        let selection = promise.outcome.selection();
+        let choice = choices_in(alloc, self.group.story, self.group.root, selection)?;
         put_promise(items, self.group, 2, promise);
         put_choice(items, 2, choice);
         Ok(())

@@ -67,7 +67,7 @@ fn add_children(items: &mut Items, story: &Story<'_>, domain: &Domain) -> Result
 /// report's line.
 fn children_of(alloc: Global, story: &Story<'_>, domain: &Domain) -> Result<Vec<Text>, AllocError> {
     let mut texts: ListBuilder<Text> = ListBuilder::new(alloc);
-    for choice in &choices_of(alloc, story, domain.root, &domain.told.said)? {
+    for choice in &choices_of(alloc, story, domain.root, domain.told.selection())? {
         texts.add_text(choice_text(alloc, story, *choice)?);
     }
     texts.done()

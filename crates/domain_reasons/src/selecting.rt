@@ -297,16 +297,16 @@ fn add_not(
     add_empty(items, 3, empty, &longer, told, empty.story.nodes.len())
 }
 
-/// The children that the choices of a line on a domain name, as `layouts: tiled`; empty where it
-/// names none.
+/// The children that a selection chooses in the domain of a root, as `layouts: tiled`; empty where
+/// it chooses none.
 pub fn choices_in(
     alloc: Global,
     story: &Story<'_>,
     root: usize,
-    line: &str,
+    selection: &[u8],
 ) -> Result<Text, AllocError> {
     let mut texts: ListBuilder<Text> = ListBuilder::new(alloc);
-    for choice in &choices_of(alloc, story, root, line)? {
+    for choice in &choices_of(alloc, story, root, selection)? {
         let mut words = TextBuilder::of_name(alloc, story.called(choice.group));
         words.put(": ").name(story.called(choice.child));
         texts.add_text(words);
@@ -317,17 +317,16 @@ pub fn choices_in(
     words.into_text()
 }
 
-/// The choices of a line on a domain.
+/// The children that a selection chooses in the domain of a root.
 pub(crate) fn choices_of(
     alloc: Global,
     story: &Story<'_>,
     root: usize,
-    line: &str,
+    selection: &[u8],
 ) -> Result<Vec<Choice>, AllocError> {
     let mut choices: Vec<Choice> = Vec::new(alloc);
-    let ordinals = line.split(' ').nth(1).unwrap_or("-");
-    for ordinal in ordinals.split('.') {
-        match choice_at(alloc, story, root, &choices, ordinal)? {
+    for number in selection {
+        match choice_at(alloc, story, root, &choices, usize::from(*number))? {
             Some(choice) => choices.push(choice)?,
             None => break,
         }
@@ -335,21 +334,18 @@ pub(crate) fn choices_of(
     Ok(choices)
 }
 
-/// The child that an ordinal names of the first group of which these choices choose none.
+/// The child of a number, from 0, of the first group of which these choices choose none.
 fn choice_at(
     alloc: Global,
     story: &Story<'_>,
     root: usize,
     choices: &[Choice],
-    ordinal: &str,
+    number: usize,
 ) -> Result<Option<Choice>, AllocError> {
-    let Ok(place) = ordinal.parse::<usize>() else {
-        return Ok(None);
-    };
     let Some(group) = walk(alloc, story, root, choices)?.open else {
         return Ok(None);
     };
-    match story.children(alloc, group)?.get(place) {
+    match story.children(alloc, group)?.get(number) {
         Some(child) => {
             let child = *child;
             Ok(Some(Choice { group, child }))

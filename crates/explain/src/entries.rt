@@ -180,7 +180,7 @@ impl Teller<'_, '_> {
             return Ok(());
         }
         self.write_first(items, item, "it would be:");
-        let choice = choices_in(items.alloc(), self.story, root, &outcome.said)?;
+        let choice = choices_in(items.alloc(), self.story, root, outcome.selection())?;
         put_promised(items, trial, changed.change, outcome);
         put_choice(items, 2, choice);
         Ok(())

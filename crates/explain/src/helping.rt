@@ -198,7 +198,7 @@ fn add_index(
     };
     let alloc = items.alloc();
     if domain.became == Became::Chosen {
-        let choice = choices_in(alloc, story, domain.root, &domain.told.said)?;
+        let choice = choices_in(alloc, story, domain.root, domain.told.selection())?;
         if !choice.is_empty() {
             items.add(Item::new(Kind::Words, 2, "choice", choice));
         }

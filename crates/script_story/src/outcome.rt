@@ -88,6 +88,14 @@ impl Outcome {
         }
     }
 
+    /// For each group in effect the number of the chosen child; none where nothing was chosen.
+    pub fn selection(&self) -> &[u8] {
+        match self.chosen() {
+            Some(chosen) => chosen.selection().choices(),
+            None => &[],
+        }
+    }
+
     /// What the report says alone.
     pub fn into_said(self) -> String
         ensures { result ≡ self.said }
