@@ -348,5 +348,5 @@ fn put_change(
     let mut words = TextBuilder::of_text(items.alloc(), who);
     words.put(": ").put_text(&found.words);
     items.say(2, label, words);
-    items.promise(3, found.into_outcome().into_said())
+    found.into_outcome().promise(items, 3)
 }

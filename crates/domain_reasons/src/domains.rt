@@ -51,8 +51,7 @@ fn add_chosen(
     domain: &Domain,
 ) -> Result<(), AllocError> {
     add_who(items, story, index, true)?;
-    let line = TextBuilder::of(items.alloc(), &domain.told.said);
-    items.push(Kind::Decision, 1, "told", line);
+    domain.told.tell(items, 1);
     add_choice(items, platform, story, index, domain)
 }
 

@@ -263,7 +263,7 @@ fn put_promised(items: &mut Items, trial: Trial<'_, '_>, change: Change, outcome
         (map call_seen trial.scenario.now.calls.now) ((trial.place, change ∷ []) ∷ [])
         trial.path.now outcome }
 {
-    items.promise(2, outcome.into_said())
+    outcome.promise(items, 2)
 }
 
 /// Puts a format and a modifier after a text.

@@ -1,5 +1,6 @@
 //! What is told, as one list of items.
 
+use crate::decided::Decided;
 use crate::words::{Mention, Text, TextBuilder};
 use std::alloc::{AllocError, Global};
 
@@ -29,6 +30,8 @@ pub struct Item {
     /// Below how many items it stands.
     pub depth: usize,
     pub kind: Kind,
+    /// Of a `Decision` what it decides.
+    pub decided: Option<Decided>,
 }
 
 impl Drop for Item {
@@ -39,6 +42,7 @@ impl Drop for Item {
             mentions: _,
             depth: _,
             kind: _,
+            decided: _,
         } = self;
     }
 }
@@ -52,6 +56,7 @@ impl Item {
             mentions,
             depth,
             kind,
+            decided: None,
         }
     }
 }
@@ -127,15 +132,17 @@ impl Items {
         self.say(depth, label, TextBuilder::of(self.alloc, text))
     }
 
-    /// Puts a line of a report after the list, as one that would come of what stands above it.
-    pub fn promise(&mut self, depth: usize, line: String) {
+    /// Puts a line of a report with a label after the list, and what it decides; the label of one
+    /// that would come of what stands above it is `->`.
+    pub fn decide(&mut self, depth: usize, label: &'static str, line: String, decided: Decided) {
         let mentions = Vec::new(self.alloc);
         self.add(Item {
-            label: "->",
+            label,
             text: line,
             mentions,
             depth,
             kind: Kind::Decision,
+            decided: Some(decided),
         })
     }
 

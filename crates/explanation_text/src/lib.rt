@@ -12,6 +12,7 @@
 //! ```
 #![tactic(auto)]
 
+mod decided;
 mod items;
 mod markup;
 mod near;
@@ -21,6 +22,7 @@ mod snippet;
 pub mod wording;
 mod words;
 
+pub use decided::{Choice, Decided};
 pub use items::{Item, Items, Kind, are_same};
 pub use markup::{Drawing, Joint, Line, Shape, Standing, page_of};
 pub use near::nearest;

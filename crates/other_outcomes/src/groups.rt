@@ -251,5 +251,5 @@ fn put_promised(items: &mut Items, scenario: &Scenario<'_>, path: &str, outcome:
     requires { IsPromisedEarlier scenario.now.platform.now scenario.now.calls.now path.now
         outcome }
 {
-    items.promise(2, outcome.into_said())
+    outcome.promise(items, 2)
 }

@@ -70,7 +70,7 @@ fn add_first(
     for (index, info) in scenario.platform.heaps().iter().enumerate() {
         if let Some(outcome) = outcome_so(alloc, scenario, path, index, wanted)? {
             add_heap(items, &info.heap, wanted);
-            items.promise(2, outcome.into_said());
+            outcome.promise(items, 2);
             return Ok(());
         }
     }

@@ -56,7 +56,7 @@ fn try_pair_first(
         return Ok(());
     };
     add_pair(items, pair, chosen);
-    items.promise(2, outcome.into_said());
+    outcome.promise(items, 2);
     Ok(())
 }
 

@@ -41,7 +41,7 @@ fn add_with<'a>(
         Some(outcome) if outcome.became() != Became::Pending => {
             add_ended(items, story, awaited, " it would be:")?;
             let is_chosen = outcome.is_chosen();
-            items.promise(2, outcome.into_said());
+            outcome.promise(items, 2);
             Ok(Some(Otherwise {
                 calls,
                 order: Vec::new(alloc),

@@ -24,7 +24,7 @@ pub fn add_platform(
     for pair in lacked.iter().take(MOST) {
         if let Some(outcome) = outcome_with(alloc, scenario, path, *pair)? {
             add_pair(items, *pair);
-            items.promise(2, outcome.into_said());
+            outcome.promise(items, 2);
             return Ok(());
         }
     }

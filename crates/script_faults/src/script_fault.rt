@@ -48,6 +48,7 @@ fn put_answer(items: &mut Items, fault: ScriptFault) {
             mentions: Vec::new(alloc),
             depth: 0,
             kind: Kind::Answer,
+            decided: None,
         }),
         Err(AllocError) => items.refuse(),
     }

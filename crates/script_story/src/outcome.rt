@@ -7,6 +7,7 @@ ghost use Rattle.script_replay.specs.Events.{fate_seen, fate_text, pending};
 ghost use Rattle.script_story.specs.Became.{became_by, became_of, chosen_by, chosen_in};
 
 use crate::story::Became;
+use explanation_text::{Choice, Decided, Items};
 use negotiation_inputs::Platform;
 use script_replay::{Decision, DomainFate, put_fate};
 use std::alloc::{AllocError, Global};
@@ -96,12 +97,43 @@ impl Outcome {
         }
     }
 
-    /// What the report says alone.
-    pub fn into_said(self) -> String
-        ensures { result ≡ self.said }
-    {
+    /// Puts it after a list as what would come of what stands above it.
+    pub fn promise(self, items: &mut Items, depth: usize) {
+        let decided = self.decided(items.alloc());
         let Outcome { said, fate: _ } = self;
-        said
+        match decided {
+            Ok(decided) => items.decide(depth, "->", said, decided),
+            Err(AllocError) => items.refuse(),
+        }
+    }
+
+    /// Puts it after a list as what the report says.
+    pub fn tell(&self, items: &mut Items, depth: usize) {
+        match self.parts(items.alloc()) {
+            Ok((said, decided)) => items.decide(depth, "told", said, decided),
+            Err(AllocError) => items.refuse(),
+        }
+    }
+
+    /// A copy of what the report says, and what it decides.
+    fn parts(&self, alloc: Global) -> Result<(String, Decided), AllocError> {
+        Ok((self.said.clone()?, self.decided(alloc)?))
+    }
+
+    /// What it decides, as a list of items keeps it.
+    fn decided(&self, alloc: Global) -> Result<Decided, AllocError> {
+        let (Some(decision), Some(chosen)) = (self.decision(), self.chosen()) else {
+            return Ok(Decided::Word(self.became().word()));
+        };
+        let settings = chosen.settings();
+        Ok(Decided::Chosen(Choice {
+            selection: Vec::from_slice(alloc, chosen.selection().choices())?,
+            count: settings.count,
+            size_bytes: settings.size_bytes,
+            place: settings.place,
+            offer: settings.offer,
+            corner: decision.corner,
+        }))
     }
 }
 

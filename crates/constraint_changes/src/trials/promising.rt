@@ -34,7 +34,7 @@ pub fn put_promise(items: &mut Items, group: Group<'_, '_>, depth: usize, promis
         (map call_seen group.scenario.now.calls.now) (edits_of promise.edits.items)
         group.path.now promise.outcome }
 {
-    items.promise(depth, promise.into_outcome().into_said())
+    promise.into_outcome().promise(items, depth)
 }
 
 /// Puts the decision that comes where the records of two calls are exchanged.
@@ -49,7 +49,7 @@ pub fn put_exchanged(
         (map call_seen group.scenario.now.calls.now) exchange.now.one exchange.now.other
         group.path.now outcome }
 {
-    items.promise(depth, outcome.into_said())
+    outcome.promise(items, depth)
 }
 
 /// Puts which children a decision chooses, if it chooses some.
