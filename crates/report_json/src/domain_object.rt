@@ -3,7 +3,7 @@
 use crate::image_object::put_image;
 use crate::put::{put_name, put_number};
 use negotiation_inputs::Platform;
-use std::alloc::AllocError;
+use std::alloc::{AllocError, Global};
 use std::fmt::Write;
 use sysmem_formats::Offer;
 use sysmem_image::Corner;
@@ -11,20 +11,39 @@ use sysmem_memory::Place;
 
 /// The root of a domain: its path, and its name, if it has one.
 #[derive(Clone, Copy)]
-pub(crate) struct Root<'a> {
-    pub(crate) path: &'a str,
-    pub(crate) name: Option<&'a str>,
+pub struct Root<'a> {
+    pub path: &'a str,
+    pub name: Option<&'a str>,
 }
 
 /// What was chosen for a domain, as it is told.
 #[derive(Clone, Copy)]
-pub(crate) struct Choice<'a> {
-    pub(crate) selection: &'a [u8],
-    pub(crate) count: u32,
-    pub(crate) size_bytes: u64,
-    pub(crate) place: Place,
-    pub(crate) offer: Offer,
-    pub(crate) corner: Corner,
+pub struct Choice<'a> {
+    pub selection: &'a [u8],
+    pub count: u32,
+    pub size_bytes: u64,
+    pub place: Place,
+    pub offer: Offer,
+    pub corner: Corner,
+}
+
+/// The object of a domain of which a word is said.
+pub fn word_object(alloc: Global, root: Root<'_>, verdict: &str) -> Result<String, AllocError> {
+    let mut out = String::new(alloc);
+    put_word(&mut out, root, verdict)?;
+    Ok(out)
+}
+
+/// The object of a domain for which settings were chosen.
+pub fn chosen_object(
+    alloc: Global,
+    platform: &Platform,
+    root: Root<'_>,
+    choice: &Choice<'_>,
+) -> Result<String, AllocError> {
+    let mut out = String::new(alloc);
+    put_chosen(&mut out, platform, root, choice)?;
+    Ok(out)
 }
 
 /// Puts the object of a domain of which a word is said:

@@ -14,8 +14,7 @@ mod names;
 mod put;
 mod reasons;
 mod running;
-mod said;
 mod telling;
 
+pub use domain_object::{Choice, Root, chosen_object, word_object};
 pub use running::{run_as_json, run_as_json_with_proof};
-pub use said::decision_object;

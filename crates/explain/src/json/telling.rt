@@ -8,8 +8,8 @@ use crate::json::changes::{change_value, is_change};
 use crate::json::item_object::{put_form, put_item};
 use crate::json::object::Object;
 use crate::json::scene::Scene;
-use explanation_text::{Item, Kind, Thing};
-use report_json::decision_object;
+use explanation_text::{Choice, Decided, Item, Kind, Thing};
+use report_json::{Choice as ReportedChoice, Root, chosen_object, word_object};
 use serde_json::Value;
 use std::alloc::{AllocError, Global};
 use std::mem;
@@ -140,12 +140,32 @@ impl<'a, 'b> Telling<'a, 'b> {
         let alloc = object.alloc();
         let changes = mem::replace(&mut self.changes, Vec::new(alloc));
         object.list("changes", changes)?;
-        let path = played.story.path(root);
-        let name = played.story.name(root);
-        let told = decision_object(alloc, played.platform, path, Some(name), &item.text)?;
+        let root = Root {
+            path: played.story.path(root),
+            name: Some(played.story.name(root)),
+        };
+        let told = match &item.decided {
+            Some(Decided::Chosen(one)) => {
+                chosen_object(alloc, played.platform, root, &choice_of(one))?
+            }
+            Some(Decided::Word(word)) => word_object(alloc, root, word)?,
+            None => return Ok(()),
+        };
         match Value::from_str(alloc, &told) {
             Ok(decision) => object.put("decision", decision),
             Err(_) => Err(AllocError),
         }
+    }
+}
+
+/// What was chosen, as a report's object has it.
+fn choice_of(one: &Choice) -> ReportedChoice<'_> {
+    ReportedChoice {
+        selection: &one.selection,
+        count: one.count,
+        size_bytes: one.size_bytes,
+        place: one.place,
+        offer: one.offer,
+        corner: one.corner,
     }
 }
