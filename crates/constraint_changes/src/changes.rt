@@ -8,12 +8,13 @@ ghost use Rattle.constraint_changes.specs.Edited.{IsPromised, IsTried};
 use crate::exchanges::try_exchanges;
 use crate::trials::{
     Group, Party, RestatedConstraints, Trial, TrialResult, are_sized, can_help, change_leaves_none,
-    entries_behind, has_groups, is_worth, leaves_none, parties_of, put_choice, reached_by,
+    copied, entries_behind, has_groups, is_worth, leaves_none, parties_of, put_choice, reached_by,
 };
 use constraint_edits::{Change, Edit, changes, edited, is_absurd};
 use domain_reasons::{choices_in, room_needed};
 use explanation_text::{Items, Text, TextBuilder};
 use script_story::{Effort, Milestone, Story, asked_in};
+use serde_json::Value;
 use std::alloc::{AllocError, Global};
 use std::slice::from_ref;
 use value_sources::NamedParticipant;
@@ -35,6 +36,8 @@ pub(crate) struct Search<'a, 'b> {
     pub(crate) tried: usize,
     /// How many help and can't be meant.
     absurd: usize,
+    /// What calls state by the first that helps.
+    first: Vec<RestatedConstraints>,
     /// Whether sizes are asked for.
     is_sized: bool,
 }
@@ -43,6 +46,20 @@ impl Search<'_, '_> {
     /// Whether enough were found or tried.
     pub(crate) fn is_done(&self, effort: &Effort) -> bool {
         self.count >= MOST || self.tried >= TRIES || effort.is_spent()
+    }
+
+    /// Keeps what a call states by a change that helps, if it is the first.
+    fn keep_one(&mut self, place: usize, value: &Value) -> Result<(), AllocError> {
+        let value = value.clone()?;
+        self.keep(from_ref(&RestatedConstraints { place, value }))
+    }
+
+    /// Keeps what calls state by a change that helps, if it is the first.
+    pub(crate) fn keep(&mut self, stated: &[RestatedConstraints]) -> Result<(), AllocError> {
+        if self.first.is_empty() {
+            self.first = copied(self.found.alloc(), stated)?;
+        }
+        Ok(())
     }
 
     /// The label of one more that helps.
@@ -55,13 +72,14 @@ impl Search<'_, '_> {
 
 /// Tells the changes of one field of one participant with which the domain at a path would have
 /// settings, each with the decision that would come: the line of the report of the changed script;
-/// of one participant an entry put first, and of two the exchange. Says whether there is one.
+/// of one participant an entry put first, and of two the exchange. Gives what calls state by the
+/// first of them; nothing where there is none.
 pub fn list_changes(
     items: &mut Items,
     group: Group<'_, '_>,
     index: usize,
     edits: &[Edit],
-) -> Result<bool, AllocError> {
+) -> Result<Vec<RestatedConstraints>, AllocError> {
     let parties = parties_of(items.alloc(), group)?;
     let mut search = Search {
         found: Items::new(items.alloc()),
@@ -69,13 +87,13 @@ pub fn list_changes(
         count: 0,
         tried: 0,
         absurd: 0,
+        first: Vec::new(items.alloc()),
         is_sized: are_sized(group.participants),
     };
     try_all(&mut search, group, index, edits)?;
     put_head(items, &search, group.scenario.effort);
-    let count = search.count;
     items.append(search.found);
-    Ok(count > 0)
+    Ok(search.first)
 }
 
 /// Tries all changes, those first that are likely meant.
@@ -278,6 +296,7 @@ fn put_found(
     }
     let choice = choices_in(alloc, group.story, group.root, found.outcome.selection())?;
     let who = group.who_changes(alloc, participant, edit, &found.value)?;
+    search.keep_one(trial.place, &found.value)?;
     let label = search.label();
     put_change(&mut search.found, trial, label, &who, found);
     put_choice(&mut search.found, 3, choice);

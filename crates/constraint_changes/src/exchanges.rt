@@ -168,6 +168,7 @@ fn write_exchange(
     let alloc = search.found.alloc();
     let choice = choices_in(alloc, group.story, group.root, outcome.selection())?;
     put_exchange(search, group, participant, other)?;
+    search.keep(&exchange.stated)?;
     put_exchanged(&mut search.found, group, 3, exchange, outcome);
     put_choice(&mut search.found, 3, choice);
     Ok(())

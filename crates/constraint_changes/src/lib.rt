@@ -3,9 +3,9 @@
 //! exchanged; and several together, the fewest found, each as small as it can be.
 //!
 //! ```
-//! let does_one = list_changes(&mut items, group, 0, &edits)?;
-//! if !does_one {
-//!     add_together(&mut items, group, &edits)?;
+//! let first = list_changes(&mut items, group, 0, &edits)?;
+//! if first.is_empty() {
+//!     let _together = add_together(&mut items, group, &edits)?;
 //! }
 //! print!(rt; "{}", text_of(rt.alloc(), &items.into_list()?)?)?;
 //! ```
@@ -21,4 +21,4 @@ mod walk;
 
 pub use changes::list_changes;
 pub use together::add_together;
-pub use trials::{Group, Trial, entry_place, line_at, put_choice};
+pub use trials::{Group, RestatedConstraints, Trial, entry_place, line_at, put_choice, restated};

@@ -35,25 +35,30 @@ const TOLD: usize = 6;
 /// Tells the fewest changes found with which, made together, the domain at a path would have
 /// settings, and the decision that would come: the line of the report of the changed script. Where
 /// others do that take the use by a CPU away, those are told beside them. Where nothing is found
-/// before nothing more is to be tried, it says so.
+/// before nothing more is to be tried, it says so. Gives what calls state by the first that are
+/// told; nothing where none are.
 pub fn add_together(
     items: &mut Items,
     group: Group<'_, '_>,
     edits: &[Edit],
-) -> Result<(), AllocError> {
+) -> Result<Vec<RestatedConstraints>, AllocError> {
     if group.scenario.effort.is_spent() {
-        return Ok(());
+        return Ok(Vec::new(items.alloc()));
     }
     let before = items.len();
-    add_all(items, group, edits)?;
+    let first = add_all(items, group, edits)?;
     if items.len() == before && group.scenario.effort.is_spent() {
         items.list_text(1, "change", "to try several together would take long");
     }
-    Ok(())
+    Ok(first)
 }
 
 /// Tells the same, as far as it is tried.
-fn add_all(items: &mut Items, group: Group<'_, '_>, edits: &[Edit]) -> Result<(), AllocError> {
+fn add_all(
+    items: &mut Items,
+    group: Group<'_, '_>,
+    edits: &[Edit],
+) -> Result<Vec<RestatedConstraints>, AllocError> {
     let alloc = items.alloc();
     let parties = parties_of(alloc, group)?;
     let joint = CombinedChange {
@@ -62,25 +67,31 @@ fn add_all(items: &mut Items, group: Group<'_, '_>, edits: &[Edit]) -> Result<()
     };
     let all = joint.parts(alloc, edits)?;
     let mut shelf = RecordCache::new(alloc);
-    joint.put_plain(items, &mut shelf, &all)?;
-    joint.put_others(items, &mut shelf, &all)
+    let plain = joint.put_plain(items, &mut shelf, &all)?;
+    let others = joint.put_others(items, &mut shelf, &all)?;
+    if plain.is_empty() {
+        Ok(others)
+    } else {
+        Ok(plain)
+    }
 }
 
-/// Tells changes that help together, each as small as it can be.
+/// Tells changes that help together, each as small as it can be, and gives what calls state then;
+/// nothing where they aren't told.
 fn add_least_changes(
     items: &mut Items,
     joint: CombinedChange<'_, '_>,
     shelf: &mut RecordCache,
     fewest: &[PartyChange],
     before: &str,
-) -> Result<(), AllocError> {
-    if fewest.len() < 2 || fewest.len() > TOLD {
-        return Ok(());
-    }
+) -> Result<Vec<RestatedConstraints>, AllocError> {
     let alloc = items.alloc();
+    if fewest.len() < 2 || fewest.len() > TOLD {
+        return Ok(Vec::new(alloc));
+    }
     let mut parts = Vec::from_slice(alloc, fewest)?;
     let Some(mut outcome) = joint.outcome(alloc, &parts)? else {
-        return Ok(());
+        return Ok(Vec::new(alloc));
     };
     for index in 0..parts.len() {
         if let Some(other) = joint.lessen(shelf, alloc, &mut parts, index, reached_by(&outcome))? {
@@ -104,10 +115,10 @@ impl CombinedChange<'_, '_> {
         items: &mut Items,
         shelf: &mut RecordCache,
         all: &[PartyChange],
-    ) -> Result<(), AllocError> {
+    ) -> Result<Vec<RestatedConstraints>, AllocError> {
         let plain = with_cpu(items.alloc(), all)?;
         if !self.does(items.alloc(), &plain)? {
-            return Ok(());
+            return Ok(Vec::new(items.alloc()));
         }
         let fewest = self.fewest(shelf, items.alloc(), &plain)?;
         add_least_changes(items, *self, shelf, &fewest, "")
@@ -119,15 +130,16 @@ impl CombinedChange<'_, '_> {
         items: &mut Items,
         shelf: &mut RecordCache,
         all: &[PartyChange],
-    ) -> Result<(), AllocError> {
-        if !takes_cpu(all) || !self.does(items.alloc(), all)? {
-            return Ok(());
+    ) -> Result<Vec<RestatedConstraints>, AllocError> {
+        let alloc = items.alloc();
+        if !takes_cpu(all) || !self.does(alloc, all)? {
+            return Ok(Vec::new(alloc));
         }
-        let others = self.needed(shelf, items.alloc(), all, false)?;
+        let others = self.needed(shelf, alloc, all, false)?;
         if takes_cpu(&others) {
-            add_least_changes(items, *self, shelf, &others, "or ")?;
+            return add_least_changes(items, *self, shelf, &others, "or ");
         }
-        Ok(())
+        Ok(Vec::new(alloc))
     }
 
     /// Each change of each participant that is worth a try, of the first where there are very many.
@@ -581,27 +593,28 @@ impl CombinedChange<'_, '_> {
         Ok(edits)
     }
 
-    /// Tells changes, and the decision that comes by them.
+    /// Tells changes, and the decision that comes by them; gives what calls state then.
     fn tell(
         &self,
         items: &mut Items,
         parts: &[PartyChange],
         before: &str,
-    ) -> Result<(), AllocError> {
+    ) -> Result<Vec<RestatedConstraints>, AllocError> {
         let alloc = items.alloc();
         let Some(promise) = self.promise(alloc, parts)? else {
-            return Ok(());
+            return Ok(Vec::new(alloc));
         };
         let reached = reached_by(&promise.outcome);
         if is_absurd(reached, are_sized(self.group.participants)) {
-            return Ok(());
+            return Ok(Vec::new(alloc));
         }
+        let stated = promise.stated(alloc)?;
         self.put_parts(items, parts, before)?;
         let selection = promise.outcome.selection();
         let choice = choices_in(alloc, self.group.story, self.group.root, selection)?;
         put_promise(items, self.group, 2, promise);
         put_choice(items, 2, choice);
-        Ok(())
+        Ok(stated)
     }
 
     /// Puts changes that help together, each by what those before it leave.

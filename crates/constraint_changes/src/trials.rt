@@ -22,7 +22,7 @@ pub use exchanging::{Exchange, exchanged_calls};
 pub use group::{Group, line_at};
 pub use parties::{Party, can_help, parties_of};
 pub use promising::{Promise, put_choice, put_exchanged, put_promise};
-pub use restating::{RestatedConstraints, restated};
+pub use restating::{RestatedConstraints, copied, restated};
 pub use trying::{MOST_HALVINGS, Trial, TrialResult, chosen_with, reached_by};
 pub use unmet::{ReadRecord, change_leaves_none, has_groups, leave_none, leaves_none};
 pub use worth::{are_sized, is_worth};

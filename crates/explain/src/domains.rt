@@ -1,14 +1,15 @@
 //! What became of each domain, why, and what would help.
 
 use crate::entries::add_unused;
-use crate::helping::{LEVELS, list_help};
-use constraint_changes::{Group, add_together, list_changes};
+use crate::helping::{LEVELS, index_at, list_help};
+use crate::not_chosen::add_not_chosen;
+use constraint_changes::{Group, RestatedConstraints, add_together, list_changes, restated};
 use constraint_edits::edits_on;
 use domain_reasons::add_domain;
-use explanation_text::Items;
-use other_outcomes::{add_heaps, add_platform};
+use explanation_text::{Item, Items, Kind};
+use other_outcomes::{add_ended_later, add_heaps, add_platform};
 use script_faults::Document;
-use script_story::{Became, Scenario, Story, asked_in};
+use script_story::{Became, Scenario, Story, asked_in, story_of};
 use std::alloc::AllocError;
 
 /// Tells each domain, in the order of the report.
@@ -28,8 +29,8 @@ pub(crate) fn add_domains(
     Ok(())
 }
 
-/// Tells what would help an empty domain: one change of a participant, or else some together, and a
-/// pair that the platform lacks.
+/// Tells what would help an empty domain: calls that end somebody earlier, one change of a
+/// participant or else some together, and a pair that the platform lacks.
 pub(crate) fn add_edits(
     items: &mut Items,
     document: &Document<'_>,
@@ -47,6 +48,7 @@ pub(crate) fn add_edits(
         platform.colours(),
     )?;
     let root = story.root_of(index);
+    add_ended_later(items, scenario, story, index, story.path(root))?;
     let group = Group {
         document,
         scenario,
@@ -55,9 +57,80 @@ pub(crate) fn add_edits(
         root,
         participants: &participants,
     };
-    if !list_changes(items, group, index, &edits)? {
-        add_together(items, group, &edits)?;
+    let mut changes = Items::new(alloc);
+    let mut first = list_changes(&mut changes, group, index, &edits)?;
+    if first.is_empty() {
+        first = add_together(&mut changes, group, &edits)?;
     }
+    add_changes(items, group, changes.into_list()?, &first)?;
     add_platform(items, scenario, group.path, &participants)?;
     add_heaps(items, scenario, group.path, &participants)
+}
+
+/// Tells changes, and below the first decision that would come what isn't chosen in it, where calls
+/// state this by that change.
+fn add_changes(
+    items: &mut Items,
+    group: Group<'_, '_>,
+    changes: Vec<Item>,
+    stated: &[RestatedConstraints],
+) -> Result<(), AllocError> {
+    let end = end_of_first(&changes);
+    let mut count = 0usize;
+    for item in changes {
+        let depth = item.depth;
+        items.add(item);
+        count = count.saturating_add(1);
+        if count == end && !stated.is_empty() {
+            add_first(items, group, stated, depth)?;
+        }
+    }
+    Ok(())
+}
+
+/// How many items there are up to the first decision that would come by changes, and the children
+/// that it chooses; 0 where none would come.
+fn end_of_first(changes: &[Item]) -> usize {
+    for (k, item) in changes.iter().enumerate() {
+        if item.kind == Kind::Decision {
+            let next = k.saturating_add(1);
+            return match changes.get(next) {
+                Some(below) if below.label == "choice" => next.saturating_add(1),
+                _ => next,
+            };
+        }
+    }
+    0
+}
+
+/// Tells at this depth what isn't chosen where calls state this, if nodes are numbered there as
+/// they are.
+fn add_first(
+    items: &mut Items,
+    group: Group<'_, '_>,
+    stated: &[RestatedConstraints],
+    depth: usize,
+) -> Result<(), AllocError> {
+    let scenario = group.scenario;
+    if scenario.effort.is_spent() {
+        return Ok(());
+    }
+    let alloc = items.alloc();
+    let calls = restated(alloc, scenario.calls, stated)?;
+    let other = Scenario {
+        platform: scenario.platform,
+        calls: &calls,
+        effort: scenario.effort,
+    };
+    let told = other.tell(alloc, &calls)?;
+    if told.report.starved {
+        return Err(AllocError);
+    }
+    let story = story_of(alloc, group.document.value, &calls, &told)?;
+    match index_at(&story, group.path) {
+        Some(index) if story.nodes.len() == group.story.nodes.len() => {
+            add_not_chosen(items, &other, &story, index, depth)
+        }
+        _ => Ok(()),
+    }
 }

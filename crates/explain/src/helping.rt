@@ -4,14 +4,16 @@
 ghost use Rattle.std.specs.Prelude.{◌≡◌};
 
 use crate::domains::add_edits;
+use crate::not_chosen::add_not_chosen;
+use constraint_changes::put_choice;
 use domain_reasons::{add_domain, choices_in};
-use explanation_text::{Item, Items, Kind};
+use explanation_text::{Items, Kind};
 use other_outcomes::{
-    Otherwise, add_ended_earlier, add_ended_later, add_groups_exchanged, add_later_children,
-    add_later_pairs, add_then, add_without, reordered,
+    Otherwise, add_ended_earlier, add_groups_exchanged, add_later_children, add_later_pairs,
+    add_then, add_without, reordered,
 };
 use script_faults::Document;
-use script_story::{Became, Scenario, Story, story_of};
+use script_story::{Became, Domain, Scenario, Story, story_of};
 use std::alloc::{AllocError, Global};
 
 /// How many lines are told of why a domain has no settings.
@@ -27,6 +29,8 @@ struct Place<'a> {
     levels: usize,
     /// Whether there are groups, whose children are chosen.
     has_groups: bool,
+    /// Whether it is chosen as the calls are.
+    is_chosen: bool,
 }
 
 /// Tells what would help a domain that is pending or empty, and what else one could be that is
@@ -44,7 +48,7 @@ pub(crate) fn list_help(
         return Ok(());
     };
     let path = story.path(domain.root);
-    let place = place_of(story, path, levels);
+    let place = place_of(story, path, levels, domain.became);
     match domain.became {
         Became::Pending => {
             let then = add_then(items, scenario, story, path)?;
@@ -56,31 +60,41 @@ pub(crate) fn list_help(
             let then = add_without(items, scenario, story, index, path)?;
             add_further(items, document, scenario, then, place)
         }
-        Became::Empty => {
-            add_ended_later(items, scenario, story, index, path)?;
-            add_edits(items, document, scenario, story, index)
-        }
+        Became::Empty => add_edits(items, document, scenario, story, index),
         Became::Chosen => {
-            let once = place_of(story, path, if levels > 0 { 1 } else { 0 });
+            let levels = if levels > 0 { 1 } else { 0 };
+            let once = Place { levels, ..place };
             let then = add_ended_earlier(items, scenario, story, index, path)?;
             add_further(items, document, scenario, then, once)?;
             let then = add_groups_exchanged(items, scenario, document.value, story, index, path)?;
             add_further(items, document, scenario, then, once)?;
-            add_later_children(items, scenario, story, index, path)?;
-            add_later_pairs(items, scenario, story, index, path)
+            add_later(items, scenario, story, index, path)
         }
         _ => Ok(()),
     }
 }
 
-/// The domain at a path of a story, which goes on so often at most.
-fn place_of<'a>(story: &Story<'_>, path: &'a str, levels: usize) -> Place<'a>
+/// Tells of later children and pairs what would be decided if they came before what is chosen.
+fn add_later(
+    items: &mut Items,
+    scenario: &Scenario<'_>,
+    story: &Story<'_>,
+    index: usize,
+    path: &str,
+) -> Result<(), AllocError> {
+    add_later_children(items, scenario, story, index, path)?;
+    add_later_pairs(items, scenario, story, index, path)
+}
+
+/// The domain at a path of a story, of which this became, and which goes on so often at most.
+fn place_of<'a>(story: &Story<'_>, path: &'a str, levels: usize, became: Became) -> Place<'a>
     ensures { result.levels ≡ levels }
 {
     Place {
         path,
         levels,
         has_groups: are_groups(story),
+        is_chosen: became == Became::Chosen,
     }
 }
 
@@ -129,7 +143,7 @@ fn add_further(
     let Some(levels) = place.levels.checked_sub(1) else {
         return Ok(());
     };
-    let is_all = then.is_chosen && !place.has_groups;
+    let is_all = then.is_chosen && place.is_chosen && !place.has_groups;
     if is_all || scenario.effort.is_spent() {
         return Ok(());
     }
@@ -168,13 +182,13 @@ fn add_made(
     }
     let story = story_of(alloc, document.value, &then.calls, &told)?;
     match index_at(&story, place.path) {
-        Some(index) => add_index(items, document, &other, &story, index, place.levels),
+        Some(index) => add_index(items, document, &other, &story, index, place),
         None => Ok(()),
     }
 }
 
 /// The domain at a path, by index.
-fn index_at(story: &Story<'_>, path: &str) -> Option<usize> {
+pub(crate) fn index_at(story: &Story<'_>, path: &str) -> Option<usize> {
     for (index, domain) in story.domains.iter().enumerate() {
         if story.path(domain.root) == path {
             return Some(index);
@@ -191,23 +205,37 @@ fn add_index(
     scenario: &Scenario<'_>,
     story: &Story<'_>,
     index: usize,
-    levels: usize,
+    place: Place<'_>,
 ) -> Result<(), AllocError> {
     let Some(domain) = story.domains.get(index) else {
         return Ok(());
     };
-    let alloc = items.alloc();
     if domain.became == Became::Chosen {
-        let choice = choices_in(alloc, story, domain.root, domain.told.selection())?;
-        if !choice.is_empty() {
-            items.add(Item::new(Kind::Words, 2, "choice", choice));
-        }
-        return Ok(());
+        return add_chosen(items, scenario, story, index, domain, place.is_chosen);
     }
-    let mut why = Items::new(alloc);
+    let mut why = Items::new(items.alloc());
     add_domain(&mut why, scenario.platform, story, index)?;
     add_below(items, why, MOST)?;
-    add_help_then(items, document, scenario, story, index, levels)
+    add_help_then(items, document, scenario, story, index, place.levels)
+}
+
+/// Tells which children a domain chooses then; and what isn't chosen, unless it is chosen as the
+/// calls are.
+fn add_chosen(
+    items: &mut Items,
+    scenario: &Scenario<'_>,
+    story: &Story<'_>,
+    index: usize,
+    domain: &Domain,
+    is_now: bool,
+) -> Result<(), AllocError> {
+    let choice = choices_in(items.alloc(), story, domain.root, domain.told.selection())?;
+    put_choice(items, 2, choice);
+    if is_now {
+        Ok(())
+    } else {
+        add_not_chosen(items, scenario, story, index, 2)
+    }
 }
 
 /// Tells what would help a domain then, if the story is to go on.

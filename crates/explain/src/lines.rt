@@ -91,26 +91,69 @@ fn add_lines(
         return Ok(());
     };
     let alloc = *lined.allocator();
-    let rows = rows_of(
-        alloc,
-        document,
-        story,
-        domain,
-        lined.get(section.start..).unwrap_or(&[]),
-    )?;
+    let items = lined.get(section.start..).unwrap_or(&[]);
+    let rows = rows_in(alloc, document, story, domain, items)?;
     for row in rows {
         lined.push(Item::new(Kind::Words, 1, "lines", row))?;
     }
     Ok(())
 }
 
-/// The lines of each participant of a domain that its section names.
+/// The lines of each participant of a domain that its section of these items names.
+fn rows_in(
+    alloc: Global,
+    document: &Document<'_>,
+    story: &Story<'_>,
+    domain: usize,
+    items: &[Item],
+) -> Result<Vec<Text>, AllocError> {
+    let told = own_of(alloc, items)?;
+    rows_of(alloc, document, story, domain, &told)
+}
+
+/// The items that tell of the domain itself: what isn't chosen in a decision that would come is left
+/// out.
+fn own_of<'b>(alloc: Global, items: &'b [Item]) -> Result<Vec<&'b Item>, AllocError> {
+    let mut own = Vec::new(alloc);
+    let mut promised = None;
+    for item in items {
+        if is_below(item, promised) {
+            continue;
+        }
+        if item.label != "choice" {
+            promised = promised_by(item);
+        }
+        own.push(item)?;
+    }
+    Ok(own)
+}
+
+/// How deep a decision stands that would come, if an item is one.
+fn promised_by(item: &Item) -> Option<usize> {
+    if item.label == "->" {
+        Some(item.depth)
+    } else {
+        None
+    }
+}
+
+/// Whether an item tells what isn't chosen in a decision that would come and stands so deep; its
+/// choice of children does not.
+fn is_below(item: &Item, promised: Option<usize>) -> bool {
+    match promised {
+        Some(depth) if item.depth == depth => item.label != "choice",
+        Some(depth) => item.depth > depth,
+        None => false,
+    }
+}
+
+/// The lines of each participant of a domain that these items name.
 fn rows_of(
     alloc: Global,
     document: &Document<'_>,
     story: &Story<'_>,
     domain: usize,
-    told: &[Item],
+    told: &[&Item],
 ) -> Result<Vec<Text>, AllocError> {
     let mut rows: Vec<Text> = Vec::new(alloc);
     let fields = fields_in(alloc, told)?;
@@ -132,13 +175,13 @@ fn rows_of(
 }
 
 /// Whether some items name a thing; those are left out that list who has constraints.
-fn is_named(told: &[Item], thing: Thing) -> bool {
+fn is_named(told: &[&Item], thing: Thing) -> bool {
     told.iter().any(|item| item.label != "who"
         && item.mentions.iter().any(|mention| mention.thing == thing))
 }
 
 /// The fields that some items name.
-fn fields_in(alloc: Global, told: &[Item]) -> Result<Vec<Field>, AllocError> {
+fn fields_in(alloc: Global, told: &[&Item]) -> Result<Vec<Field>, AllocError> {
     let mut fields = Vec::new(alloc);
     for field in &Field::ALL {
         if is_told(*field) && is_named(told, Thing::Field(*field)) {
@@ -151,13 +194,13 @@ fn fields_in(alloc: Global, told: &[Item]) -> Result<Vec<Field>, AllocError> {
 /// Those of some fields whose lines no change of the constraints of a call tells.
 fn without_placed(
     alloc: Global,
-    told: &[Item],
+    told: &[&Item],
     fields: &[Field],
     number: usize,
 ) -> Result<Vec<Field>, AllocError> {
     let mut left = Vec::new(alloc);
     for field in fields {
-        if !told.iter().any(|item| places(item, number, *field)) {
+        if !told.iter().any(|item| places(*item, number, *field)) {
             left.push(*field)?;
         }
     }

@@ -4,9 +4,11 @@ use crate::platforms::{heaps_of, outcome_on};
 use explanation_text::{Items, ListBuilder, TextBuilder};
 use negotiation_inputs::Platform;
 use script_story::{Outcome, Scenario, Story, asked_in};
-use settings_reasons::listed_before;
+use settings_reasons::{is_taken, listed_before};
 use std::alloc::{AllocError, Global};
 use sysmem_formats::{Offer, Pair};
+use sysmem_image::Entry;
+use value_sources::NamedParticipant;
 
 /// How many pairs are tried.
 const MOST: usize = 3;
@@ -25,10 +27,80 @@ pub fn add_later_pairs(
         return Ok(());
     };
     let listed = listed_in(alloc, scenario, story, index, chosen)?;
-    for pair in listed.iter().take(MOST) {
+    try_each(items, scenario, path, &listed, chosen)
+}
+
+/// Tells the same, and also of pairs that stand after the chosen one on the platform and that a
+/// participant names and all take, wherever they list them.
+pub fn add_taken_pairs(
+    items: &mut Items,
+    scenario: &Scenario<'_>,
+    story: &Story<'_>,
+    index: usize,
+    path: &str,
+) -> Result<(), AllocError> {
+    let alloc = items.alloc();
+    let Some(chosen) = pair_of(story, index) else {
+        return Ok(());
+    };
+    let mut pairs = listed_in(alloc, scenario, story, index, chosen)?;
+    let participants = asked_in(alloc, story, index, true)?;
+    for pair in after(scenario.platform.pairs(), chosen) {
+        if are_taking(&participants, *pair) && !pairs.contains(pair) {
+            pairs.push(*pair)?;
+        }
+    }
+    try_each(items, scenario, path, &pairs, chosen)
+}
+
+/// Tells what the domain at a path would be if one of some pairs stood first on the platform, of
+/// each of the first of them.
+fn try_each(
+    items: &mut Items,
+    scenario: &Scenario<'_>,
+    path: &str,
+    pairs: &[Pair],
+    chosen: Pair,
+) -> Result<(), AllocError> {
+    for pair in pairs.iter().take(MOST) {
         try_pair_first(items, scenario, path, *pair, chosen)?;
     }
     Ok(())
+}
+
+/// The pairs after one of them; none where it isn't there.
+fn after(pairs: &[Pair], chosen: Pair) -> &[Pair] {
+    for (k, pair) in pairs.iter().enumerate() {
+        if *pair == chosen {
+            return pairs.get(k.saturating_add(1)..).unwrap_or(&[]);
+        }
+    }
+    &[]
+}
+
+/// Whether all participants with entries take a pair, and one of them names its format.
+fn are_taking(participants: &[NamedParticipant<'_>], pair: Pair) -> bool {
+    let mut is_named = false;
+    for participant in participants {
+        let entries = participant.asked.entries();
+        if !entries.is_empty() && !is_taken_by(entries, pair) {
+            return false;
+        }
+        is_named = is_named || is_named_by(entries, pair);
+    }
+    is_named
+}
+
+/// Whether one of some entries takes a pair.
+fn is_taken_by(entries: &[Entry], pair: Pair) -> bool {
+    entries.iter().any(|entry| is_taken(entry, pair))
+}
+
+/// Whether one of some entries names a pair's format, and takes the pair.
+fn is_named_by(entries: &[Entry], pair: Pair) -> bool {
+    entries
+        .iter()
+        .any(|entry| entry.format.is_some() && is_taken(entry, pair))
 }
 
 /// The pairs that participants of a domain list before the chosen one.

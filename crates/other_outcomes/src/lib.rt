@@ -26,7 +26,7 @@ pub use ended_earlier::add_ended_earlier;
 pub use ended_later::add_ended_later;
 pub use groups::add_groups_exchanged;
 pub use heaps::add_heaps;
-pub use later_pairs::add_later_pairs;
+pub use later_pairs::{add_later_pairs, add_taken_pairs};
 pub use meant::list_meant;
 pub use moved::{add_then, list_moved};
 pub use otherwise::{Otherwise, reordered};

@@ -7,9 +7,10 @@ ghost use Rattle.constraint_changes.specs.Edited.{IsPromised, IsPromisedExchange
 use crate::trials::editing::EditedCall;
 use crate::trials::exchanging::Exchange;
 use crate::trials::group::Group;
+use crate::trials::restating::RestatedConstraints;
 use explanation_text::{Item, Items, Kind, Text};
 use script_story::Outcome;
-use std::alloc::AllocError;
+use std::alloc::{AllocError, Global};
 
 /// The decision that comes by edits of calls.
 #[derive(Drop)]
@@ -19,6 +20,19 @@ pub struct Promise {
 }
 
 impl Promise {
+    /// What the calls state then.
+    pub(crate) fn stated(&self, alloc: Global) -> Result<Vec<RestatedConstraints>, AllocError> {
+        let mut stated = Vec::new(alloc);
+        for edit in &self.edits {
+            let value = edit.value.clone()?;
+            stated.push(RestatedConstraints {
+                place: edit.place,
+                value,
+            })?;
+        }
+        Ok(stated)
+    }
+
     /// The decision alone.
     fn into_outcome(self) -> Outcome
         ensures { result ≡ self.outcome }

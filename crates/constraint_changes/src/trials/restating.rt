@@ -32,6 +32,22 @@ impl RestatedConstraints {
     }
 }
 
+/// A copy of what calls state.
+pub fn copied(
+    alloc: Global,
+    stated: &[RestatedConstraints],
+) -> Result<Vec<RestatedConstraints>, AllocError> {
+    let mut copy = Vec::new(alloc);
+    for one in stated {
+        let value = one.value.clone()?;
+        copy.push(RestatedConstraints {
+            place: one.place,
+            value,
+        })?;
+    }
+    Ok(copy)
+}
+
 /// The calls, of which some state other constraints.
 pub fn restated<'a>(
     alloc: Global,

@@ -15,7 +15,7 @@ abbrev pub decreases-add_made : goal.decreases-add_made
 decreases-add_made l = six l.place.levels + 5
 
 abbrev pub decreases-add_index : goal.decreases-add_index
-decreases-add_index l = six l.levels + 3
+decreases-add_index l = six l.place.levels + 3
 
 abbrev pub decreases-add_help_then : goal.decreases-add_help_then
 decreases-add_help_then l = six l.levels + 2

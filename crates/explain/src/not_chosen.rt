@@ -1,0 +1,105 @@
+//! What isn't chosen in a decision that would come: who refuses what stands before it, and what
+//! would do too but stands after it.
+
+use domain_reasons::add_domain;
+use explanation_text::{Item, Items};
+use other_outcomes::{add_later_children, add_taken_pairs};
+use script_story::{Scenario, Story};
+use std::alloc::{AllocError, Global};
+
+/// How many lines are told.
+const MOST: usize = 12;
+
+/// Tells of the domain of an index, which is chosen, why children, places and offers before those
+/// that are chosen aren't, and which later ones would do too. It stands as deep as the decision,
+/// and right after the choice of children if there is one.
+pub(crate) fn add_not_chosen(
+    items: &mut Items,
+    scenario: &Scenario<'_>,
+    story: &Story<'_>,
+    index: usize,
+    depth: usize,
+) -> Result<(), AllocError> {
+    let alloc = items.alloc();
+    let path = story.path(story.root_of(index));
+    let mut section = Items::new(alloc);
+    add_domain(&mut section, scenario.platform, story, index)?;
+    let refused = refused_in(alloc, section.into_list()?)?;
+    let mut later = Items::new(alloc);
+    add_later_children(&mut later, scenario, story, index, path)?;
+    add_taken_pairs(&mut later, scenario, story, index, path)?;
+    let most = MOST.saturating_sub(later.len());
+    add_deeper(items, refused, depth, most)?;
+    add_deeper(items, later, depth, usize::MAX)
+}
+
+/// What is kept of a section.
+#[derive(Drop)]
+struct Kept {
+    items: Items,
+    /// What was chosen, above what is kept next; told only above something.
+    head: Option<Item>,
+    is_open: bool,
+    /// Whether what is next says why there has to be an image.
+    is_on_image: bool,
+}
+
+impl Kept {
+    /// Keeps an item of the section if it stands below a choice, a place or an image.
+    fn take(&mut self, item: Item) {
+        if item.depth < 2 {
+            return self.begin(item);
+        }
+        if !self.is_open || self.is_on_image {
+            self.is_on_image = false;
+            return;
+        }
+        if let Some(head) = self.head.take() {
+            self.items.add(head);
+        }
+        self.items.add(item)
+    }
+
+    /// Begins with an item that others may stand below.
+    fn begin(&mut self, item: Item) {
+        let has_head = item.label == "place" || item.label == "image";
+        self.is_open = has_head || item.label == "choice";
+        self.is_on_image = item.label == "image";
+        self.head = if has_head { Some(item) } else { None };
+    }
+}
+
+/// What the section of a chosen domain tells of children, places and offers that aren't chosen.
+fn refused_in(alloc: Global, section: Vec<Item>) -> Result<Items, AllocError> {
+    let mut kept = Kept {
+        items: Items::new(alloc),
+        head: None,
+        is_open: false,
+        is_on_image: false,
+    };
+    for item in section {
+        kept.take(item);
+    }
+    Ok(kept.items)
+}
+
+/// Puts items of a section so deep that those of depth 1 have this one, at most so many.
+fn add_deeper(
+    items: &mut Items,
+    section: Items,
+    depth: usize,
+    most: usize,
+) -> Result<(), AllocError> {
+    let mut count = 0usize;
+    for mut item in section.into_list()? {
+        count = count.saturating_add(1);
+        if count <= most {
+            item.depth = item.depth.saturating_add(depth).saturating_sub(1);
+            items.add(item);
+        }
+    }
+    if count > most {
+        items.list_text(depth, "", "and more of this");
+    }
+    Ok(())
+}
