@@ -1,35 +1,48 @@
-//! What a script means once each text in it is corrected that nearly is a known one, and once its
-//! calls are moved that stand too early.
+//! What a script means once each text in it is corrected that nearly is a known one, and each number
+//! that is beyond what is allowed; and once its calls are moved that stand too early.
 
 use crate::helping::{LEVELS, add_help_then};
-use domain_reasons::{add_in_short, add_shortly};
+use crate::not_chosen::add_not_chosen;
+use constraint_changes::put_choice;
+use domain_reasons::{add_in_short, add_shortly, choices_in};
 use explanation_text::wording::{mark_after, put_visible};
 use explanation_text::{Item, Items, Kind, TextBuilder, begins_character, line_of};
 use other_outcomes::{list_meant, list_moved};
-use script_faults::{Document, add_fault, has_name_bytes};
+use script_faults::{Document, NumberBeyond, add_fault, has_name_bytes};
 use script_reading::{ParseFault, Script, ScriptFault, parse_script, read_script};
-use script_story::{Became, Effort, Scenario, Story, story_of};
+use script_story::{Became, Domain, Effort, Scenario, Story, story_of};
 use std::alloc::{AllocError, Global};
 use sysmem_counts::Field;
 use sysmem_formats::{Modifier, PixelFormat};
 
-/// A text of the script, by the bytes between its quotes, and the one that it may mean.
+/// What is corrected.
+#[derive(Clone, Copy)]
+enum Part {
+    /// The name of a node.
+    Name,
+    /// Another text.
+    Word,
+    /// A number that is the value of a field.
+    Number(Field),
+}
+
+/// A part of the script, by its bytes, and what it may mean: a text between its quotes, or a number.
 #[derive(Drop)]
-pub(crate) struct MeantText {
+pub(crate) struct Correction {
     start: usize,
     end: usize,
     is: String,
-    /// Whether it is the name of a node.
-    is_name: bool,
+    part: Part,
 }
 
-/// What the faults that are shown may mean; nothing where one of them has no known text near it, or
-/// isn't a plain one in quotes.
+/// What the faults that are shown may mean, of which some are of these numbers; nothing where one
+/// of the others has no known text near it, or isn't a plain one in quotes.
 pub(crate) fn meant_in(
     alloc: Global,
     document: &Document<'_>,
     shown: &[Item],
-) -> Result<Vec<MeantText>, AllocError> {
+    numbers: &[NumberBeyond],
+) -> Result<Vec<Correction>, AllocError> {
     let mut words = TextBuilder::new(alloc);
     put_visible(&mut words, document.file);
     let file = words.done()?;
@@ -38,7 +51,7 @@ pub(crate) fn meant_in(
         if item.kind != Kind::Source {
             continue;
         }
-        match meant_by(alloc, document.bytes, &file, &item.text)? {
+        match meant_by(alloc, document.bytes, &file, &item.text, numbers)? {
             Some(one) => meant.push(one)?,
             None => return Ok(Vec::new(alloc)),
         }
@@ -52,11 +65,37 @@ fn meant_by(
     bytes: &[u8],
     file: &str,
     shown: &str,
-) -> Result<Option<MeantText>, AllocError> {
-    let Some(is) = known_of(shown) else {
+    numbers: &[NumberBeyond],
+) -> Result<Option<Correction>, AllocError> {
+    let Some(at) = place_of(bytes, file, shown) else {
         return Ok(None);
     };
-    let Some(at) = place_of(bytes, file, shown) else {
+    match numbers.iter().find(|number| number.span.start == at) {
+        Some(number) => Ok(Some(number_meant(alloc, *number)?)),
+        None => text_meant(alloc, bytes, at, shown),
+    }
+}
+
+/// The nearest number that is allowed.
+fn number_meant(alloc: Global, number: NumberBeyond) -> Result<Correction, AllocError> {
+    let mut is = TextBuilder::new(alloc);
+    is.put_number(number.nearest);
+    Ok(Correction {
+        start: number.span.start,
+        end: number.span.end,
+        is: is.done()?,
+        part: Part::Number(number.field),
+    })
+}
+
+/// What a text may mean that begins at a byte, and of whose fault this is shown.
+fn text_meant(
+    alloc: Global,
+    bytes: &[u8],
+    at: usize,
+    shown: &str,
+) -> Result<Option<Correction>, AllocError> {
+    let Some(is) = known_of(shown) else {
         return Ok(None);
     };
     let start = at.saturating_add(1);
@@ -65,11 +104,16 @@ fn meant_by(
     if bytes.get(at).copied() != Some(b'"') || bytes.get(end).copied() != Some(b'"') {
         return Ok(None);
     }
-    Ok(Some(MeantText {
+    let part = if is_at_node(shown) {
+        Part::Name
+    } else {
+        Part::Word
+    };
+    Ok(Some(Correction {
         start,
         end,
         is: String::from_str(alloc, is)?,
-        is_name: is_at_node(shown),
+        part,
     }))
 }
 
@@ -151,12 +195,12 @@ fn byte_at(bytes: &[u8], line: usize, column: usize) -> Option<usize> {
     None
 }
 
-/// Tells what the script has once these texts are corrected: its answer, and which calls are
-/// refused then.
+/// Tells what the script has once these are corrected: its answer, which calls are refused then, and
+/// what is chosen.
 pub(crate) fn add_corrected(
     items: &mut Items,
     document: &Document<'_>,
-    meant: &[MeantText],
+    meant: &[Correction],
     effort: Option<&Effort>,
 ) -> Result<(), AllocError> {
     if meant.is_empty() {
@@ -168,11 +212,11 @@ pub(crate) fn add_corrected(
     }
 }
 
-/// Tells what the script has with these bytes, in which some texts are corrected.
+/// Tells what the script has with these bytes, in which some are corrected.
 fn add_bytes(
     items: &mut Items,
     document: &Document<'_>,
-    meant: &[MeantText],
+    meant: &[Correction],
     bytes: &[u8],
     effort: Option<&Effort>,
 ) -> Result<(), AllocError> {
@@ -185,15 +229,15 @@ fn add_bytes(
                 value: &value,
                 whole: document.whole,
             };
-            add_answer(items, &other, effort)
+            add_answer(items, &other, effort, true)
         }
         Err(ParseFault::NoMemory) => Err(AllocError),
         Err(ParseFault::Refused(_)) => Ok(()),
     }
 }
 
-/// Tells which texts are corrected.
-fn add_meant(items: &mut Items, bytes: &[u8], meant: &[MeantText]) {
+/// Tells what is corrected.
+fn add_meant(items: &mut Items, bytes: &[u8], meant: &[Correction]) {
     let mut words = TextBuilder::of(items.alloc(), "with ");
     put_meant(&mut words, bytes, meant);
     words.put(" the script has:");
@@ -204,7 +248,7 @@ fn add_meant(items: &mut Items, bytes: &[u8], meant: &[MeantText]) {
 fn corrected(
     alloc: Global,
     bytes: &[u8],
-    meant: &[MeantText],
+    meant: &[Correction],
 ) -> Result<Option<Vec<u8>>, AllocError> {
     let mut made = Vec::new(alloc);
     let mut from = 0usize;
@@ -221,7 +265,7 @@ fn corrected(
 }
 
 /// Puts what stands in the place of what after a text: `vulkan in the place of gpu (line 13)`.
-fn put_meant(text: &mut TextBuilder, bytes: &[u8], meant: &[MeantText]) {
+fn put_meant(text: &mut TextBuilder, bytes: &[u8], meant: &[Correction]) {
     for (k, one) in meant.iter().enumerate() {
         put_one(text, bytes, one);
         text.put(mark_after(k, meant.len()));
@@ -241,12 +285,16 @@ fn put_known(text: &mut TextBuilder, word: &str) {
     }
 }
 
-fn put_one(text: &mut TextBuilder, bytes: &[u8], one: &MeantText) {
+fn put_one(text: &mut TextBuilder, bytes: &[u8], one: &Correction) {
     let line = line_of(bytes, one.start.min(bytes.len()));
-    if one.is_name {
-        text.put(&one.is);
-    } else {
-        put_known(text, &one.is);
+    match one.part {
+        Part::Name => {
+            text.put(&one.is);
+        }
+        Part::Word => put_known(text, &one.is),
+        Part::Number(field) => {
+            text.field(field).put(" ").put(&one.is);
+        }
     }
     text.put(" in the place of ");
     let was = bytes.get(one.start..one.end).unwrap_or(&[]);
@@ -274,10 +322,11 @@ pub(crate) fn add_called_otherwise(
         value: &value,
         whole: document.whole,
     };
-    add_answer(items, &other, Some(scenario.effort))
+    add_answer(items, &other, Some(scenario.effort), true)
 }
 
-/// Tells what the script has once the calls are moved that stand too early, if some do.
+/// Tells what the script has once the calls are moved that stand too early, if some do. What is
+/// chosen then stands with a domain that waits.
 fn add_moved(
     items: &mut Items,
     document: &Document<'_>,
@@ -293,23 +342,29 @@ fn add_moved(
         value: &value,
         whole: document.whole,
     };
-    add_answer(items, &other, Some(scenario.effort))
+    let is_told = !story
+        .domains
+        .iter()
+        .any(|domain| domain.became == Became::Pending);
+    add_answer(items, &other, Some(scenario.effort), is_told)
 }
 
-/// Tells the answer of a script, which of its calls are refused, and what would help its domains; or
-/// that it is refused itself. What is tried costs of this, or as much as of a script by itself.
+/// Tells the answer of a script, which of its calls are refused, what would help its domains, and if
+/// it is to be told what is chosen; or that it is refused itself. What is tried costs of this, or as
+/// much as of a script by itself.
 fn add_answer(
     items: &mut Items,
     document: &Document<'_>,
     effort: Option<&Effort>,
+    is_told: bool,
 ) -> Result<(), AllocError> {
     let alloc = items.alloc();
     match read_script(alloc, document.value) {
         Ok(script) => match effort {
-            Some(effort) => add_script(items, document, &script, effort),
+            Some(effort) => add_script(items, document, &script, effort, is_told),
             None => {
                 let effort = Effort::new(alloc, &script.platform, &script.calls)?;
-                add_script(items, document, &script, &effort)
+                add_script(items, document, &script, &effort, is_told)
             }
         },
         Err(ParseFault::NoMemory) => Err(AllocError),
@@ -317,13 +372,14 @@ fn add_answer(
     }
 }
 
-/// Tells the answer of a script that isn't refused, which of its calls are, and what would help its
-/// domains.
+/// Tells the answer of a script that isn't refused, which of its calls are, what would help its
+/// domains, and if it is to be told what is chosen.
 fn add_script<'a>(
     items: &mut Items,
     document: &Document<'a>,
     script: &Script<'a>,
     effort: &Effort,
+    is_told: bool,
 ) -> Result<(), AllocError> {
     let alloc = items.alloc();
     let scenario = Scenario {
@@ -337,17 +393,23 @@ fn add_script<'a>(
     }
     let story = story_of(alloc, document.value, &script.calls, &told)?;
     add_in_short(items, &story)?;
-    add_domains_then(items, document, &scenario, &story)
+    add_domains_then(items, document, &scenario, &story, is_told)
 }
 
-/// Tells why each domain has no settings, or none with an earlier child, and what would help.
+/// Tells why each domain has no settings, or none with an earlier child, and what would help; and if
+/// it is to be told what is chosen.
 fn add_domains_then(
     items: &mut Items,
     document: &Document<'_>,
     scenario: &Scenario<'_>,
     story: &Story<'_>,
+    is_told: bool,
 ) -> Result<(), AllocError> {
     for (index, domain) in story.domains.iter().enumerate() {
+        if is_told && domain.became == Became::Chosen {
+            add_chosen(items, scenario, story, index, domain)?;
+            continue;
+        }
         add_shortly(items, scenario.platform, story, index)?;
         if domain.became != Became::Chosen && !scenario.effort.is_spent() {
             let levels = LEVELS.saturating_sub(1);
@@ -355,6 +417,29 @@ fn add_domains_then(
         }
     }
     Ok(())
+}
+
+/// Tells what is chosen in the initial domain, and what isn't: an attached one has its settings.
+fn add_chosen(
+    items: &mut Items,
+    scenario: &Scenario<'_>,
+    story: &Story<'_>,
+    index: usize,
+    domain: &Domain,
+) -> Result<(), AllocError> {
+    if domain.host.is_some() {
+        return Ok(());
+    }
+    let alloc = items.alloc();
+    let mut told = Items::new(alloc);
+    domain.told.tell(&mut told, 2);
+    for mut item in told.into_list()? {
+        item.label = "->";
+        items.add(item);
+    }
+    let choice = choices_in(alloc, story, domain.root, domain.told.selection())?;
+    put_choice(items, 2, choice);
+    add_not_chosen(items, scenario, story, index, 2)
 }
 
 /// Tells that a script is refused, and for what.

@@ -12,10 +12,11 @@ use crate::lines::with_lines;
 use crate::page::page_of_scene;
 use domain_reasons::answer_of;
 use explanation_text::{
-    Item, Items, Kind, Span, TextBuilder, column_of, line_of, repeated_keys, text_of,
+    Item, Items, Kind, Span, Step, TextBuilder, column_of, line_of, repeated_keys, text_of,
 };
-use script_faults::{Document, Whole, add_fault, add_no_json};
+use script_faults::{Document, NumberBeyond, Whole, add_fault, add_no_json, number_beyond};
 use script_reading::{ParseFault, Script, ScriptFault, parse_script, read_script};
+use script_replay::Reply;
 use script_story::{Became, Effort, Scenario, Story, list_refused, refused_calls, story_of};
 use serde_json::Value;
 use std::alloc::{AllocError, Global};
@@ -212,7 +213,7 @@ fn fault_items(
     let mut told = Items::new(alloc);
     add_fault(&mut told, document, fault)?;
     let told = told.into_list()?;
-    let meant = meant_in(alloc, document, &told)?;
+    let meant = meant_in(alloc, document, &told, &[])?;
     let mut items = with_repeats(alloc, document, told)?;
     add_corrected(&mut items, document, &meant, None)?;
     Ok(items)
@@ -318,7 +319,7 @@ fn add_untold(items: &mut Items, effort: &Effort) {
 }
 
 /// Tells which calls were refused, and what comes once the texts in them are corrected that nearly
-/// are known ones.
+/// are known ones, and the numbers that are beyond what is allowed.
 fn add_calls(
     items: &mut Items,
     document: &Document<'_>,
@@ -328,11 +329,34 @@ fn add_calls(
     let mut refused = Items::new(items.alloc());
     list_refused(&mut refused, document, story)?;
     let refused = refused.into_list()?;
-    let meant = meant_in(items.alloc(), document, &refused)?;
+    let numbers = numbers_in(items.alloc(), document, story)?;
+    let meant = meant_in(items.alloc(), document, &refused, &numbers)?;
     for item in refused {
         items.add(item);
     }
     add_corrected(items, document, &meant, Some(effort))
+}
+
+/// The numbers that are beyond what is allowed in the constraints of calls that are refused so.
+fn numbers_in(
+    alloc: Global,
+    document: &Document<'_>,
+    story: &Story<'_>,
+) -> Result<Vec<NumberBeyond>, AllocError> {
+    let mut numbers = Vec::new(alloc);
+    for (place, call) in story.calls.iter().enumerate() {
+        let base = [
+            Step::Key("calls"),
+            Step::Item(place),
+            Step::Key("constraints"),
+        ];
+        if let Reply::Misread(fault) = call.reply
+            && let Some(number) = number_beyond(alloc, document, &base, fault)?
+        {
+            numbers.push(number)?;
+        }
+    }
+    Ok(numbers)
 }
 
 fn outcome_of(story: &Story<'_>) -> Outcome {

@@ -60,7 +60,7 @@ pub fn add_record_fault<'a>(
 }
 
 /// The path from the whole to the value that the first fault of the record at a path is about.
-fn path_of<'a>(
+pub(crate) fn path_of<'a>(
     alloc: Global,
     base: &[Step<'a>],
     record: &Value,
@@ -180,7 +180,7 @@ fn add_key(
 }
 
 /// The side of a size that isn't within bounds: the height where the width is.
-fn wrong_side(size: &Value, least: u64, most: u64) -> &'static str {
+pub(crate) fn wrong_side(size: &Value, least: u64, most: u64) -> &'static str {
     match size.get("width") {
         Some(width) if is_number_within(width, least, most) => "height",
         _ => "width",
