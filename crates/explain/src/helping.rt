@@ -10,7 +10,7 @@ use domain_reasons::{add_domain, choices_in};
 use explanation_text::{Items, Kind};
 use other_outcomes::{
     Otherwise, add_ended_earlier, add_groups_exchanged, add_later_children, add_later_pairs,
-    add_then, add_without, reordered,
+    add_released, add_then, add_without, reordered,
 };
 use script_faults::Document;
 use script_story::{Became, Domain, Scenario, Story, story_of};
@@ -61,6 +61,10 @@ pub(crate) fn list_help(
             add_further(items, document, scenario, then, place)
         }
         Became::Empty => add_edits(items, document, scenario, story, index),
+        Became::Failed => {
+            let then = add_released(items, scenario, story, index, path)?;
+            add_further(items, document, scenario, then, place)
+        }
         Became::Chosen => {
             let levels = if levels > 0 { 1 } else { 0 };
             let once = Place { levels, ..place };
