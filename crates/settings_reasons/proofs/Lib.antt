@@ -1,1 +1,2 @@
+pub mod Misfits
 pub mod Participants

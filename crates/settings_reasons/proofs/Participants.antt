@@ -1,15 +1,18 @@
 -- One more participant of a list.
-use Rattle.std.proofs.Common.{◌≡◌, ◌==◌, ℕ, ◌+◌, ◌<◌, Bool, true, false, cond, not, arith, filter, filter_map, List, [], ◌∷◌, ◌++◌, length, get_or, take, map, All, Contains, Option, Some, None, is_some, IfNone, Result, Ok, Err, IfErr, IsTrue, sym, ap, subst, ◌∙◌}
+use Rattle.std.proofs.Common.{◌≡◌, ◌==◌, ℕ, ◌+◌, ◌<◌, Bool, true, false, cond, not, arith, filter, filter_map, List, [], ◌∷◌, ◌++◌, length, get_or, take, map, All, Contains, Option, Some, None, is_some, IfNone, Result, Ok, Err, IfErr, IfOk, IsTrue, sym, ap, subst, ◌∙◌}
 use Rattle.std.specs.Result.{is_err}
-use Rattle.std.proofs.lemmas.List.{append-nil, length-map, map-append, take_more}
-use Rattle.std.proofs.lemmas.List.Elements.{All-contains_itself, All-filter, All-push, filter-append, filter_map-append}
+use Rattle.std.proofs.lemmas.List.{append-nil, get_or-map, length-map, map-append, take_more}
+use Rattle.std.proofs.lemmas.List.Elements.{All-contains_itself, All-filter, All-map, All-push, All-weaker, filter-append, filter_map-append}
 use Rattle.sysmem_counts.specs.declared.field.Field.{Field}
 use Rattle.sysmem_counts.specs.declared.usage.Usage.{Usage}
 use Rattle.sysmem_memory.specs.declared.domain.CoherencyDomain.{CoherencyDomain}
 use Rattle.sysmem_memory.specs.Heap.{HeapFacts}
 use Rattle.sysmem_memory.specs.PlaceTable.{PlaceDemand}
 use Rattle.sysmem_memory.specs.Wishes.{MemoryWishes}
-use Rattle.sysmem_merge.specs.Best.{IsUnmet}
+use Rattle.sysmem_merge.specs.Best.{IsBest, IsUnmet}
+use Rattle.sysmem_merge.specs.Settings.{MeetsAs}
+use Rattle.sysmem_merge.specs.declared.reason.Reason.{Reason}
+use Rattle.sysmem_merge.specs.declared.settings.Settings.{Settings}
 use Rattle.offer_fits.specs.Demands.{place_demand, place_demands}
 use Rattle.negotiation_inputs.specs.Participant.{Participant}
 use Rattle.negotiation_inputs.specs.Platform.{PlatformFacts}
@@ -53,21 +56,36 @@ pub err_means : {A E : Type 0} (r : Result A E) (P : Type 0) (b : Bool) → b �
 err_means (Err e) P b same holds is = holds
 err_means (Ok x) P b same holds is = absurd (cc)
 
+-- where the best settings were found, these meet the participants
+pub ok_met : (r : Result Settings Reason) (platform : PlatformFacts) (ps : List Participant) (b : Bool) → b ≡ is_err r → IfOk r (IsBest false platform ps) → IsTrue (not b) → (s : Settings) × MeetsAs false platform ps s
+ok_met (Ok s) platform ps b same best isnt = (s, best.meets)
+ok_met (Err e) platform ps b same best isnt = let other : not b ≡ false = ap not same in absurd (cc)
+
 -- the same participants are in the way
 pub same_in_the_way : (platform : PlatformFacts) (participants some other : List NamedParticipant) → other ≡ some → AreInTheWay platform participants some → AreInTheWay platform participants other
 same_in_the_way platform participants some other same way = subst (AreInTheWay platform participants) (sym same) way
 
 -- all are in the way, where no settings meet them
-pub all_in_the_way : (platform : PlatformFacts) (participants kept : List NamedParticipant) → kept ≡ participants → IsUnmet false platform (all_asked participants) → AreInTheWay platform participants kept
-all_in_the_way platform participants kept same unmet = same_in_the_way platform participants participants kept same (record { unmet = unmet; among = All-contains_itself participants })
+pub all_in_the_way : (platform : PlatformFacts) (participants kept : List NamedParticipant) → kept ≡ participants → 0 < length participants → IsUnmet false platform (all_asked participants) → AreInTheWay platform participants kept
+all_in_the_way platform participants kept same some unmet = same_in_the_way platform participants participants kept same (record { some = some; unmet = unmet; among = All-contains_itself participants })
 
 -- so are those without one, where no settings meet these
 pub fewer_in_the_way : (platform : PlatformFacts) (participants : List NamedParticipant) (node : ℕ) (kept these rest those : List NamedParticipant) → these ≡ kept → rest ≡ filter (λ one. not (one.node == node)) these → those ≡ rest
-    → AreInTheWay platform participants kept → IsUnmet false platform (all_asked those) → AreInTheWay platform participants rest
-fewer_in_the_way platform participants node kept these rest those same left same' way unmet = record {
+    → AreInTheWay platform participants kept → 0 < length those → IsUnmet false platform (all_asked those) → AreInTheWay platform participants rest
+fewer_in_the_way platform participants node kept these rest those same left same' way some unmet = record {
+  some = subst (λ ps. 0 < length ps) same' some;
   unmet = subst (λ ps. IsUnmet false platform (all_asked ps)) same' unmet;
   among = subst (All (Contains participants)) (sym (left ∙ ap (filter (λ one. not (one.node == node))) same)) (All-filter (λ one. not (one.node == node)) (Contains participants) kept way.among);
 }
+
+-- an item of a list is read among what is read of it
+Contains-map : {X Y : Type 0} (f : X → Y) (xs : List X) (x : X) → Contains xs x → Contains (map f xs) (f x)
+Contains-map f xs x there = (there.0, subst (λ n. there.0 < n) (sym (length-map xs f)) there.1, get_or-map f xs there.0 x (f x) there.1 ∙ ap f there.2)
+
+-- those who are in the way are among all who are asked
+pub asked_among : (participants those : List NamedParticipant) → All (Contains participants) those → All (Contains (all_asked participants)) (all_asked those)
+asked_among participants those among =
+    All-map (Contains (all_asked participants)) (λ o. o.asked.now) those (All-weaker (Contains participants) (λ o. Contains (all_asked participants) o.asked.now) (λ o here. Contains-map (λ (o : NamedParticipant). o.asked.now) participants o here) those among)
 
 -- one more who is asked, and passes a test or not
 filter_asked : (test : Participant → Bool) (participants : List NamedParticipant) (i : ℕ) (one : NamedParticipant) (b : Bool) → i < length participants → one ≡ get_or participants i one → test one.asked.now ≡ b

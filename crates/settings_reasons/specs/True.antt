@@ -1,5 +1,5 @@
 -- When a reason is true of the participants whom it names.
-use Rattle.std.specs.Prelude.{◌≡◌, ◌<◌, ℕ, Bool, true, false, List, [], ◌∷◌, All, Contains}
+use Rattle.std.specs.Prelude.{◌≡◌, ◌<◌, ◌≤◌, ℕ, Bool, true, false, List, [], ◌∷◌, All, Contains}
 use Rattle.std.specs.Prelude.{Option, Some, None, filter, filter_map, length}
 use Rattle.sysmem_counts.specs.declared.field.Field.{Field}
 use Rattle.sysmem_formats.specs.declared.offer.Offer.{Offer}
@@ -7,6 +7,7 @@ use Rattle.sysmem_memory.specs.declared.domain.CoherencyDomain.{CoherencyDomain}
 use Rattle.sysmem_memory.specs.Heap.{HeapFacts}
 use Rattle.sysmem_memory.specs.PlaceTable.{place_fields, refuses_by}
 use Rattle.sysmem_merge.specs.Best.{IsUnmet}
+use Rattle.sysmem_merge.specs.Settings.{MeetsAs}
 use Rattle.offer_fits.specs.Demands.{offer_demand, offer_demands}
 use Rattle.offer_fits.specs.Offers.{has_format, has_colour}
 use Rattle.sysmem_merge.specs.OfferRead.{IsRefusingLine}
@@ -105,8 +106,25 @@ pub record Unmet : Type 0 where
   pub platform : PlatformFacts
   pub participants : List Participant
 
--- some of the participants, whom no settings meet, whatever others ask
+-- there are such participants, and no settings meet them, whatever others ask
+pub record IsInTheWay (u : Unmet) : Type 0 where
+  pub some : 0 < length u.participants
+  pub unmet : IsUnmet false u.platform u.participants
+
+-- they are in the way on this platform, and each of them is one of the participants
+pub record IsAmong (facts : PlatformFacts) (participants : List Participant)
+    (u : Unmet) : Type 0 where
+  pub platform : u.platform ≡ facts
+  pub each : All (Contains participants) u.participants
+
+-- settings of the platform meet the participants, if these are at most as many as are asked
+abbrev pub AreMet : ℕ → PlatformFacts → List Participant → Type 0
+AreMet most platform participants =
+    length participants ≤ most → (s : Settings) × MeetsAs false platform participants s
+
+-- those are some of the participants, and no settings meet them, whatever others ask
 pub record AreInTheWay (platform : PlatformFacts)
-    (participants some : List NamedParticipant) : Type 0 where
-  pub unmet : IsUnmet false platform (all_asked some)
-  pub among : All (Contains participants) some
+    (participants those : List NamedParticipant) : Type 0 where
+  pub some : 0 < length those
+  pub unmet : IsUnmet false platform (all_asked those)
+  pub among : All (Contains participants) those

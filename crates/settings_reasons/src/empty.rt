@@ -1,7 +1,8 @@
 //! Why no settings meet participants.
 
-ghost use Rattle.std.specs.Prelude.{◌≡◌, ◌==◌, false, not, filter, IfOk, IfSome, IsTrue};
-ghost use Rattle.settings_reasons.specs.True.{AreInTheWay};
+ghost use Rattle.std.specs.Prelude.{◌≡◌, ◌==◌, ◌<◌, false, not, filter, length};
+ghost use Rattle.std.specs.Prelude.{IfNone, IfOk, IfSome, IsTrue};
+ghost use Rattle.settings_reasons.specs.True.{AreInTheWay, AreMet};
 ghost use Rattle.sysmem_merge.specs.Best.{IsUnmet};
 ghost use Rattle.value_sources.specs.Sources.{all_asked};
 
@@ -140,7 +141,7 @@ fn none_of(alloc: Global, what: &str, count: usize) -> TextBuilder {
 const MOST_SETS: usize = 3;
 
 /// How many participants may be asked together; a tree has at most 128.
-const MOST_ASKED: usize = 1024;
+pub(crate) const MOST_ASKED: usize = 1024;
 
 /// Whether these participants leave no settings, whatever others ask. False of more than 1,024.
 pub fn is_unmet(
@@ -148,8 +149,10 @@ pub fn is_unmet(
     platform: &Platform,
     participants: &[NamedParticipant<'_>],
 ) -> Result<bool, AllocError>
-    ensures { IfOk result
+    ensures unmet { IfOk result
         (λ unmet. IsTrue unmet → IsUnmet false platform.now (all_asked participants.now)) }
+    ensures met { IfOk result (λ unmet.
+        IsTrue (not unmet) → AreMet MOST_ASKED platform.now (all_asked participants.now)) }
 {
     if participants.len() > MOST_ASKED {
         return Ok(false);
@@ -161,6 +164,24 @@ pub fn is_unmet(
     Ok(asked.best_settings(false).is_err())
 }
 
+/// Whether these participants are some, and leave no settings.
+fn are_some_unmet(
+    alloc: Global,
+    platform: &Platform,
+    participants: &[NamedParticipant<'_>],
+) -> Result<bool, AllocError>
+    ensures some { IfOk result (λ unmet. IsTrue unmet → 0 < length participants.now) }
+    ensures unmet { IfOk result
+        (λ unmet. IsTrue unmet → IsUnmet false platform.now (all_asked participants.now)) }
+    ensures met { IfOk result (λ unmet. IsTrue (not unmet) → 0 < length participants.now
+        → AreMet MOST_ASKED platform.now (all_asked participants.now)) }
+{
+    if participants.is_empty() {
+        return Ok(false);
+    }
+    is_unmet(alloc, platform, participants)
+}
+
 /// Those who leave no settings by themselves, each of whom is needed for that; `None` where all
 /// together leave some.
 pub fn in_the_way<'a>(
@@ -168,16 +189,18 @@ pub fn in_the_way<'a>(
     platform: &Platform,
     participants: &[NamedParticipant<'a>],
 ) -> Result<Option<Vec<NamedParticipant<'a>>>, AllocError>
-    ensures { IfOk result (λ found. IfSome found
-        (λ some. AreInTheWay platform.now participants.now some.items)) }
+    ensures some { IfOk result (λ found. IfSome found
+        (λ those. AreInTheWay platform.now participants.now those.items)) }
+    ensures none { IfOk result (λ found. IfNone found (0 < length participants.now
+        → AreMet MOST_ASKED platform.now (all_asked participants.now))) }
 {
-    if !is_unmet(alloc, platform, participants)? {
+    if !are_some_unmet(alloc, platform, participants)? {
         return Ok(None);
     }
     let mut kept = Vec::from_slice(alloc, participants)?;
     for participant in participants {
         let rest = all_but(alloc, &kept, participant.node)?;
-        if is_unmet(alloc, platform, &rest)? {
+        if are_some_unmet(alloc, platform, &rest)? {
             kept = rest;
         }
     }
@@ -223,7 +246,7 @@ fn put_unmet(text: &mut TextBuilder, unmet: &InTheWay<'_, '_>, others: usize) {
         (1, _) => {
             text.put(" can't be met even by itself");
         }
-        (0, _) | (_, 0) => {}
+        (_, 0) => {}
         (_, 1) => {
             text.put(", whatever the other asks");
         }

@@ -1,11 +1,13 @@
 //! Why the settings that were decided before don't suit those who come late.
 
-ghost use Rattle.std.specs.Prelude.{All, IfOk};
+ghost use Rattle.std.specs.Prelude.{false, [], ◌∷◌, All, Contains, IfOk, IsTrue};
+ghost use Rattle.settings_reasons.specs.True.{IsGround};
+ghost use Rattle.sysmem_memory.specs.PlaceTable.{place_fields};
 ghost use Rattle.sysmem_merge.specs.Failing.{FailsOn};
 
 use crate::amounts::{amount_at, put_amount};
 use crate::misfit::Misfit;
-use crate::offer_reason::OfferReason;
+use crate::offer_reason::{OfferGround, OfferReason};
 use crate::offer_words::{offer_name, put_offer_reason};
 use crate::offering::{are_refused, offers_of};
 use crate::place_reason::PlaceReason;
@@ -167,42 +169,49 @@ pub fn failing(
 /// Puts a sentence on a field in which settings fail a participant into an empty text.
 fn put_misfit(text: &mut TextBuilder, misfit: &Misfit<'_, '_>) {
     match misfit.field() {
-        Field::PixelFormat | Field::ColorSpaces => put_offer(text, misfit),
+        Field::PixelFormat => put_offer(text, misfit, OfferGround::NoEntry),
+        Field::ColorSpaces => put_offer(text, misfit, OfferGround::NoColour),
         Field::MinSizeBytes | Field::MaxSizeBytes => put_size(text, misfit),
-        field if PLACE_FIELDS.contains(&field) => put_heap(text, misfit),
-        _ => put_bound(text, misfit),
+        _ => put_part(text, misfit),
     }
 }
 
-fn put_offer(text: &mut TextBuilder, misfit: &Misfit<'_, '_>) {
-    let alloc = text.alloc();
-    let (settings, one) = (misfit.settings(), [misfit.participant()]);
-    let offer = &settings.offer;
-    let reason = match misfit.field() {
-        Field::PixelFormat => OfferReason::without_entry(alloc, offer, &one, false),
-        _ => OfferReason::without_colour(alloc, offer, &one, false),
-    };
-    match reason {
-        Ok(Some(reason)) => put_offer_reason(text, &reason),
-        Ok(None) => {}
+/// Puts a sentence on a field by which places are refused, or on a bound.
+fn put_part(text: &mut TextBuilder, misfit: &Misfit<'_, '_>) {
+    if is_of_place(misfit.field()) {
+        return put_heap(text, misfit);
+    }
+    put_bound(text, misfit)
+}
+
+/// Whether a field is one by which places are refused.
+fn is_of_place(field: Field) -> bool
+    ensures { IsTrue result → Contains place_fields field }
+{
+    PLACE_FIELDS.contains(&field)
+}
+
+/// Puts a ground against the offer that was decided, which is true of whom a misfit names.
+fn put_offer(text: &mut TextBuilder, misfit: &Misfit<'_, '_>, ground: OfferGround)
+    requires { IsGround misfit.now.settings.offer false (misfit.now.participant ∷ []) ground }
+{
+    match OfferReason::of_misfit(text.alloc(), misfit, ground) {
+        Ok(reason) => put_offer_reason(text, &reason),
         Err(AllocError) => text.refuse(),
     }
-    let holds = offer_name(text.alloc(), offer);
+    let holds = offer_name(text.alloc(), &misfit.settings().offer);
     text.put("; the buffers are ").put_words(&holds);
 }
 
-fn put_heap(text: &mut TextBuilder, misfit: &Misfit<'_, '_>) {
-    let (platform, place) = (misfit.platform(), misfit.settings().place);
-    if let Some(heap) = platform.heaps().get(place.heap) {
-        let (field, one) = (misfit.field(), [misfit.participant()]);
-        match PlaceReason::of(text.alloc(), heap, place.coherency, field, &one) {
-            Ok(Some(reason)) => put_place_reason(text, &reason),
-            Ok(None) => {}
-            Err(AllocError) => text.refuse(),
-        }
+fn put_heap(text: &mut TextBuilder, misfit: &Misfit<'_, '_>)
+    requires { Contains place_fields misfit.now.field }
+{
+    match PlaceReason::of_misfit(text.alloc(), misfit) {
+        Ok(reason) => put_place_reason(text, &reason),
+        Err(AllocError) => text.refuse(),
     }
     text.put(": the buffers lie in ");
-    put_place(text, platform, place)
+    put_place(text, misfit.platform(), misfit.settings().place)
 }
 
 fn put_size(text: &mut TextBuilder, misfit: &Misfit<'_, '_>) {

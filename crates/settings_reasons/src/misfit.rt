@@ -1,11 +1,12 @@
 //! Fields in which the settings that were decided before fail those who come late.
 
-ghost use Rattle.std.specs.Prelude.{◌≡◌, IfNone, IfSome};
+ghost use Rattle.std.specs.Prelude.{◌≡◌, IfNone, IfSome, Some, slice_get};
 ghost use Rattle.sysmem_merge.specs.Failing.{FailsOn};
 
 use negotiation_inputs::Platform;
 use std::marker::Model;
 use sysmem_counts::Field;
+use sysmem_memory::HeapInfo;
 use sysmem_merge::{Settings, fails_in};
 use value_sources::NamedParticipant;
 
@@ -77,6 +78,14 @@ impl<'a, 'b> Misfit<'a, 'b> {
         self.settings
     }
 
+    /// The heap in which the buffers lie.
+    pub(crate) fn heap(&self) -> &'b HeapInfo
+        ensures { slice_get self.now.platform.heaps self.now.settings.place.heap
+            ≡ Some result.now }
+    {
+        &self.platform.heaps()[self.settings.place.heap]
+    }
+
     /// Whom they fail.
     pub(crate) fn participant(&self) -> NamedParticipant<'a>
         ensures { result.asked.now ≡ self.now.participant }
@@ -86,7 +95,8 @@ impl<'a, 'b> Misfit<'a, 'b> {
 
     /// In which field.
     pub(crate) fn field(&self) -> Field
-        ensures { result ≡ self.now.field }
+        ensures field { result ≡ self.now.field }
+        ensures fails { FailsOn result self.now.platform self.now.settings self.now.participant }
     {
         self.field
     }

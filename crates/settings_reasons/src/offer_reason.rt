@@ -1,12 +1,13 @@
 //! Reasons against an offer.
 
-ghost use Rattle.std.specs.Prelude.{◌≡◌, All, IfOk, IfSome, IsTrue, List};
-ghost use Rattle.settings_reasons.specs.True.{IsAgainst, LacksColour, LacksEntry};
+ghost use Rattle.std.specs.Prelude.{◌≡◌, false, [], ◌∷◌, All, IfOk, IfSome, IsTrue, List};
+ghost use Rattle.settings_reasons.specs.True.{IsAgainst, IsGround, LacksColour, LacksEntry};
 ghost use Rattle.sysmem_formats.specs.declared.offer.Offer.{Offer as Offered};
 ghost use Rattle.offer_fits.specs.Demands.{OfferDemand, offer_demands};
 ghost use Rattle.sysmem_merge.specs.OfferRead.{IsOfferRead, IsRefusingLine};
 ghost use Rattle.value_sources.specs.Sources.{all_asked};
 
+use crate::misfit::Misfit;
 use crate::offering::read_of;
 use std::alloc::{AllocError, Global};
 use std::marker::Model;
@@ -114,6 +115,22 @@ impl<'a> OfferReason<'a> {
             ground: OfferGround::NoColour,
             participants,
         }))
+    }
+
+    /// A ground against the offer that was decided, which is true of whom a misfit names.
+    pub(crate) fn of_misfit(
+        alloc: Global,
+        misfit: &Misfit<'a, '_>,
+        ground: OfferGround,
+    ) -> Result<OfferReason<'a>, AllocError>
+        requires { IsGround misfit.now.settings.offer false (misfit.now.participant ∷ []) ground }
+    {
+        Ok(OfferReason {
+            offer: misfit.settings().offer,
+            whole: false,
+            ground,
+            participants: vec![in alloc; misfit.participant()]?,
+        })
     }
 
     /// A line with all participants, of whom this was read; `None` where it isn't true of them. One

@@ -1,9 +1,11 @@
 //! Reasons against a place.
 
-ghost use Rattle.std.specs.Prelude.{◌≡◌, IfOk, filter};
+ghost use Rattle.std.specs.Prelude.{◌≡◌, Contains, IfOk, filter};
 ghost use Rattle.settings_reasons.specs.True.{place_reason, place_reasons, refuses};
+ghost use Rattle.sysmem_memory.specs.PlaceTable.{place_fields};
 ghost use Rattle.value_sources.specs.Sources.{all_asked};
 
+use crate::misfit::Misfit;
 use std::alloc::{AllocError, Global};
 use std::marker::Model;
 use sysmem_counts::Field;
@@ -63,6 +65,21 @@ impl<'a, 'b> PlaceReason<'a, 'b> {
             field,
             participants,
         }))
+    }
+
+    /// The field of a misfit, if it is one by which places are refused, with whom it names.
+    pub(crate) fn of_misfit(
+        alloc: Global,
+        misfit: &Misfit<'a, 'b>,
+    ) -> Result<PlaceReason<'a, 'b>, AllocError>
+        requires { Contains place_fields misfit.now.field }
+    {
+        Ok(PlaceReason {
+            heap: misfit.heap(),
+            coherency: misfit.settings().place.coherency,
+            field: misfit.field(),
+            participants: vec![in alloc; misfit.participant()]?,
+        })
     }
 
     /// The field.

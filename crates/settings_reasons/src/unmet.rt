@@ -1,15 +1,16 @@
 //! Participants who leave no settings by themselves.
 
-ghost use Rattle.std.specs.Prelude.{◌≡◌};
+ghost use Rattle.std.specs.Prelude.{◌≡◌, ◌<◌, IfNone, IfOk, IfSome, length};
+ghost use Rattle.settings_reasons.specs.True.{AreMet, IsAmong};
 ghost use Rattle.value_sources.specs.Sources.{all_asked};
 
-use crate::empty::in_the_way;
+use crate::empty::{MOST_ASKED, in_the_way};
 use negotiation_inputs::Platform;
 use std::alloc::{AllocError, Global};
 use std::marker::Model;
 use value_sources::NamedParticipant;
 
-/// Participants whom no settings of a platform meet, whatever others ask.
+/// Participants whom no settings of a platform meet, whatever others ask. They are some.
 #[derive(Drop)]
 pub(crate) struct InTheWay<'a, 'b> {
     platform: &'b Platform,
@@ -17,9 +18,7 @@ pub(crate) struct InTheWay<'a, 'b> {
 }
 
 impl<'a, 'b> Model for InTheWay<'a, 'b> {
-    ghost use Rattle.std.specs.Prelude.{false};
-    ghost use Rattle.settings_reasons.specs.True.{Unmet};
-    ghost use Rattle.sysmem_merge.specs.Best.{IsUnmet};
+    ghost use Rattle.settings_reasons.specs.True.{IsInTheWay, Unmet};
     ghost use Rattle.value_sources.specs.Sources.{all_asked};
 
     ghost Value = { Unmet };
@@ -29,7 +28,10 @@ impl<'a, 'b> Model for InTheWay<'a, 'b> {
       participants = all_asked u.participants.items;
     } };
 
-    ghost invariant = { λ u. IsUnmet false u.platform.now (all_asked u.participants.items) };
+    ghost invariant = { λ u. IsInTheWay (record {
+      platform = u.platform.now;
+      participants = all_asked u.participants.items;
+    }) };
 }
 
 impl<'a, 'b> InTheWay<'a, 'b> {
@@ -39,7 +41,12 @@ impl<'a, 'b> InTheWay<'a, 'b> {
         alloc: Global,
         platform: &'b Platform,
         participants: &[NamedParticipant<'a>],
-    ) -> Result<Option<InTheWay<'a, 'b>>, AllocError> {
+    ) -> Result<Option<InTheWay<'a, 'b>>, AllocError>
+        ensures some { IfOk result
+            (λ found. IfSome found (IsAmong platform.now (all_asked participants.now))) }
+        ensures none { IfOk result (λ found. IfNone found (0 < length participants.now
+            → AreMet MOST_ASKED platform.now (all_asked participants.now))) }
+    {
         match in_the_way(alloc, platform, participants)? {
             Some(participants) => Ok(Some(InTheWay {
                 platform,
