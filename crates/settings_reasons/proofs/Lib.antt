@@ -1,2 +1,3 @@
 pub mod Misfits
+pub mod Offers
 pub mod Participants

@@ -1,5 +1,5 @@
 -- What a misfit says of an offer and of a place.
-use Rattle.std.proofs.Common.{◌≡◌, ◌⊎◌, inl, inr, Bool, true, false, List, [], ◌∷◌, All, Contains, Option, Some, None, IsSomeAnd, slice_get, refl, sym, subst, ◌∙◌, arith}
+use Rattle.std.proofs.Common.{◌≡◌, ◌⊎◌, inl, inr, Bool, true, false, not, List, [], ◌∷◌, All, Contains, Option, Some, None, IsSomeAnd, slice_get, refl, sym, ap, subst, ◌∙◌, arith}
 use Rattle.std.proofs.lemmas.List.Elements.{All-nil, All-cons, All-contains}
 use Rattle.std.proofs.lemmas.Option.{same_Some}
 use Rattle.sysmem_counts.specs.declared.field.Field.{Field}
@@ -12,12 +12,12 @@ use Rattle.sysmem_memory.specs.declared.domain.CoherencyDomain.{CoherencyDomain}
 use Rattle.sysmem_memory.specs.Heap.{HeapFacts}
 use Rattle.sysmem_memory.specs.PlaceTable.{place_fields, refuses_by}
 use Rattle.offer_fits.specs.Demands.{offer_demand}
-use Rattle.offer_fits.specs.Offers.{entry_bounds}
+use Rattle.offer_fits.specs.Offers.{entry_bounds, has_colour, has_format}
 use Rattle.sysmem_merge.specs.Failing.{FailsIn, FailsOn}
 use Rattle.sysmem_merge.specs.declared.settings.Settings.{Settings}
 use Rattle.negotiation_inputs.specs.Participant.{Participant}
 use Rattle.negotiation_inputs.specs.Platform.{PlatformFacts}
-use Rattle.settings_reasons.specs.True.{AllOfSome, IsPlaceReason, LacksColour, LacksEntry, refuses}
+use Rattle.settings_reasons.specs.True.{AllOfSome, IsPlaceReason, lacks_colour, lacks_entry, refuses}
 
 -- whether it is a field by which places are refused
 abbrev is_of_place : Field → Bool
@@ -88,9 +88,13 @@ misfit_place platform s p field heap domain asked there alone has place fails =
     (one_of_whom (λ one. refuses field heap domain one ≡ true) p (subst (λ d. refuses field heap d p ≡ true) (sym there) refused))
 
 -- a misfit in the format is a reason against the offer
-pub misfit_format : (platform : PlatformFacts) (s : Settings) (p : Participant) (field : Field) → field ≡ PixelFormat → FailsOn field platform s p → AllOfSome (LacksEntry s.offer) (p ∷ [])
-misfit_format platform s p field same fails = one_of_whom (LacksEntry s.offer) p (subst (λ f. FailsIn f fails.heap s p) same fails.fails)
+pub misfit_format : (platform : PlatformFacts) (s : Settings) (p : Participant) (field : Field) → field ≡ PixelFormat → FailsOn field platform s p → AllOfSome (λ one. lacks_entry s.offer one ≡ true) (p ∷ [])
+misfit_format platform s p field same fails =
+    let misses : has_format s.offer (offer_demand p) ≡ false = subst (λ f. FailsIn f fails.heap s p) same fails.fails in
+    one_of_whom (λ one. lacks_entry s.offer one ≡ true) p (ap not misses)
 
 -- so is one in the colour space
-pub misfit_colour : (platform : PlatformFacts) (s : Settings) (p : Participant) (field : Field) → field ≡ ColorSpaces → FailsOn field platform s p → AllOfSome (LacksColour s.offer) (p ∷ [])
-misfit_colour platform s p field same fails = one_of_whom (LacksColour s.offer) p (subst (λ f. FailsIn f fails.heap s p) same fails.fails)
+pub misfit_colour : (platform : PlatformFacts) (s : Settings) (p : Participant) (field : Field) → field ≡ ColorSpaces → FailsOn field platform s p → AllOfSome (λ one. lacks_colour s.offer one ≡ true) (p ∷ [])
+misfit_colour platform s p field same fails =
+    let misses : has_colour s.offer (offer_demand p) ≡ false = subst (λ f. FailsIn f fails.heap s p) same fails.fails in
+    one_of_whom (λ one. lacks_colour s.offer one ≡ true) p (ap not misses)

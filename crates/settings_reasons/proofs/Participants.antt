@@ -2,7 +2,7 @@
 use Rattle.std.proofs.Common.{◌≡◌, ◌==◌, ℕ, ◌+◌, ◌<◌, Bool, true, false, cond, not, arith, filter, filter_map, List, [], ◌∷◌, ◌++◌, length, get_or, take, map, All, Contains, Option, Some, None, is_some, IfNone, Result, Ok, Err, IfErr, IfOk, IsTrue, sym, ap, subst, ◌∙◌}
 use Rattle.std.specs.Result.{is_err}
 use Rattle.std.proofs.lemmas.List.{append-nil, get_or-map, length-map, map-append, take_more}
-use Rattle.std.proofs.lemmas.List.Elements.{All-contains_itself, All-filter, All-map, All-push, All-weaker, filter-append, filter_map-append}
+use Rattle.std.proofs.lemmas.List.Elements.{All-contains_itself, All-filter, All-map, All-weaker, filter-append, filter_map-append}
 use Rattle.sysmem_counts.specs.declared.field.Field.{Field}
 use Rattle.sysmem_counts.specs.declared.usage.Usage.{Usage}
 use Rattle.sysmem_memory.specs.declared.domain.CoherencyDomain.{CoherencyDomain}
@@ -109,11 +109,6 @@ pub one_left : (test : Participant → Bool) (participants those : List NamedPar
     → all_asked those ≡ filter test (all_asked (take i participants)) → all_asked those ≡ filter test (all_asked (take (i + 1) participants))
 one_left test participants those i one there is passes kept =
     kept ∙ (sym (append-nil (filter test (all_asked (take i participants)))) ∙ filter_asked test participants i one false there is passes)
-
--- one more of whom something is true
-pub one_true : (P : Participant → Type 0) (those more : List NamedParticipant) (one : NamedParticipant) → more ≡ those ++ one ∷ [] → All P (all_asked those) → P one.asked.now → All P (all_asked more)
-one_true P those more one pushed all here =
-    subst (All P) (sym (asked_push those more one pushed)) (All-push P (all_asked those) one.asked.now all here)
 
 -- a list that isn't empty asks something
 pub some_asked : (those : List NamedParticipant) → 0 < length those → 0 < length (all_asked those)

@@ -1,8 +1,13 @@
 -- When a reason is true of the participants whom it names.
-use Rattle.std.specs.Prelude.{◌≡◌, ◌<◌, ◌≤◌, ℕ, Bool, true, false, List, [], ◌∷◌, All, Contains}
-use Rattle.std.specs.Prelude.{Option, Some, None, filter, filter_map, length}
+use Rattle.std.specs.Prelude.{◌≡◌, ◌⊎◌, ◌<◌, ◌≤◌, ℕ, Bool, true, false, not}
+use Rattle.std.specs.Prelude.{List, [], ◌∷◌, ◌++◌, All, Contains, filter, filter_map, length}
+use Rattle.std.specs.Prelude.{Option, Some, None, option_to_list}
 use Rattle.sysmem_counts.specs.declared.field.Field.{Field}
+use Rattle.sysmem_counts.specs.declared.field.Field.TheVariants.{MaxSizeBytes, UnnamedPixelFormat}
+use Rattle.sysmem_counts.specs.declared.field.Field.TheVariants.{UnnamedPixelFormatModifier}
+use Rattle.sysmem_counts.specs.declared.field.Field.TheVariants.{UnnamedColorSpace}
 use Rattle.sysmem_formats.specs.declared.offer.Offer.{Offer}
+use Rattle.sysmem_image.specs.Lines.{bounds_lines}
 use Rattle.sysmem_memory.specs.declared.domain.CoherencyDomain.{CoherencyDomain}
 use Rattle.sysmem_memory.specs.Heap.{HeapFacts}
 use Rattle.sysmem_memory.specs.PlaceTable.{place_fields, refuses_by}
@@ -69,30 +74,98 @@ pub record OfferRefusal : Type 0 where
   pub ground : OfferGround
   pub participants : List Participant
 
--- the participant has entries, and none for the offer
-abbrev pub LacksEntry : Offer → Participant → Type 0
-LacksEntry offer one = has_format offer (offer_demand one) ≡ false
+-- whether the participant has entries, and none for the offer
+abbrev pub lacks_entry : Offer → Participant → Bool
+lacks_entry offer one = not (has_format offer (offer_demand one))
 
--- the participant's entry for the offer doesn't take its colour space
-abbrev pub LacksColour : Offer → Participant → Type 0
-LacksColour offer one = has_colour offer (offer_demand one) ≡ false
+-- whether the participant's entry for the offer doesn't take its colour space
+abbrev pub lacks_colour : Offer → Participant → Bool
+lacks_colour offer one = not (has_colour offer (offer_demand one))
+
+-- the line of the conflict table is true of the participants together
+abbrev pub IsTrueLine : Offer → Bool → List Participant → Field → Type 0
+IsTrueLine offer whole participants field =
+    IsRefusingLine whole offer (offer_demands participants) field
 
 -- it is true of them: each lacks an entry for the offer; or the entry of each lacks its colour
 -- space; or the line of the conflict table is true of all together
 abbrev pub IsGround : Offer → Bool → List Participant → OfferGround → Type 0
-IsGround offer whole participants NoEntry = AllOfSome (LacksEntry offer) participants
-IsGround offer whole participants NoColour = AllOfSome (LacksColour offer) participants
-IsGround offer whole participants (Line field) =
-    IsRefusingLine whole offer (offer_demands participants) field
+IsGround offer whole participants NoEntry =
+    AllOfSome (λ one. lacks_entry offer one ≡ true) participants
+IsGround offer whole participants NoColour =
+    AllOfSome (λ one. lacks_colour offer one ≡ true) participants
+IsGround offer whole participants (Line field) = IsTrueLine offer whole participants field
 
 -- what is said against the offer is true of the participants
 abbrev pub IsOfferReason : OfferRefusal → Type 0
 IsOfferReason r = IsGround r.offer r.whole r.participants r.ground
 
--- it is said against this offer, where they are all that there are if `whole` says so
-pub record IsAgainst (o : Offer) (all : Bool) (r : OfferRefusal) : Type 0 where
-  pub offer : r.offer ≡ o
-  pub whole : r.whole ≡ all
+-- a ground with these participants, if they are some
+abbrev pub said_of : Offer → Bool → OfferGround → List Participant → Option OfferRefusal
+said_of offer whole ground [] = None
+said_of offer whole ground (one ∷ others) = Some (record {
+  offer = offer;
+  whole = whole;
+  ground = ground;
+  participants = one ∷ others;
+})
+
+-- all who have entries and none for the offer, if they are some
+abbrev pub no_entry : Offer → Bool → List Participant → Option OfferRefusal
+no_entry offer whole participants =
+    said_of offer whole NoEntry (filter (lacks_entry offer) participants)
+
+-- all whose entry for the offer doesn't take its colour space, if they are some
+abbrev pub no_colour : Offer → Bool → List Participant → Option OfferRefusal
+no_colour offer whole participants =
+    said_of offer whole NoColour (filter (lacks_colour offer) participants)
+
+-- a line of the conflict table, with all participants
+abbrev pub line_of : Offer → Bool → List Participant → Field → OfferRefusal
+line_of offer whole participants field = record {
+  offer = offer;
+  whole = whole;
+  ground = Line field;
+  participants = participants;
+}
+
+-- those of the lines that are true of the participants, in their order, each with all of them
+abbrev pub AreLines : Offer → Bool → List Participant → List Field → List OfferRefusal → Type 0
+AreLines offer whole participants [] reasons = reasons ≡ []
+AreLines offer whole participants (field ∷ fields) reasons =
+    ((others : List OfferRefusal) × IsTrueLine offer whole participants field
+    × (reasons ≡ line_of offer whole participants field ∷ others)
+    × AreLines offer whole participants fields others)
+    ⊎ ((¬ IsTrueLine offer whole participants field)
+    × AreLines offer whole participants fields reasons)
+
+-- the lines of the conflict table on the bounds and the size of an image, in its order
+abbrev pub image_lines : List Field
+image_lines = bounds_lines ++ MaxSizeBytes ∷ []
+
+-- its lines on what nobody names
+abbrev pub unnamed_lines : List Field
+unnamed_lines = UnnamedPixelFormat ∷ UnnamedPixelFormatModifier ∷ UnnamedColorSpace ∷ []
+
+-- the reasons are these, if there are any; else what is said of them
+abbrev pub AreTheseOr : List OfferRefusal → List OfferRefusal → Type 0 → Type 0
+AreTheseOr [] reasons Else = Else
+AreTheseOr (these ∷ more) reasons Else = reasons ≡ these ∷ more
+
+-- the lines on the image that are true of the participants; or where none is, what nobody names
+pub record AreLineReasons (offer : Offer) (whole : Bool) (participants : List Participant)
+    (reasons : List OfferRefusal) : Type 0 where
+  pub lines : List OfferRefusal
+  pub are_true : AreLines offer whole participants image_lines lines
+  pub told : AreTheseOr lines reasons (AreLines offer whole participants unnamed_lines reasons)
+
+-- the reasons against an offer: all who have no entry for it; or else all who lack its colour
+-- space; or else the lines that are true of all
+abbrev pub AreOfferReasons : Offer → Bool → List Participant → List OfferRefusal → Type 0
+AreOfferReasons offer whole participants reasons =
+    AreTheseOr (option_to_list (no_entry offer whole participants)) reasons
+    (AreTheseOr (option_to_list (no_colour offer whole participants)) reasons
+    (AreLineReasons offer whole participants reasons))
 
 -- a field in which settings fail a participant on a platform
 pub record FailedField : Type 0 where

@@ -1,7 +1,9 @@
 //! Reasons against an offer.
 
-ghost use Rattle.std.specs.Prelude.{◌≡◌, false, [], ◌∷◌, All, IfOk, IfSome, IsTrue, List};
-ghost use Rattle.settings_reasons.specs.True.{IsAgainst, IsGround, LacksColour, LacksEntry};
+ghost use Rattle.std.specs.Prelude.{◌≡◌, ◌↔◌, false, [], ◌∷◌, IfOk, IsTrue, List, filter};
+ghost use Rattle.settings_reasons.specs.True.{AreLineReasons, AreLines, AreOfferReasons};
+ghost use Rattle.settings_reasons.specs.True.{IsGround, IsTrueLine, lacks_colour, lacks_entry};
+ghost use Rattle.settings_reasons.specs.True.{line_of, no_colour, no_entry};
 ghost use Rattle.sysmem_formats.specs.declared.offer.Offer.{Offer as Offered};
 ghost use Rattle.offer_fits.specs.Demands.{OfferDemand, offer_demands};
 ghost use Rattle.sysmem_merge.specs.OfferRead.{IsOfferRead, IsRefusingLine};
@@ -9,6 +11,7 @@ ghost use Rattle.value_sources.specs.Sources.{all_asked};
 
 use crate::misfit::Misfit;
 use crate::offering::read_of;
+use negotiation_inputs::Constraints;
 use std::alloc::{AllocError, Global};
 use std::marker::Model;
 use sysmem_counts::Field;
@@ -19,14 +22,12 @@ use value_sources::NamedParticipant;
 
 macro_rules! image_lines {
     ($($line:ident)*) => {
-        &[$(Field::$line,)* Field::MaxSizeBytes]
+        [$(Field::$line,)* Field::MaxSizeBytes]
     };
 }
 
-/// The lines on the bounds of images, in the order of the conflict table.
-const LINES: &[Field] = bounds_table!(bounds_lines!(image_lines));
-
-const UNNAMED: &[Field] = &[
+/// The lines on what nobody names.
+const UNNAMED: [Field; 3] = [
     Field::UnnamedPixelFormat,
     Field::UnnamedPixelFormatModifier,
     Field::UnnamedColorSpace,
@@ -82,7 +83,8 @@ impl<'a> OfferReason<'a> {
         participants: &[NamedParticipant<'a>],
         whole: bool,
     ) -> Result<Option<OfferReason<'a>>, AllocError>
-        ensures { IfOk result (λ found. IfSome found (IsAgainst offer.now whole)) }
+        ensures { IfOk result
+            (λ found. found ≡ no_entry offer.now whole (all_asked participants.now)) }
     {
         let participants = without_entry(alloc, offer, participants)?;
         if participants.is_empty() {
@@ -103,7 +105,8 @@ impl<'a> OfferReason<'a> {
         participants: &[NamedParticipant<'a>],
         whole: bool,
     ) -> Result<Option<OfferReason<'a>>, AllocError>
-        ensures { IfOk result (λ found. IfSome found (IsAgainst offer.now whole)) }
+        ensures { IfOk result
+            (λ found. found ≡ no_colour offer.now whole (all_asked participants.now)) }
     {
         let participants = without_colour(alloc, offer, participants)?;
         if participants.is_empty() {
@@ -133,28 +136,24 @@ impl<'a> OfferReason<'a> {
         })
     }
 
-    /// A line with all participants, of whom this was read; `None` where it isn't true of them. One
-    /// on names counts where they are all that there are.
+    /// A line that is true of participants, with all of them.
     fn of_line(
         alloc: Global,
         offer: &Offer,
-        read: &OfferRead,
         participants: &[NamedParticipant<'a>],
         whole: bool,
         field: Field,
-    ) -> Result<Option<OfferReason<'a>>, AllocError>
-        requires { IsOfferRead offer.now (offer_demands (all_asked participants.now)) read.now }
-        ensures { IfOk result (λ found. IfSome found (IsAgainst offer.now whole)) }
+    ) -> Result<OfferReason<'a>, AllocError>
+        requires { IsTrueLine offer.now whole (all_asked participants.now) field }
+        ensures { IfOk result
+            (λ reason. reason ≡ line_of offer.now whole (all_asked participants.now) field) }
     {
-        if !is_true(read, whole, field) {
-            return Ok(None);
-        }
-        Ok(Some(OfferReason {
+        Ok(OfferReason {
             offer: *offer,
             whole,
             ground: OfferGround::Line(field),
             participants: Vec::from_slice(alloc, participants)?,
-        }))
+        })
     }
 
     /// The offer.
@@ -185,16 +184,24 @@ fn without_entry<'a>(
     offer: &Offer,
     participants: &[NamedParticipant<'a>],
 ) -> Result<Vec<NamedParticipant<'a>>, AllocError>
-    ensures { IfOk result (λ those. All (LacksEntry offer.now) (all_asked those.items)) }
+    ensures { IfOk result (λ those. all_asked those.items
+        ≡ filter (lacks_entry offer.now) (all_asked participants.now)) }
 {
     let mut those = Vec::new(alloc);
     for participant in participants {
-        let entries = participant.asked.entries();
-        if !entries.is_empty() && entry_for(entries, offer).is_none() {
+        if lacks_entry(offer, participant.asked) {
             those.push(*participant)?;
         }
     }
     Ok(those)
+}
+
+/// Whether a participant has entries and none for an offer.
+fn lacks_entry(offer: &Offer, asked: &Constraints) -> bool
+    ensures { result ≡ lacks_entry offer.now asked.now }
+{
+    let entries = asked.entries();
+    !entries.is_empty() && entry_for(entries, offer).is_none()
 }
 
 /// Those whose entry for an offer lacks its colour space.
@@ -203,31 +210,34 @@ fn without_colour<'a>(
     offer: &Offer,
     participants: &[NamedParticipant<'a>],
 ) -> Result<Vec<NamedParticipant<'a>>, AllocError>
-    ensures { IfOk result (λ those. All (LacksColour offer.now) (all_asked those.items)) }
+    ensures { IfOk result (λ those. all_asked those.items
+        ≡ filter (lacks_colour offer.now) (all_asked participants.now)) }
 {
     let mut those = Vec::new(alloc);
     for participant in participants {
-        if let Some(entry) = entry_for(participant.asked.entries(), offer) {
-            if !takes_colour(entry, offer) {
-                those.push(*participant)?;
-            }
+        if lacks_colour(offer, participant.asked) {
+            those.push(*participant)?;
         }
     }
     Ok(those)
 }
 
+/// Whether a participant's entry for an offer doesn't take its colour space.
+fn lacks_colour(offer: &Offer, asked: &Constraints) -> bool
+    ensures { result ≡ lacks_colour offer.now asked.now }
+{
+    match entry_for(asked.entries(), offer) {
+        Some(entry) => !takes_colour(entry, offer),
+        None => false,
+    }
+}
+
 /// Whether a line is true of what participants say; one on names where they are all that there are.
 fn is_true(read: &OfferRead, whole: bool, field: Field) -> bool
     ensures { (offer : Offered) (ds : List OfferDemand) → IsOfferRead offer ds read.now
-        → IsTrue result → IsRefusingLine whole offer ds field }
+        → IsTrue result ↔ IsRefusingLine whole offer ds field }
 {
-    if read.is_line(field) {
-        return true;
-    }
-    if !whole {
-        return false;
-    }
-    read.is_unnamed(field)
+    read.is_line(field) || whole && read.is_unnamed(field)
 }
 
 /// What is true against an offer: all who have no entry for it; or else all who lack its colour
@@ -239,7 +249,8 @@ pub(crate) fn offer_reasons<'a>(
     participants: &[NamedParticipant<'a>],
     whole: bool,
 ) -> Result<Vec<OfferReason<'a>>, AllocError>
-    ensures { IfOk result (λ reasons. All (IsAgainst offer.now whole) reasons.items) }
+    ensures { IfOk result (λ reasons.
+        AreOfferReasons offer.now whole (all_asked participants.now) reasons.items) }
 {
     if let Some(reason) = OfferReason::without_entry(alloc, offer, participants, whole)? {
         return Ok(vec![in alloc; reason]?);
@@ -247,29 +258,47 @@ pub(crate) fn offer_reasons<'a>(
     if let Some(reason) = OfferReason::without_colour(alloc, offer, participants, whole)? {
         return Ok(vec![in alloc; reason]?);
     }
-    let lines = line_reasons(alloc, offer, participants, whole, LINES)?;
-    if !lines.is_empty() {
-        return Ok(lines);
-    }
-    line_reasons(alloc, offer, participants, whole, UNNAMED)
+    line_reasons(alloc, offer, participants, whole)
 }
 
-/// Each of some lines that is true of participants, with all of them; one on names where they are
+/// Each line of the bounds that is true of participants; or else what nobody names, where they are
 /// all that there are.
 fn line_reasons<'a>(
     alloc: Global,
     offer: &Offer,
     participants: &[NamedParticipant<'a>],
     whole: bool,
-    fields: &[Field],
 ) -> Result<Vec<OfferReason<'a>>, AllocError>
-    ensures { IfOk result (λ reasons. All (IsAgainst offer.now whole) reasons.items) }
+    ensures { IfOk result (λ reasons.
+        AreLineReasons offer.now whole (all_asked participants.now) reasons.items) }
 {
     let read = read_of(offer, participants);
+    let lines = bounds_table!(bounds_lines!(image_lines));
+    let reasons = true_lines(alloc, offer, &read, participants, whole, &lines)?;
+    if !reasons.is_empty() {
+        return Ok(reasons);
+    }
+    true_lines(alloc, offer, &read, participants, whole, &UNNAMED)
+}
+
+/// Each of some lines that is true of participants, of whom this was read, with all of them; one on
+/// names where they are all that there are.
+fn true_lines<'a>(
+    alloc: Global,
+    offer: &Offer,
+    read: &OfferRead,
+    participants: &[NamedParticipant<'a>],
+    whole: bool,
+    fields: &[Field],
+) -> Result<Vec<OfferReason<'a>>, AllocError>
+    requires { IsOfferRead offer.now (offer_demands (all_asked participants.now)) read.now }
+    ensures { IfOk result (λ reasons.
+        AreLines offer.now whole (all_asked participants.now) fields.now reasons.items) }
+{
     let mut reasons = Vec::new(alloc);
     for field in fields {
-        let found = OfferReason::of_line(alloc, offer, &read, participants, whole, *field)?;
-        if let Some(reason) = found {
+        if is_true(read, whole, *field) {
+            let reason = OfferReason::of_line(alloc, offer, participants, whole, *field)?;
             reasons.push(reason)?;
         }
     }

@@ -1,14 +1,21 @@
--- One more line against the offer, if it is true.
-use Rattle.std.proofs.Common.{IfSome, subst}
-use Rattle.std.proofs.lemmas.List.Elements.{All-push}
-use Rattle.settings_reasons.specs.True.{IsAgainst}
+-- The lines on the image, or else what nobody names.
+use Rattle.std.proofs.Common.{arith}
+use Rattle.std.proofs.lemmas.Result.{IfOk-weaker}
+use Rattle.settings_reasons.proofs.Offers.{are_else, are_these}
 use Rattle.settings_reasons.proofs.offer_reason.line_reasons.Goals as goal
-use Rattle.settings_reasons.proofs.offer_reason.line_reasons.Goals.{in-Some+in_ok-push, in_default}
 
-pub loop-field-preserved : goal.loop-field-preserved
-loop-field-preserved c = elim c.match-found.branch [
-  | in-Some+in_ok-push w ↦ (
-      let against = subst (λ found. IfSome found (IsAgainst c.args.offer.now c.args.whole)) w.in-Some.is c.in_ok-found.ensures in
-      rw w.reasons-is (rw w.in_ok-push.ensures.items (All-push (IsAgainst c.args.offer.now c.args.whole) c.loop-field.reasons.items _ c.loop-field.invariant against)))
-  | in_default w ↦ rw w.reasons-is c.loop-field.invariant
-]
+pub returns-then-not-is_empty : goal.returns-then-not-is_empty
+returns-then-not-is_empty c = record {
+  lines = c.in_ok-reasons.reasons.items;
+  are_true = c.in_ok-reasons.ensures;
+  told = are_these c.in_ok-reasons.reasons.items _ (grind (arith, c.is_empty.ensures, c.if-not-is_empty.true, c.in_ok-reasons.reasons.ok.0));
+}
+
+pub returns : goal.returns
+returns c = IfOk-weaker c.true_lines-2.result _ _
+    (λ reasons unnamed. record {
+      lines = c.in_ok-reasons.reasons.items;
+      are_true = c.in_ok-reasons.ensures;
+      told = are_else c.in_ok-reasons.reasons.items reasons.items _ (grind (arith, c.is_empty.ensures, c.if-not-is_empty.false, c.in_ok-reasons.reasons.ok.0)) unnamed;
+    })
+    c.true_lines-2.ensures

@@ -1,16 +1,15 @@
--- One more whose entry lacks the colour space, or nobody more.
-use Rattle.std.proofs.Common.{sym, ◌∙◌}
-use Rattle.settings_reasons.specs.True.{LacksColour}
-use Rattle.settings_reasons.proofs.Participants.{one_true}
+-- One more who lacks it, or nobody more.
+use Rattle.std.proofs.Common.{◌≡◌, sym, ◌∙◌}
+use Rattle.settings_reasons.specs.True.{lacks_colour}
+use Rattle.settings_reasons.proofs.Participants.{one_kept, one_left}
 use Rattle.settings_reasons.proofs.offer_reason.without_colour.Goals as goal
-use Rattle.settings_reasons.proofs.offer_reason.without_colour.Goals.{in-Some+then-not-takes_colour+in_ok-push, in-Some+else-not-takes_colour, in_default}
+use Rattle.settings_reasons.proofs.offer_reason.without_colour.Goals.{then-lacks_colour+in_ok-push, else-lacks_colour}
 
 pub loop-participant-preserved : goal.loop-participant-preserved
-loop-participant-preserved c = elim c.match-entry_for.branch [
-  | in-Some+then-not-takes_colour+in_ok-push w ↦ (
-      let matched = rw c.entries.ensures.entries at w.in-Some.ensures in
-      let lacks : LacksColour c.args.offer.now c.participant-item.result.asked.now = rw (sym matched) (sym w.takes_colour.ensures ∙ w.if-not-takes_colour.true) in
-      rw w.those-is (one_true (LacksColour c.args.offer.now) c.loop-participant.those.items _ c.participant-item.result w.in_ok-push.ensures.items c.loop-participant.invariant lacks))
-  | in-Some+else-not-takes_colour w ↦ rw w.those-is c.loop-participant.invariant
-  | in_default w ↦ rw w.those-is c.loop-participant.invariant
-]
+loop-participant-preserved c =
+    let test = lacks_colour c.args.offer.now in
+    let same : test c.participant-item.result.asked.now ≡ c.lacks_colour.result = sym c.lacks_colour.ensures in
+    elim c.if-lacks_colour.branch [
+      | then-lacks_colour+in_ok-push w ↦ rw w.those-is (one_kept test c.args.participants.now c.loop-participant.those.items _ c.loop-participant.participant-index c.participant-item.result c.loop-participant-test.true c.participant-item.is (same ∙ w.if-lacks_colour.true) w.in_ok-push.ensures.items c.loop-participant.invariant)
+      | else-lacks_colour w ↦ rw w.those-is (one_left test c.args.participants.now c.loop-participant.those.items c.loop-participant.participant-index c.participant-item.result c.loop-participant-test.true c.participant-item.is (same ∙ w.if-lacks_colour.false) c.loop-participant.invariant)
+    ]

@@ -1,14 +1,15 @@
--- One more who has entries and none for the offer, or nobody more.
-use Rattle.std.proofs.Common.{arith}
-use Rattle.settings_reasons.specs.True.{LacksEntry}
-use Rattle.settings_reasons.proofs.Participants.{one_true}
+-- One more who lacks it, or nobody more.
+use Rattle.std.proofs.Common.{◌≡◌, sym, ◌∙◌}
+use Rattle.settings_reasons.specs.True.{lacks_entry}
+use Rattle.settings_reasons.proofs.Participants.{one_kept, one_left}
 use Rattle.settings_reasons.proofs.offer_reason.without_entry.Goals as goal
-use Rattle.settings_reasons.proofs.offer_reason.without_entry.Goals.{then-not-is_empty+then-is_none+in_ok-push, else-not-is_empty}
+use Rattle.settings_reasons.proofs.offer_reason.without_entry.Goals.{then-lacks_entry+in_ok-push, else-lacks_entry}
 
 pub loop-participant-preserved : goal.loop-participant-preserved
-loop-participant-preserved c = elim c.if-not-is_empty.branch [
-  | then-not-is_empty+then-is_none+in_ok-push w ↦ (
-      let lacks : LacksEntry c.args.offer.now c.participant-item.result.asked.now = grind (arith, w.entry_for.ensures, w.is_none.ensures, w.if-is_none.true, w.if-not-is_empty.true) in
-      rw w.those-is (one_true (LacksEntry c.args.offer.now) c.loop-participant.those.items _ c.participant-item.result w.in_ok-push.ensures.items c.loop-participant.invariant lacks))
-  | else-not-is_empty w ↦ rw w.those-is c.loop-participant.invariant
-]
+loop-participant-preserved c =
+    let test = lacks_entry c.args.offer.now in
+    let same : test c.participant-item.result.asked.now ≡ c.lacks_entry.result = sym c.lacks_entry.ensures in
+    elim c.if-lacks_entry.branch [
+      | then-lacks_entry+in_ok-push w ↦ rw w.those-is (one_kept test c.args.participants.now c.loop-participant.those.items _ c.loop-participant.participant-index c.participant-item.result c.loop-participant-test.true c.participant-item.is (same ∙ w.if-lacks_entry.true) w.in_ok-push.ensures.items c.loop-participant.invariant)
+      | else-lacks_entry w ↦ rw w.those-is (one_left test c.args.participants.now c.loop-participant.those.items c.loop-participant.participant-index c.participant-item.result c.loop-participant-test.true c.participant-item.is (same ∙ w.if-lacks_entry.false) c.loop-participant.invariant)
+    ]
