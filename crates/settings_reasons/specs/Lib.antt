@@ -1,2 +1,3 @@
 pub mod True
 pub mod Held
+pub mod Stated

@@ -2,6 +2,8 @@
 use Rattle.std.specs.Prelude.{◌≡◌, ◌⊎◌, ◌<◌, ◌≤◌, ℕ, Bool, true, false, not}
 use Rattle.std.specs.Prelude.{List, [], ◌∷◌, ◌++◌, All, Contains, filter, filter_map, length}
 use Rattle.std.specs.Prelude.{Option, Some, None, option_to_list}
+use Rattle.sysmem_counts.specs.Counts.{IsCountLine}
+use Rattle.sysmem_counts.specs.declared.constraints.CountConstraints.{CountConstraints}
 use Rattle.sysmem_counts.specs.declared.field.Field.{Field}
 use Rattle.sysmem_counts.specs.declared.field.Field.TheVariants.{MaxSizeBytes, UnnamedPixelFormat}
 use Rattle.sysmem_counts.specs.declared.field.Field.TheVariants.{UnnamedPixelFormatModifier}
@@ -166,6 +168,15 @@ AreOfferReasons offer whole participants reasons =
     AreTheseOr (option_to_list (no_entry offer whole participants)) reasons
     (AreTheseOr (option_to_list (no_colour offer whole participants)) reasons
     (AreLineReasons offer whole participants reasons))
+
+-- a line of the conflict table on the count, with what participants ask of it
+pub record CountRefusal : Type 0 where
+  pub field : Field
+  pub counts : List CountConstraints
+
+-- it is true of them
+abbrev pub IsCountReason : CountRefusal → Type 0
+IsCountReason r = IsCountLine r.field r.counts
 
 -- a field in which settings fail a participant on a platform
 pub record FailedField : Type 0 where

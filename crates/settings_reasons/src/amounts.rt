@@ -1,5 +1,8 @@
 //! Numbers and sizes that records state.
 
+ghost use Rattle.std.specs.Prelude.{◌≡◌};
+ghost use Rattle.settings_reasons.specs.Stated.{bound_at, is_above};
+
 use explanation_text::TextBuilder;
 use sysmem_counts::Field;
 use sysmem_image::{ImageBounds, Size, bounds_table};
@@ -13,7 +16,9 @@ pub(crate) enum Amount {
 
 impl Amount {
     /// Whether it is above another one of its kind: of two sizes, whether it is wider or higher.
-    pub(crate) fn is_above(self, other: Amount) -> bool {
+    pub(crate) fn is_above(self, other: Amount) -> bool
+        ensures { result ≡ is_above self other }
+    {
         match (self, other) {
             (Amount::Number(mine), Amount::Number(most)) => mine > most,
             (Amount::Sides(mine), Amount::Sides(most)) => {
@@ -52,6 +57,8 @@ macro_rules! amount_of {
 }
 
 /// What bounds state at a field; 0 where it is none of theirs.
-pub(crate) fn amount_at(bounds: &ImageBounds, field: Field) -> Amount {
+pub(crate) fn amount_at(bounds: &ImageBounds, field: Field) -> Amount
+    ensures { result ≡ bound_at bounds.now field }
+{
     bounds_table!(amount_by!(field bounds))
 }

@@ -7,6 +7,7 @@ ghost use Rattle.sysmem_merge.specs.Best.{IsUnmet};
 ghost use Rattle.value_sources.specs.Sources.{all_asked};
 
 use crate::contradicting::add_contradictions;
+use crate::count_reason::CountReason;
 use crate::lacking::{add_no_heaps, add_no_images};
 use crate::offering::{are_refused, offers_of};
 use crate::placing::{has_no_place, places_of};
@@ -20,7 +21,7 @@ use std::alloc::{AllocError, Global};
 use sysmem_counts::Field;
 use sysmem_formats::Offer;
 use sysmem_merge::Aggregate;
-use value_sources::{NamedParticipant, count_text, is_count_line, put_participants};
+use value_sources::{NamedParticipant, put_participants};
 
 /// The two lines on a count.
 const COUNTS: [Field; 2] = [Field::MaxBufferCount, Field::BufferCountLimit];
@@ -43,9 +44,8 @@ pub fn add_conflict(
 /// Tells why no count suits participants, where none does.
 fn add_counts(items: &mut Items, depth: usize, participants: &[NamedParticipant<'_>]) {
     for field in COUNTS {
-        if is_count_line(field, participants) {
-            let text = count_text(items.alloc(), field, participants);
-            items.say(depth, "count", text);
+        if let Some(reason) = CountReason::of(field, participants) {
+            items.say(depth, "count", reason.text(items.alloc()));
         }
     }
 }

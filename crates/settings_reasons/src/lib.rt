@@ -11,7 +11,9 @@
 
 mod amounts;
 mod chosen;
+mod clash;
 mod contradicting;
+mod count_reason;
 mod empty;
 mod fixed;
 mod lacking;
