@@ -1,4 +1,4 @@
-//! The settings for the participants of a level, of whom no more pairs are joined than that takes.
+//! The settings for the participants of a level, whose pairs are joined as they are looked at.
 
 ghost use Rattle.std.specs.Prelude.{◌≡◌, ◌≢◌, ◌<◌, ◌≤◌, ◌+◌, ℕ, List, Some, IfSome, IsSomeAnd, length, slice_get};
 ghost use Rattle.search_questions.specs.Asking.{HasPairsAt, IsAnswer, JoinsPairs, LooksAt};
