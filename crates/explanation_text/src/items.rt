@@ -1,5 +1,6 @@
 //! What is told, as one list of items.
 
+use crate::correction::Correction;
 use crate::decided::Decided;
 use crate::words::{Mention, Text, TextBuilder};
 use std::alloc::{AllocError, Global};
@@ -32,6 +33,8 @@ pub struct Item {
     pub kind: Kind,
     /// Of a `Decision` what it decides.
     pub decided: Option<Decided>,
+    /// Of a `Source` what may be meant by a part of it, where that is known.
+    pub correction: Option<Correction>,
 }
 
 impl Drop for Item {
@@ -43,6 +46,7 @@ impl Drop for Item {
             depth: _,
             kind: _,
             decided: _,
+            correction: _,
         } = self;
     }
 }
@@ -57,6 +61,7 @@ impl Item {
             depth,
             kind,
             decided: None,
+            correction: None,
         }
     }
 }
@@ -117,6 +122,13 @@ impl Items {
         }
     }
 
+    /// Tells what may be meant by a part of what the last item shows.
+    pub fn correct(&mut self, correction: Correction) {
+        if let Some(item) = self.list.last_mut() {
+            item.correction = Some(correction);
+        }
+    }
+
     /// Puts the title of a section after the list.
     pub fn title(&mut self, text: &str) {
         self.push(Kind::Title, 0, "", TextBuilder::of(self.alloc, text))
@@ -143,6 +155,7 @@ impl Items {
             depth,
             kind: Kind::Decision,
             decided: Some(decided),
+            correction: None,
         })
     }
 

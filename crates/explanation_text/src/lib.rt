@@ -12,6 +12,7 @@
 //! ```
 #![tactic(auto)]
 
+mod correction;
 mod decided;
 mod items;
 mod markup;
@@ -22,6 +23,7 @@ mod snippet;
 pub mod wording;
 mod words;
 
+pub use correction::{Correction, Meant};
 pub use decided::{Choice, Decided};
 pub use items::{Item, Items, Kind, are_same};
 pub use markup::{Drawing, Joint, Line, Shape, Standing, page_of};
