@@ -14,6 +14,8 @@ pub enum Meant {
     Number(u64),
     /// A number that is the value of a field, or a side of it.
     Value(Field, u64),
+    /// The value of a field that is true or false.
+    Flag(Field, bool),
     /// A list of what stands there.
     List,
 }

@@ -1,5 +1,6 @@
 //! The faults of a script's calls, in words.
 
+use crate::help::{Help, did_you_mean};
 use crate::keys::KNOWN;
 use crate::record::{
     Document, RecordPart, first_unknown, is_field_of, is_one_of, key_of, wrong_kind,
@@ -56,7 +57,7 @@ impl<'a> Faulty<'a, '_> {
     }
 
     /// Points at a member's value, or at the call where there is none.
-    fn point(&self, items: &mut Items, key: &'static str, note: &str, help: TextBuilder) {
+    fn point(&self, items: &mut Items, key: &'static str, note: &str, help: Help) {
         let member = [Step::Key("calls"), Step::Item(self.index), Step::Key(key)];
         let steps = if self.call.get(key).is_some() { 3 } else { 2 };
         let path = member.get(..steps).unwrap_or(&member);
@@ -84,7 +85,7 @@ impl<'a> Faulty<'a, '_> {
             None => {
                 let mut words = TextBuilder::of(alloc, key);
                 words.put(" is missing");
-                document.tell(items, 1, &path, RecordPart::Begin, words, help)
+                document.tell(items, 1, &path, RecordPart::Begin, words, Help::of(help))
             }
         }
         Ok(())
@@ -94,8 +95,9 @@ impl<'a> Faulty<'a, '_> {
     fn put_meant(&self, items: &mut Items, other: &[Step<'_>], key: &str) {
         let mut words = TextBuilder::of(items.alloc(), "did you mean ");
         words.put(key).put("? It is missing");
+        let help = Help::of_word(words, key);
         self.document
-            .advise(items, 1, other, RecordPart::Key, "unknown key", words)
+            .advise(items, 1, other, RecordPart::Key, "unknown key", help)
     }
 
     fn text(&self, key: &str) -> Option<&'a str> {
@@ -114,7 +116,7 @@ pub fn actor_of(call: &Value) -> &str {
 fn add_actors(items: &mut Items, faulty: Faulty<'_, '_>) -> Result<(), AllocError> {
     let actors = actors_before(items.alloc(), faulty)?;
     let help = listed(items.alloc(), "at most 16 may call: ", &actors);
-    faulty.point(items, "actor", "the 17th actor", help);
+    faulty.point(items, "actor", "the 17th actor", Help::of(help));
     Ok(())
 }
 
@@ -152,7 +154,7 @@ fn add_shape(items: &mut Items, faulty: Faulty<'_, '_>) -> Result<(), AllocError
         return Ok(());
     };
     if !is_one_of(name, &CALLS) {
-        faulty.point(items, "call", "unknown call", hint_of_call(alloc, name));
+        faulty.point(items, "call", "unknown call", hint_of_call(alloc, name)?);
         return Ok(());
     }
     add_members(items, faulty, name)
@@ -170,16 +172,11 @@ fn add_no_object(items: &mut Items, faulty: Faulty<'_, '_>) {
 }
 
 /// What an unknown call may mean.
-fn hint_of_call(alloc: Global, name: &str) -> TextBuilder {
-    let mut words = TextBuilder::new(alloc);
-    match nearest(alloc, name, &CALLS) {
-        Ok(Some(near)) => {
-            words.put("did you mean ").put(near).put("?");
-        }
-        Ok(None) => return calls_known(alloc),
-        Err(AllocError) => words.refuse(),
-    }
-    words
+fn hint_of_call(alloc: Global, name: &str) -> Result<Help, AllocError> {
+    Ok(match nearest(alloc, name, &CALLS)? {
+        Some(near) => Help::near(alloc, near),
+        None => Help::of(calls_known(alloc)),
+    })
 }
 
 fn calls_known(alloc: Global) -> TextBuilder {
@@ -188,7 +185,7 @@ fn calls_known(alloc: Global) -> TextBuilder {
 
 fn add_kind(items: &mut Items, faulty: Faulty<'_, '_>, key: &'static str, value: &Value) {
     let alloc = items.alloc();
-    let help = TextBuilder::of(alloc, "names stand in double quotes");
+    let help = Help::of_text(alloc, "names stand in double quotes");
     match wrong_kind(alloc, value, "a name is").done() {
         Ok(note) => faulty.point(items, key, &note, help),
         Err(AllocError) => items.refuse(),
@@ -218,9 +215,11 @@ fn add_keys(items: &mut Items, faulty: Faulty<'_, '_>, name: &str) -> Result<(),
     let keys = keys_of(name);
     match first_unknown(items.alloc(), faulty.document, &faulty.path(), keys)? {
         Some(unknown) => add_key(items, faulty, name, keys, &unknown),
-        None => add_texts(items, faulty),
+        None => {
+            add_texts(items, faulty);
+            Ok(())
+        }
     }
-    Ok(())
 }
 
 /// Tells which of the members that name a node or an actor is no text.
@@ -265,38 +264,39 @@ fn add_key(
     name: &str,
     keys: &'static [&'static str],
     path: &[Step<'_>],
-) {
-    let help = help_of_key(items.alloc(), key_of(path), name, keys);
+) -> Result<(), AllocError> {
+    let help = help_of_key(items.alloc(), key_of(path), name, keys)?;
     faulty
         .document
-        .advise(items, 1, path, RecordPart::Key, "unknown key", help)
+        .advise(items, 1, path, RecordPart::Key, "unknown key", help);
+    Ok(())
 }
 
 /// What helps with such a key of a call that has a name.
-fn help_of_key(alloc: Global, key: &str, name: &str, keys: &[&'static str]) -> TextBuilder {
+fn help_of_key(
+    alloc: Global,
+    key: &str,
+    name: &str,
+    keys: &[&'static str],
+) -> Result<Help, AllocError> {
     if is_field_of(key, &CONSTRAINTS_FIELDS) {
-        TextBuilder::of(alloc, "it belongs in constraints")
+        Ok(Help::of_text(alloc, "it belongs in constraints"))
     } else if key == "as" {
         let mut words = TextBuilder::of(alloc, name);
         words.put(" makes no node");
-        words
+        Ok(Help::of(words))
     } else if key == "constraints" {
-        TextBuilder::of(alloc, "only set_constraints has constraints")
+        Ok(Help::of_text(alloc, "only set_constraints has constraints"))
     } else {
         hint_of_key(alloc, key, keys)
     }
 }
 
-fn hint_of_key(alloc: Global, key: &str, keys: &[&'static str]) -> TextBuilder {
-    let mut words = TextBuilder::new(alloc);
-    match nearest(alloc, key, keys) {
-        Ok(Some(near)) => {
-            words.put("did you mean ").put(near).put("?");
-        }
-        Ok(None) => return listed(alloc, "keys of this call: ", keys),
-        Err(AllocError) => words.refuse(),
-    }
-    words
+fn hint_of_key(alloc: Global, key: &str, keys: &[&'static str]) -> Result<Help, AllocError> {
+    Ok(match nearest(alloc, key, keys)? {
+        Some(near) => Help::near(alloc, near),
+        None => Help::of(listed(alloc, "keys of this call: ", keys)),
+    })
 }
 
 /// Whether a text is 1 to 32 ASCII letters, digits, `_` and `-`.
@@ -317,7 +317,7 @@ pub fn has_name_bytes(text: &str) -> bool {
 /// Tells a bad name, a name that no earlier call made, or one that is made again.
 fn add_name(items: &mut Items, faulty: Faulty<'_, '_>) -> Result<(), AllocError> {
     if let Some(key) = bad_name(faulty) {
-        let help = TextBuilder::of(
+        let help = Help::of_text(
             items.alloc(),
             "a name is 1 to 32 ASCII letters, digits, _ or -",
         );
@@ -355,7 +355,7 @@ fn add_made(items: &mut Items, faulty: Faulty<'_, '_>) {
         }
         None => TextBuilder::of(alloc, "the program makes root"),
     };
-    faulty.point(items, "as", "made before", help)
+    faulty.point(items, "as", "made before", Help::of(help))
 }
 
 /// Tells a name on which another actor made a call.
@@ -374,7 +374,7 @@ fn add_shared(items: &mut Items, faulty: Faulty<'_, '_>) {
         }
         None => TextBuilder::of(alloc, "an earlier call on it is another actor's"),
     };
-    faulty.point(items, "on", "another actor's name", help)
+    faulty.point(items, "on", "another actor's name", Help::of(help))
 }
 
 /// The index of the earlier call that is made on a name by another actor.
@@ -389,7 +389,7 @@ fn another_on(faulty: Faulty<'_, '_>, on: &str, actor: &str) -> Option<usize> {
 
 /// Whether a call is made on a name, and not by this actor.
 fn is_by_another(call: &Value, on: &str, actor: &str) -> bool {
-    call.get("on").and_then(Value::as_str) == Some(on) && actor_of(call) != actor
+    is_on(call, on) && actor_of(call) != actor
 }
 
 /// The index of the earlier call that makes a name.
@@ -420,7 +420,7 @@ fn add_unmade(items: &mut Items, faulty: Faulty<'_, '_>, on: &str) -> Result<(),
     let note = "no earlier call makes this name";
     let help = match first_maker(faulty.calls, on) {
         Some(index) if index == faulty.index => {
-            TextBuilder::of(alloc, "this call itself makes it")
+            Help::of_text(alloc, "this call itself makes it")
         }
         Some(index) => {
             let number = index.saturating_add(1);
@@ -428,7 +428,7 @@ fn add_unmade(items: &mut Items, faulty: Faulty<'_, '_>, on: &str) -> Result<(),
             words
                 .put_number(number)
                 .put(" makes it, and that comes later");
-            words
+            Help::of(words)
         }
         None => hint_of_made(alloc, faulty, on)?,
     };
@@ -436,21 +436,42 @@ fn add_unmade(items: &mut Items, faulty: Faulty<'_, '_>, on: &str) -> Result<(),
     Ok(())
 }
 
-/// The name that was made and is near, or the names that were.
-fn hint_of_made(
-    alloc: Global,
-    faulty: Faulty<'_, '_>,
-    on: &str,
-) -> Result<TextBuilder, AllocError> {
+/// The name that was made and is near, or the only one on which no call is made; or else the names
+/// that were made.
+fn hint_of_made(alloc: Global, faulty: Faulty<'_, '_>, on: &str) -> Result<Help, AllocError> {
     let made = names_made(alloc, faulty)?;
-    Ok(match nearest(alloc, on, &made)? {
-        Some(near) => {
-            let mut words = TextBuilder::of(alloc, "did you mean ");
-            words.put(near).put("?");
-            words
+    if let Some(near) = nearest(alloc, on, &made)? {
+        return Ok(Help::near_node(alloc, near));
+    }
+    Ok(match only_idle(faulty.calls, &made) {
+        Some(idle) => {
+            let mut words = did_you_mean(alloc, idle);
+            words.put(" No call is made on it");
+            Help::of_node(words, idle)
         }
-        None => names_so_far(alloc, &made),
+        None => Help::of(names_so_far(alloc, &made)),
     })
+}
+
+/// The only one of some names, but for the root's, on which none of these calls is made; `None`
+/// where there are more, or none.
+fn only_idle<'a>(calls: &[Value], names: &[&'a str]) -> Option<&'a str> {
+    let mut only = None;
+    for name in names.iter().skip(1) {
+        if calls.iter().any(|call| is_on(call, *name)) {
+            continue;
+        }
+        if only.is_some() {
+            return None;
+        }
+        only = Some(*name);
+    }
+    only
+}
+
+/// Whether a call is made on a name.
+fn is_on(call: &Value, name: &str) -> bool {
+    call.get("on").and_then(Value::as_str) == Some(name)
 }
 
 /// The names of the root and of what the calls before one make.

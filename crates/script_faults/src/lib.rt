@@ -13,13 +13,15 @@
 #![tactic(auto)]
 
 mod call_fault;
+mod help;
 mod keys;
 mod no_json;
 mod record;
 mod record_alone;
 mod script_fault;
 
-pub use call_fault::{actor_of, has_name_bytes};
-pub use record::{Document, NumberBeyond, RecordPart, Whole, add_record_fault, number_beyond};
+pub use call_fault::actor_of;
+pub use help::Help;
+pub use record::{Document, RecordPart, Whole, add_record_fault};
 pub use record_alone::{RecordFault, RecordKind, record_fault};
 pub use script_fault::{add_fault, add_no_json};

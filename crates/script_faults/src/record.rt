@@ -1,7 +1,6 @@
 //! Where the first fault of a record stands in its text, and what would be right, in words.
 
 mod alike;
-mod beyond;
 mod cutting;
 mod document;
 mod firsts;
@@ -13,7 +12,6 @@ mod record_fault;
 mod record_place;
 mod unknown;
 
-pub use beyond::{NumberBeyond, number_beyond};
 pub use document::{Document, RecordPart, Whole};
 pub use keys::{is_field_of, is_one_of};
 pub use kinds::wrong_kind;

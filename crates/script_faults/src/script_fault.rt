@@ -1,6 +1,7 @@
 //! The faults of a script, in words.
 
 use crate::call_fault::add_call_fault;
+use crate::help::Help;
 use crate::keys::SCRIPT;
 use crate::no_json::{Broken, add_break, is_blank};
 use crate::record::{Document, RecordPart, add_record_fault, first_unknown, key_of, wrong_kind};
@@ -49,6 +50,7 @@ fn put_answer(items: &mut Items, fault: ScriptFault) {
             depth: 0,
             kind: Kind::Answer,
             decided: None,
+            correction: None,
         }),
         Err(AllocError) => items.refuse(),
     }
@@ -140,12 +142,8 @@ fn add_key(
 ) -> Result<(), AllocError> {
     let alloc = items.alloc();
     let help = match nearest(alloc, key_of(path), SCRIPT)? {
-        Some(near) => {
-            let mut words = TextBuilder::of(alloc, "did you mean ");
-            words.put(near).put("?");
-            words
-        }
-        None => TextBuilder::of(alloc, "a script has just platform and calls"),
+        Some(near) => Help::near(alloc, near),
+        None => Help::of_text(alloc, "a script has just platform and calls"),
     };
     document.advise(items, 1, path, RecordPart::Key, "unknown key", help);
     Ok(())

@@ -5,9 +5,10 @@ ghost use Rattle.serde_json.specs.View.{view};
 ghost use Rattle.explanation_text.specs.Places.{IsPlaceOf, value_on};
 ghost use Rattle.script_faults.specs.declared.record.document.RecordPart.TheVariants.{Key};
 
+use crate::help::Help;
 use crate::record::paths::put_path;
 use explanation_text::{
-    Items, Mark, Span, Step, TextBuilder, key_span_of, show, span_of, value_at,
+    Correction, Items, Mark, Meant, Span, Step, TextBuilder, key_span_of, show, span_of, value_at,
 };
 use serde_json::Value;
 use std::alloc::{AllocError, Global};
@@ -131,7 +132,7 @@ impl<'a> Document<'a> {
         }
     }
 
-    /// The same with one sentence of what helps.
+    /// The same with one sentence of what helps, and what may be meant.
     pub fn advise(
         &self,
         items: &mut Items,
@@ -139,10 +140,32 @@ impl<'a> Document<'a> {
         path: &[Step<'_>],
         part: RecordPart,
         note: &str,
-        help: TextBuilder,
+        help: Help,
     ) {
-        match help.done() {
-            Ok(help) => self.point(items, depth, path, part, note, from_ref(&help)),
+        let Help { words, meant } = help;
+        match words.done() {
+            Ok(words) => {
+                self.point(items, depth, path, part, note, from_ref(&words));
+                self.correct(items, path, part, meant)
+            }
+            Err(AllocError) => items.refuse(),
+        }
+    }
+
+    /// Keeps with the last item what may be meant by a part of the value at a path.
+    fn correct(
+        &self,
+        items: &mut Items,
+        path: &[Step<'_>],
+        part: RecordPart,
+        meant: Option<Meant>,
+    ) {
+        let Some(meant) = meant else {
+            return;
+        };
+        match self.span(items.alloc(), path, part) {
+            Ok(Some(span)) => items.correct(Correction { span, meant }),
+            Ok(None) => {}
             Err(AllocError) => items.refuse(),
         }
     }
@@ -155,7 +178,7 @@ impl<'a> Document<'a> {
         path: &[Step<'_>],
         part: RecordPart,
         note: TextBuilder,
-        help: TextBuilder,
+        help: Help,
     ) {
         match note.done() {
             Ok(note) => self.advise(items, depth, path, part, &note, help),

@@ -102,6 +102,23 @@ fn wrong_float(written: &[u8]) -> &'static str {
     "beyond 64 bits"
 }
 
+/// The number in a range that is nearest to a whole one which isn't in it, or which stands in quotes.
+pub(crate) fn nearest_within(value: &Value, least: u64, most: u64) -> Option<u64> {
+    match value {
+        Value::Number(number) if number.is_f64() => None,
+        Value::Number(number) => match number.as_u64() {
+            Some(n) if n > most => Some(most),
+            Some(n) if n >= least => None,
+            _ => Some(least),
+        },
+        Value::String(text) => match text.parse::<u64>() {
+            Ok(n) => Some(n.clamp(least, most)),
+            Err(_) => None,
+        },
+        _ => None,
+    }
+}
+
 /// Whether a value is a whole number in a range.
 pub(crate) fn is_number_within(value: &Value, least: u64, most: u64) -> bool {
     match value.as_u64() {

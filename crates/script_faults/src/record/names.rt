@@ -1,5 +1,6 @@
 //! The names of the profile, and other people's names for what it has.
 
+use crate::help::Help;
 use crate::record::keys::{Table, found, is_one_of};
 use bitflags::Flags;
 use drm_images::letters_of;
@@ -129,19 +130,13 @@ pub(crate) fn hint_of_name(
     field: Field,
     name: &str,
     is_platform: bool,
-) -> TextBuilder {
-    match names_for(alloc, field, is_platform) {
-        Ok(known) => hint_among(alloc, field, name, &known),
-        Err(AllocError) => {
-            let mut words = TextBuilder::new(alloc);
-            words.refuse();
-            words
-        }
-    }
+) -> Result<Help, AllocError> {
+    let known = names_for(alloc, field, is_platform)?;
+    hint_among(alloc, field, name, &known)
 }
 
 /// The same, where the field takes these names.
-fn hint_among(alloc: Global, field: Field, name: &str, known: &[&str]) -> TextBuilder {
+fn hint_among(alloc: Global, field: Field, name: &str, known: &[&str]) -> Result<Help, AllocError> {
     if field == Field::PixelFormat {
         return hint_of_format(alloc, name, known);
     }
@@ -149,7 +144,11 @@ fn hint_among(alloc: Global, field: Field, name: &str, known: &[&str]) -> TextBu
         Some(meant) => {
             let mut words = TextBuilder::of(alloc, "it is ");
             words.put(meant).put(" here");
-            words
+            Ok(if is_one_of(meant, known) {
+                Help::of_word(words, meant)
+            } else {
+                Help::of(words)
+            })
         }
         None => hint_of_known(alloc, name, known),
     }
@@ -171,35 +170,30 @@ fn format_of_drm(name: &str) -> Option<&'static str> {
 }
 
 /// The same of a format.
-fn hint_of_format(alloc: Global, name: &str, known: &[&str]) -> TextBuilder {
+fn hint_of_format(alloc: Global, name: &str, known: &[&str]) -> Result<Help, AllocError> {
     let drm = name.strip_prefix("DRM_FORMAT_").unwrap_or(name);
     if let Some(format) = format_of_drm(drm) {
         let mut words = TextBuilder::of(alloc, "DRM's ");
         words.put(drm).put(" is ").put(format).put(" here");
-        return words;
+        return Ok(Help::of_word(words, format));
     }
     if PixelFormat::from_name(drm).is_some() {
         let mut words = TextBuilder::of(alloc, "it is written ");
         words.put(drm);
-        return words;
+        return Ok(Help::of_word(words, drm));
     }
     hint_of_known(alloc, name, known)
 }
 
 /// The same of a name that nobody else is known to have.
-fn hint_of_known(alloc: Global, name: &str, known: &[&str]) -> TextBuilder {
+fn hint_of_known(alloc: Global, name: &str, known: &[&str]) -> Result<Help, AllocError> {
     if is_one_of(name, LEFT_OUT) {
-        return TextBuilder::of(alloc, "Fuchsia has it, this profile doesn't");
+        return Ok(Help::of_text(alloc, "Fuchsia has it, this profile doesn't"));
     }
-    let mut words = TextBuilder::new(alloc);
-    match nearest(alloc, name, known) {
-        Ok(Some(near)) => {
-            words.put("did you mean ").put(near).put("?");
-        }
-        Ok(None) => return listed(alloc, "allowed: ", known, "or"),
-        Err(AllocError) => words.refuse(),
-    }
-    words
+    Ok(match nearest(alloc, name, known)? {
+        Some(near) => Help::near(alloc, near),
+        None => Help::of(listed(alloc, "allowed: ", known, "or")),
+    })
 }
 
 /// Names after a text, the last with a word before it.

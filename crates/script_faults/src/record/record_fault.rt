@@ -1,15 +1,18 @@
 //! A record's first fault, in words.
 
+use crate::help::{Help, did_you_mean};
 use crate::record::alike::begins_alike;
 use crate::record::document::{Document, RecordPart};
 use crate::record::firsts::put_first_like;
-use crate::record::keys::{SIZE, is_field_of, is_one_of, kind_at, names_of, put_allowed};
-use crate::record::kinds::{is_number_within, wrong_kind, wrong_number, wrong_value};
-use crate::record::names::{hint_of_name, listed};
+use crate::record::keys::{SIZE, is_field_of, is_one_of, kind_at, names_of, put_allowed, range_of};
+use crate::record::kinds::{
+    is_number_within, nearest_within, wrong_kind, wrong_number, wrong_value,
+};
+use crate::record::names::{hint_of_name, listed, names_for};
 use crate::record::paths::{Path, joined, with};
 use crate::record::record_place::place_of;
 use crate::record::unknown::{first_unknown, key_of};
-use explanation_text::{Items, ListBuilder, Step, TextBuilder, nearest};
+use explanation_text::{Items, ListBuilder, Meant, Step, TextBuilder, nearest};
 use record_reading::{
     Code, ENTRY_FIELDS, Fault, FaultPlace, HEAP_FIELDS, HEAP_NAME_FIELDS, MEMORY_FIELDS,
     PAIR_FIELDS, PLATFORM_FIELDS,
@@ -60,7 +63,7 @@ pub fn add_record_fault<'a>(
 }
 
 /// The path from the whole to the value that the first fault of the record at a path is about.
-pub(crate) fn path_of<'a>(
+fn path_of<'a>(
     alloc: Global,
     base: &[Step<'a>],
     record: &Value,
@@ -81,7 +84,7 @@ fn add_value<'a>(
     match faulty.fault.code {
         Code::UnknownField => add_object(items, faulty, value)?,
         Code::WrongKind if is_size && value.is_object() => add_object(items, faulty, value)?,
-        Code::UnknownName => add_name(items, faulty, value),
+        Code::UnknownName => add_name(items, faulty, value)?,
         Code::WrongKind => add_kind(items, faulty, value)?,
         Code::BadMultiple => add_multiple(items, faulty, value)?,
         _ => add_list(items, faulty, value)?,
@@ -115,9 +118,14 @@ fn add_missing(items: &mut Items, faulty: Faulty<'_, '_>) {
     let object = faulty.path.get(..last).unwrap_or(&[]);
     let help = help_allowed(items.alloc(), "needed", at, faulty.is_platform);
     let note = missing_note(items.alloc(), at.name());
-    faulty
-        .document
-        .tell(items, faulty.depth, object, RecordPart::Begin, note, help)
+    faulty.document.tell(
+        items,
+        faulty.depth,
+        object,
+        RecordPart::Begin,
+        note,
+        Help::of(help),
+    )
 }
 
 /// The keys that an object at a place may have.
@@ -180,7 +188,7 @@ fn add_key(
 }
 
 /// The side of a size that isn't within bounds: the height where the width is.
-pub(crate) fn wrong_side(size: &Value, least: u64, most: u64) -> &'static str {
+fn wrong_side(size: &Value, least: u64, most: u64) -> &'static str {
     match size.get("width") {
         Some(width) if is_number_within(width, least, most) => "height",
         _ => "width",
@@ -206,7 +214,7 @@ fn add_side(items: &mut Items, faulty: Faulty<'_, '_>, value: &Value) -> Result<
                 faulty.path,
                 RecordPart::Begin,
                 note,
-                help,
+                Help::of(help),
             )
         }
     }
@@ -224,18 +232,30 @@ fn add_number(
 ) -> Result<(), AllocError> {
     let written = faulty.document.written(items.alloc(), path)?;
     let note = wrong_number(items.alloc(), number, written, bounds.0, bounds.1);
+    let help = Help {
+        words: help,
+        meant: number_meant(faulty.fault.at, number, bounds),
+    };
     faulty
         .document
         .tell(items, faulty.depth, path, RecordPart::Value, note, help);
     Ok(())
 }
 
-fn add_name(items: &mut Items, faulty: Faulty<'_, '_>, value: &Value) {
+/// The number that is allowed at a place and nearest to one that isn't.
+fn number_meant(at: FaultPlace, number: &Value, bounds: (u64, u64)) -> Option<Meant> {
+    match (at, nearest_within(number, bounds.0, bounds.1)) {
+        (FaultPlace::At(field), Some(near)) => Some(Meant::Value(field, near)),
+        _ => None,
+    }
+}
+
+fn add_name(items: &mut Items, faulty: Faulty<'_, '_>, value: &Value) -> Result<(), AllocError> {
     let name = value.as_str().unwrap_or("");
     let FaultPlace::At(field) = faulty.fault.at else {
-        return;
+        return Ok(());
     };
-    let hint = hint_of_name(items.alloc(), field, name, faulty.is_platform);
+    let hint = hint_of_name(items.alloc(), field, name, faulty.is_platform)?;
     faulty.document.advise(
         items,
         faulty.depth,
@@ -243,7 +263,8 @@ fn add_name(items: &mut Items, faulty: Faulty<'_, '_>, value: &Value) {
         RecordPart::Value,
         "unknown name",
         hint,
-    )
+    );
+    Ok(())
 }
 
 fn add_kind(items: &mut Items, faulty: Faulty<'_, '_>, value: &Value) -> Result<(), AllocError> {
@@ -251,7 +272,10 @@ fn add_kind(items: &mut Items, faulty: Faulty<'_, '_>, value: &Value) -> Result<
     let is_item = matches!(faulty.path.last(), Some(Step::Item(_)));
     let written = faulty.document.written(items.alloc(), faulty.path)?;
     let note = wrong_value(items.alloc(), at.name(), value, written, is_item);
-    let help = help_allowed(items.alloc(), "allowed", at, faulty.is_platform);
+    let help = Help {
+        words: help_allowed(items.alloc(), "allowed", at, faulty.is_platform),
+        meant: value_meant(items.alloc(), faulty, value, is_item)?,
+    };
     faulty.document.tell(
         items,
         faulty.depth,
@@ -261,6 +285,54 @@ fn add_kind(items: &mut Items, faulty: Faulty<'_, '_>, value: &Value) -> Result<
         help,
     );
     Ok(())
+}
+
+/// What may be meant by a value of a wrong kind, which is an item of a list or not: the nearest
+/// number that is allowed; true or false that is written otherwise; or a list of a name or an object
+/// that stands without brackets.
+fn value_meant(
+    alloc: Global,
+    faulty: Faulty<'_, '_>,
+    value: &Value,
+    is_item: bool,
+) -> Result<Option<Meant>, AllocError> {
+    let at = faulty.fault.at;
+    let is_list = match kind_at(at.name()) {
+        Kind::Number | Kind::Limit => return Ok(number_meant(at, value, range_of(at.name()))),
+        Kind::Flag => return Ok(flag_meant(at, value)),
+        Kind::Names if !is_item => is_known(alloc, at, value, faulty.is_platform)?,
+        Kind::Objects if !is_item => value.is_object(),
+        _ => false,
+    };
+    Ok(if is_list { Some(Meant::List) } else { None })
+}
+
+/// True or false, where it is written as a text or as 1 or 0.
+fn flag_meant(at: FaultPlace, value: &Value) -> Option<Meant> {
+    let FaultPlace::At(field) = at else {
+        return None;
+    };
+    let is_set = match (value.as_str(), value.as_u64()) {
+        (Some("true"), _) | (_, Some(1)) => true,
+        (Some("false"), _) | (_, Some(0)) => false,
+        _ => return None,
+    };
+    Some(Meant::Flag(field, is_set))
+}
+
+/// Whether a value is one of the names that a field takes.
+fn is_known(
+    alloc: Global,
+    at: FaultPlace,
+    value: &Value,
+    is_platform: bool,
+) -> Result<bool, AllocError> {
+    match (at, value.as_str()) {
+        (FaultPlace::At(field), Some(name)) => {
+            Ok(is_one_of(name, &names_for(alloc, field, is_platform)?))
+        }
+        _ => Ok(false),
+    }
 }
 
 /// An alignment or a divisor out of its range.
@@ -376,33 +448,27 @@ fn help_of_key(
     key: &str,
     keys: &[&'static str],
     is_platform: bool,
-) -> Result<Option<TextBuilder>, AllocError> {
+) -> Result<Option<Help>, AllocError> {
     match owner_of(key, keys) {
         Some(owner) if !is_platform => {
             let mut words = TextBuilder::of(alloc, key);
             words.put(" belongs in ").put(owner);
-            Ok(Some(words))
+            Ok(Some(Help::of(words)))
         }
         _ => match nearest(alloc, key, keys)? {
-            Some(near) => Ok(Some(did_you_mean(alloc, near))),
+            Some(near) => Ok(Some(Help::near(alloc, near))),
             None if is_platform => Ok(keys_here(alloc, keys)),
             None => help_elsewhere(alloc, key, keys),
         },
     }
 }
 
-fn did_you_mean(alloc: Global, near: &str) -> TextBuilder {
-    let mut words = TextBuilder::of(alloc, "did you mean ");
-    words.put(near).put("?");
-    words
-}
-
 /// The keys that an object can have, where they are few.
-fn keys_here(alloc: Global, keys: &[&str]) -> Option<TextBuilder> {
+fn keys_here(alloc: Global, keys: &[&str]) -> Option<Help> {
     if keys.len() > 5 {
         return None;
     }
-    Some(listed(alloc, "keys here: ", keys, "and"))
+    Some(Help::of(listed(alloc, "keys here: ", keys, "and")))
 }
 
 /// The objects of constraints, with their keys.
@@ -430,14 +496,14 @@ fn help_elsewhere(
     alloc: Global,
     key: &str,
     keys: &[&'static str],
-) -> Result<Option<TextBuilder>, AllocError> {
+) -> Result<Option<Help>, AllocError> {
     if let Some((near, name)) = near_elsewhere(alloc, key, keys)? {
         let mut words = did_you_mean(alloc, near);
         words.put(" It belongs in ").put(name);
-        return Ok(Some(words));
+        return Ok(Some(Help::of(words)));
     }
     Ok(match begins_alike(key, keys) {
-        Some(near) => Some(did_you_mean(alloc, near)),
+        Some(near) => Some(Help::near(alloc, near)),
         None => keys_here(alloc, keys),
     })
 }

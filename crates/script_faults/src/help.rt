@@ -1,0 +1,69 @@
+//! What helps with a fault: words, and what may be meant by what stands there.
+
+use explanation_text::{Meant, TextBuilder};
+use std::alloc::{AllocError, Global};
+
+/// What helps with a fault.
+#[derive(Drop)]
+pub struct Help {
+    pub words: TextBuilder,
+    /// What may be meant by the part that is pointed at, where that is known.
+    pub meant: Option<Meant>,
+}
+
+impl Help {
+    /// Words alone.
+    pub fn of(words: TextBuilder) -> Help {
+        Help { words, meant: None }
+    }
+
+    /// The same of one text.
+    pub fn of_text(alloc: Global, text: &str) -> Help {
+        Help::of(TextBuilder::of(alloc, text))
+    }
+
+    /// The name of a node, with words that say that it may be meant.
+    pub fn of_node(mut words: TextBuilder, name: &str) -> Help {
+        match String::from_str(words.alloc(), name) {
+            Ok(name) => Help {
+                words,
+                meant: Some(Meant::Node(name)),
+            },
+            Err(AllocError) => {
+                words.refuse();
+                Help::of(words)
+            }
+        }
+    }
+
+    /// The same of a key or another name.
+    pub fn of_word(mut words: TextBuilder, name: &str) -> Help {
+        match String::from_str(words.alloc(), name) {
+            Ok(name) => Help {
+                words,
+                meant: Some(Meant::Word(name)),
+            },
+            Err(AllocError) => {
+                words.refuse();
+                Help::of(words)
+            }
+        }
+    }
+
+    /// A key or another name that may be meant.
+    pub fn near(alloc: Global, name: &str) -> Help {
+        Help::of_word(did_you_mean(alloc, name), name)
+    }
+
+    /// The name of a node that may be meant.
+    pub fn near_node(alloc: Global, name: &str) -> Help {
+        Help::of_node(did_you_mean(alloc, name), name)
+    }
+}
+
+/// `did you mean camera?`
+pub(crate) fn did_you_mean(alloc: Global, name: &str) -> TextBuilder {
+    let mut words = TextBuilder::of(alloc, "did you mean ");
+    words.put(name).put("?");
+    words
+}
