@@ -10,7 +10,7 @@ use explanation_text::{Item, Items, Kind, TextBuilder, begins_character, line_of
 use other_outcomes::{list_meant, list_moved};
 use script_faults::{Document, NumberBeyond, add_fault, has_name_bytes};
 use script_reading::{ParseFault, Script, ScriptFault, parse_script, read_script};
-use script_story::{Became, Domain, Effort, Scenario, Story, story_of};
+use script_story::{Became, Effort, Scenario, Story, story_of};
 use std::alloc::{AllocError, Global};
 use sysmem_counts::Field;
 use sysmem_formats::{Modifier, PixelFormat};
@@ -195,19 +195,28 @@ fn byte_at(bytes: &[u8], line: usize, column: usize) -> Option<usize> {
     None
 }
 
+/// What the report says of the initial domain.
+pub(crate) fn said_in<'a>(story: &'a Story<'_>) -> &'a str {
+    match story.domains.first() {
+        Some(domain) => &domain.told.said,
+        None => "",
+    }
+}
+
 /// Tells what the script has once these are corrected: its answer, which calls are refused then, and
-/// what is chosen.
+/// what is chosen unless that is said now.
 pub(crate) fn add_corrected(
     items: &mut Items,
     document: &Document<'_>,
     meant: &[Correction],
     effort: Option<&Effort>,
+    now: &str,
 ) -> Result<(), AllocError> {
     if meant.is_empty() {
         return Ok(());
     }
     match corrected(items.alloc(), document.bytes, meant)? {
-        Some(bytes) => add_bytes(items, document, meant, &bytes, effort),
+        Some(bytes) => add_bytes(items, document, meant, &bytes, effort, now),
         None => Ok(()),
     }
 }
@@ -219,6 +228,7 @@ fn add_bytes(
     meant: &[Correction],
     bytes: &[u8],
     effort: Option<&Effort>,
+    now: &str,
 ) -> Result<(), AllocError> {
     match parse_script(items.alloc(), bytes) {
         Ok(value) => {
@@ -229,7 +239,7 @@ fn add_bytes(
                 value: &value,
                 whole: document.whole,
             };
-            add_answer(items, &other, effort, true)
+            add_answer(items, &other, effort, Some(now))
         }
         Err(ParseFault::NoMemory) => Err(AllocError),
         Err(ParseFault::Refused(_)) => Ok(()),
@@ -322,7 +332,7 @@ pub(crate) fn add_called_otherwise(
         value: &value,
         whole: document.whole,
     };
-    add_answer(items, &other, Some(scenario.effort), true)
+    add_answer(items, &other, Some(scenario.effort), Some(said_in(story)))
 }
 
 /// Tells what the script has once the calls are moved that stand too early, if some do. What is
@@ -342,29 +352,30 @@ fn add_moved(
         value: &value,
         whole: document.whole,
     };
-    let is_told = !story
+    let waits = story
         .domains
         .iter()
         .any(|domain| domain.became == Became::Pending);
-    add_answer(items, &other, Some(scenario.effort), is_told)
+    let now = if waits { None } else { Some(said_in(story)) };
+    add_answer(items, &other, Some(scenario.effort), now)
 }
 
-/// Tells the answer of a script, which of its calls are refused, what would help its domains, and if
-/// it is to be told what is chosen; or that it is refused itself. What is tried costs of this, or as
-/// much as of a script by itself.
+/// Tells the answer of a script, which of its calls are refused, what would help its domains, and
+/// what is chosen unless that is said now, or it isn't to be told as nothing is given for now; or
+/// that it is refused itself. What is tried costs of this, or as much as of a script by itself.
 fn add_answer(
     items: &mut Items,
     document: &Document<'_>,
     effort: Option<&Effort>,
-    is_told: bool,
+    now: Option<&str>,
 ) -> Result<(), AllocError> {
     let alloc = items.alloc();
     match read_script(alloc, document.value) {
         Ok(script) => match effort {
-            Some(effort) => add_script(items, document, &script, effort, is_told),
+            Some(effort) => add_script(items, document, &script, effort, now),
             None => {
                 let effort = Effort::new(alloc, &script.platform, &script.calls)?;
-                add_script(items, document, &script, &effort, is_told)
+                add_script(items, document, &script, &effort, now)
             }
         },
         Err(ParseFault::NoMemory) => Err(AllocError),
@@ -373,13 +384,13 @@ fn add_answer(
 }
 
 /// Tells the answer of a script that isn't refused, which of its calls are, what would help its
-/// domains, and if it is to be told what is chosen.
+/// domains, and what is chosen unless that is said now.
 fn add_script<'a>(
     items: &mut Items,
     document: &Document<'a>,
     script: &Script<'a>,
     effort: &Effort,
-    is_told: bool,
+    now: Option<&str>,
 ) -> Result<(), AllocError> {
     let alloc = items.alloc();
     let scenario = Scenario {
@@ -393,21 +404,23 @@ fn add_script<'a>(
     }
     let story = story_of(alloc, document.value, &script.calls, &told)?;
     add_in_short(items, &story)?;
-    add_domains_then(items, document, &scenario, &story, is_told)
+    add_domains_then(items, document, &scenario, &story, now)
 }
 
-/// Tells why each domain has no settings, or none with an earlier child, and what would help; and if
-/// it is to be told what is chosen.
+/// Tells why each domain has no settings, or none with an earlier child, and what would help; and
+/// what is chosen unless that is said now.
 fn add_domains_then(
     items: &mut Items,
     document: &Document<'_>,
     scenario: &Scenario<'_>,
     story: &Story<'_>,
-    is_told: bool,
+    now: Option<&str>,
 ) -> Result<(), AllocError> {
     for (index, domain) in story.domains.iter().enumerate() {
-        if is_told && domain.became == Became::Chosen {
-            add_chosen(items, scenario, story, index, domain)?;
+        if let Some(now) = now
+            && domain.became == Became::Chosen
+        {
+            add_chosen(items, scenario, story, index, now)?;
             continue;
         }
         add_shortly(items, scenario.platform, story, index)?;
@@ -419,15 +432,20 @@ fn add_domains_then(
     Ok(())
 }
 
-/// Tells what is chosen in the initial domain, and what isn't: an attached one has its settings.
+/// Tells what is chosen in the initial domain, unless that is said now, and what isn't: an attached
+/// one has its settings.
 fn add_chosen(
     items: &mut Items,
     scenario: &Scenario<'_>,
     story: &Story<'_>,
     index: usize,
-    domain: &Domain,
+    now: &str,
 ) -> Result<(), AllocError> {
-    if domain.host.is_some() {
+    let Some(domain) = story.domains.get(index) else {
+        return Ok(());
+    };
+    let said: &str = &domain.told.said;
+    if domain.host.is_some() || said == now {
         return Ok(());
     }
     let alloc = items.alloc();

@@ -5,7 +5,7 @@ ghost use Rattle.std.specs.String.{string_bytes};
 ghost use Rattle.explain.specs.Lines.{IsToldBy, item_texts};
 ghost use Rattle.explain.specs.Wanted.{AreThere};
 
-use crate::corrected::{add_called_otherwise, add_corrected, meant_in};
+use crate::corrected::{add_called_otherwise, add_corrected, meant_in, said_in};
 use crate::domains::add_domains;
 use crate::json::{PlayedScript, Scene, objects_of};
 use crate::lines::with_lines;
@@ -215,7 +215,7 @@ fn fault_items(
     let told = told.into_list()?;
     let meant = meant_in(alloc, document, &told, &[])?;
     let mut items = with_repeats(alloc, document, told)?;
-    add_corrected(&mut items, document, &meant, None)?;
+    add_corrected(&mut items, document, &meant, None, "")?;
     Ok(items)
 }
 
@@ -334,7 +334,7 @@ fn add_calls(
     for item in refused {
         items.add(item);
     }
-    add_corrected(items, document, &meant, Some(effort))
+    add_corrected(items, document, &meant, Some(effort), said_in(story))
 }
 
 /// The numbers that are beyond what is allowed in the constraints of calls that are refused so.
