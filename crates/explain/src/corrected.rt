@@ -1,198 +1,34 @@
-//! What a script means once each text in it is corrected that nearly is a known one, and each number
-//! that is beyond what is allowed; and once its calls are moved that stand too early.
+//! What a script means once each part of it is corrected of which it is known what may be meant; and
+//! once its calls are moved that stand too early.
 
 use crate::helping::{LEVELS, add_help_then};
+use crate::mended::{mended, put_corrections};
 use crate::not_chosen::add_not_chosen;
 use constraint_changes::put_choice;
 use domain_reasons::{add_in_short, add_shortly, choices_in};
-use explanation_text::wording::{mark_after, put_visible};
-use explanation_text::{Item, Items, Kind, TextBuilder, begins_character, line_of};
+use explanation_text::{Correction, Item, Items, Kind, TextBuilder};
 use other_outcomes::{list_meant, list_moved};
-use script_faults::{Document, NumberBeyond, add_fault, has_name_bytes};
+use script_faults::{Document, add_fault};
 use script_reading::{ParseFault, Script, ScriptFault, parse_script, read_script};
 use script_story::{Became, Effort, Scenario, Story, story_of};
 use std::alloc::{AllocError, Global};
-use sysmem_counts::Field;
-use sysmem_formats::{Modifier, PixelFormat};
 
-/// What is corrected.
-#[derive(Clone, Copy)]
-enum Part {
-    /// The name of a node.
-    Name,
-    /// Another text.
-    Word,
-    /// A number that is the value of a field.
-    Number(Field),
-}
-
-/// A part of the script, by its bytes, and what it may mean: a text between its quotes, or a number.
-#[derive(Drop)]
-pub(crate) struct Correction {
-    start: usize,
-    end: usize,
-    is: String,
-    part: Part,
-}
-
-/// What the faults that are shown may mean, of which some are of these numbers; nothing where one
-/// of the others has no known text near it, or isn't a plain one in quotes.
-pub(crate) fn meant_in(
+/// What may be meant where faults are shown; nothing where of one of them that isn't known.
+pub(crate) fn corrections_in<'b>(
     alloc: Global,
-    document: &Document<'_>,
-    shown: &[Item],
-    numbers: &[NumberBeyond],
-) -> Result<Vec<Correction>, AllocError> {
-    let mut words = TextBuilder::new(alloc);
-    put_visible(&mut words, document.file);
-    let file = words.done()?;
-    let mut meant = Vec::new(alloc);
+    shown: &'b [Item],
+) -> Result<Vec<&'b Correction>, AllocError> {
+    let mut all = Vec::new(alloc);
     for item in shown {
         if item.kind != Kind::Source {
             continue;
         }
-        match meant_by(alloc, document.bytes, &file, &item.text, numbers)? {
-            Some(one) => meant.push(one)?,
+        match &item.correction {
+            Some(one) => all.push(one)?,
             None => return Ok(Vec::new(alloc)),
         }
     }
-    Ok(meant)
-}
-
-/// What a fault that is shown may mean.
-fn meant_by(
-    alloc: Global,
-    bytes: &[u8],
-    file: &str,
-    shown: &str,
-    numbers: &[NumberBeyond],
-) -> Result<Option<Correction>, AllocError> {
-    let Some(at) = place_of(bytes, file, shown) else {
-        return Ok(None);
-    };
-    match numbers.iter().find(|number| number.span.start == at) {
-        Some(number) => Ok(Some(number_meant(alloc, *number)?)),
-        None => text_meant(alloc, bytes, at, shown),
-    }
-}
-
-/// The nearest number that is allowed.
-fn number_meant(alloc: Global, number: NumberBeyond) -> Result<Correction, AllocError> {
-    let mut is = TextBuilder::new(alloc);
-    is.put_number(number.nearest);
-    Ok(Correction {
-        start: number.span.start,
-        end: number.span.end,
-        is: is.done()?,
-        part: Part::Number(number.field),
-    })
-}
-
-/// What a text may mean that begins at a byte, and of whose fault this is shown.
-fn text_meant(
-    alloc: Global,
-    bytes: &[u8],
-    at: usize,
-    shown: &str,
-) -> Result<Option<Correction>, AllocError> {
-    let Some(is) = known_of(shown) else {
-        return Ok(None);
-    };
-    let start = at.saturating_add(1);
-    let rest = bytes.get(start..).unwrap_or(&[]);
-    let end = start.saturating_add(plain_length(rest));
-    if bytes.get(at).copied() != Some(b'"') || bytes.get(end).copied() != Some(b'"') {
-        return Ok(None);
-    }
-    let part = if is_at_node(shown) {
-        Part::Name
-    } else {
-        Part::Word
-    };
-    Ok(Some(Correction {
-        start,
-        end,
-        is: String::from_str(alloc, is)?,
-        part,
-    }))
-}
-
-/// How many bytes stand before the first quote or backslash.
-fn plain_length(bytes: &[u8]) -> usize {
-    for (k, byte) in bytes.iter().enumerate() {
-        if *byte == b'"' || *byte == b'\\' {
-            return k;
-        }
-    }
-    bytes.len()
-}
-
-/// The known text that a line on what helps names: `did you mean camera?`, `it is vulkan here`.
-fn known_in<'a>(line: &'a str) -> Option<&'a str> {
-    let (_, help) = line.split_once(" = ")?;
-    let name = match help.strip_prefix("did you mean ") {
-        Some(asked) => asked.strip_suffix("?")?,
-        None => {
-            let (_, told) = help.strip_suffix(" here")?.split_once(" is ")?;
-            told
-        }
-    };
-    if has_name_bytes(name) {
-        Some(name)
-    } else {
-        None
-    }
-}
-
-/// The first known text that the lines on what helps name.
-fn known_of<'a>(shown: &'a str) -> Option<&'a str> {
-    for line in shown.lines() {
-        if let Some(name) = known_in(line) {
-            return Some(name);
-        }
-    }
-    None
-}
-
-/// Where the fault begins whose line and column are shown after the name of the file: `  -->
-/// camera.json:13:17: ..`.
-fn place_of(bytes: &[u8], file: &str, shown: &str) -> Option<usize> {
-    let (_, after) = shown.lines().next()?.split_once("--> ")?;
-    let numbers = after.strip_prefix(file)?.strip_prefix(":")?;
-    let (line, more) = numbers.split_once(':')?;
-    let (column, _) = more.split_once(':').unwrap_or((more, ""));
-    match (line.parse::<usize>(), column.parse::<usize>()) {
-        (Ok(line), Ok(column)) => byte_at(bytes, line, column),
-        _ => None,
-    }
-}
-
-/// Whether the fault is in the name of the node on which a call is made: `  -->
-/// camera.json:13:17: calls[2].on`.
-fn is_at_node(shown: &str) -> bool {
-    match shown.lines().next() {
-        Some(line) => line.ends_with("].on"),
-        None => false,
-    }
-}
-
-/// The byte at a line and a column, both from 1, a column for each character.
-fn byte_at(bytes: &[u8], line: usize, column: usize) -> Option<usize> {
-    let mut at_line = 1usize;
-    let mut at_column = 0usize;
-    for (at, byte) in bytes.iter().enumerate() {
-        if begins_character(*byte) {
-            at_column = at_column.saturating_add(1);
-        }
-        if at_line == line && at_column == column {
-            return Some(at);
-        }
-        if *byte == b'\n' {
-            at_line = at_line.saturating_add(1);
-            at_column = 0;
-        }
-    }
-    None
+    Ok(all)
 }
 
 /// What the report says of the initial domain.
@@ -208,15 +44,15 @@ pub(crate) fn said_in<'a>(story: &'a Story<'_>) -> &'a str {
 pub(crate) fn add_corrected(
     items: &mut Items,
     document: &Document<'_>,
-    meant: &[Correction],
+    corrections: &[&Correction],
     effort: Option<&Effort>,
     now: &str,
 ) -> Result<(), AllocError> {
-    if meant.is_empty() {
+    if corrections.is_empty() {
         return Ok(());
     }
-    match corrected(items.alloc(), document.bytes, meant)? {
-        Some(bytes) => add_bytes(items, document, meant, &bytes, effort, now),
+    match mended(items.alloc(), document, corrections)? {
+        Some(bytes) => add_bytes(items, document, corrections, &bytes, effort, now),
         None => Ok(()),
     }
 }
@@ -225,14 +61,14 @@ pub(crate) fn add_corrected(
 fn add_bytes(
     items: &mut Items,
     document: &Document<'_>,
-    meant: &[Correction],
+    corrections: &[&Correction],
     bytes: &[u8],
     effort: Option<&Effort>,
     now: &str,
 ) -> Result<(), AllocError> {
     match parse_script(items.alloc(), bytes) {
         Ok(value) => {
-            add_meant(items, document.bytes, meant);
+            add_meant(items, document, corrections)?;
             let other = Document {
                 file: document.file,
                 bytes,
@@ -247,72 +83,16 @@ fn add_bytes(
 }
 
 /// Tells what is corrected.
-fn add_meant(items: &mut Items, bytes: &[u8], meant: &[Correction]) {
+fn add_meant(
+    items: &mut Items,
+    document: &Document<'_>,
+    corrections: &[&Correction],
+) -> Result<(), AllocError> {
     let mut words = TextBuilder::of(items.alloc(), "with ");
-    put_meant(&mut words, bytes, meant);
+    put_corrections(&mut words, document, corrections)?;
     words.put(" the script has:");
-    items.say(1, "then", words)
-}
-
-/// The script with what is meant; `None` where that doesn't stand in the order of the text.
-fn corrected(
-    alloc: Global,
-    bytes: &[u8],
-    meant: &[Correction],
-) -> Result<Option<Vec<u8>>, AllocError> {
-    let mut made = Vec::new(alloc);
-    let mut from = 0usize;
-    for one in meant {
-        if one.start < from {
-            return Ok(None);
-        }
-        made.extend_from_slice(bytes.get(from..one.start).unwrap_or(&[]))?;
-        made.extend_from_slice(one.is.as_bytes())?;
-        from = one.end;
-    }
-    made.extend_from_slice(bytes.get(from..).unwrap_or(&[]))?;
-    Ok(Some(made))
-}
-
-/// Puts what stands in the place of what after a text: `vulkan in the place of gpu (line 13)`.
-fn put_meant(text: &mut TextBuilder, bytes: &[u8], meant: &[Correction]) {
-    for (k, one) in meant.iter().enumerate() {
-        put_one(text, bytes, one);
-        text.put(mark_after(k, meant.len()));
-    }
-}
-
-/// Puts what is meant after a text: a field, a format, a modifier or another word.
-fn put_known(text: &mut TextBuilder, word: &str) {
-    if let Some(field) = Field::from_name(word) {
-        text.field(field);
-    } else if let Some(format) = PixelFormat::from_name(word) {
-        text.format(format);
-    } else if let Some(modifier) = Modifier::from_name(word) {
-        text.modifier(modifier);
-    } else {
-        text.put(word);
-    }
-}
-
-fn put_one(text: &mut TextBuilder, bytes: &[u8], one: &Correction) {
-    let line = line_of(bytes, one.start.min(bytes.len()));
-    match one.part {
-        Part::Name => {
-            text.put(&one.is);
-        }
-        Part::Word => put_known(text, &one.is),
-        Part::Number(field) => {
-            text.field(field).put(" ").put(&one.is);
-        }
-    }
-    text.put(" in the place of ");
-    let was = bytes.get(one.start..one.end).unwrap_or(&[]);
-    match String::from_utf8_lossy(text.alloc(), was) {
-        Ok(was) => put_visible(text, &was),
-        Err(AllocError) => text.refuse(),
-    }
-    text.put(" (line ").put_number(line).put(")");
+    items.say(1, "then", words);
+    Ok(())
 }
 
 /// Tells what the script has once refused calls are made on the nodes that they may mean, if some

@@ -5,18 +5,17 @@ ghost use Rattle.std.specs.String.{string_bytes};
 ghost use Rattle.explain.specs.Lines.{IsToldBy, item_texts};
 ghost use Rattle.explain.specs.Wanted.{AreThere};
 
-use crate::corrected::{add_called_otherwise, add_corrected, meant_in, said_in};
+use crate::corrected::{add_called_otherwise, add_corrected, corrections_in, said_in};
 use crate::domains::add_domains;
 use crate::json::{PlayedScript, Scene, objects_of};
 use crate::lines::with_lines;
 use crate::page::page_of_scene;
 use domain_reasons::answer_of;
 use explanation_text::{
-    Item, Items, Kind, Span, Step, TextBuilder, column_of, line_of, repeated_keys, text_of,
+    Item, Items, Kind, Span, TextBuilder, column_of, line_of, repeated_keys, text_of,
 };
-use script_faults::{Document, NumberBeyond, Whole, add_fault, add_no_json, number_beyond};
+use script_faults::{Document, Whole, add_fault, add_no_json};
 use script_reading::{ParseFault, Script, ScriptFault, parse_script, read_script};
-use script_replay::Reply;
 use script_story::{Became, Effort, Scenario, Story, list_refused, refused_calls, story_of};
 use serde_json::Value;
 use std::alloc::{AllocError, Global};
@@ -79,12 +78,11 @@ pub fn explain(
                 value: &Value::Null,
                 whole: Whole::Script,
             };
-            let mut items = Items::new(alloc);
-            if fault == ScriptFault::NotJson {
-                add_no_json(&mut items, file, bytes)?;
+            let items = if fault == ScriptFault::NotJson {
+                broken_items(alloc, &document)?
             } else {
-                add_fault(&mut items, &document, fault)?;
-            }
+                fault_items(alloc, &document, fault)?
+            };
             refusal(alloc, document, items, wanted)
         }
     }
@@ -213,9 +211,22 @@ fn fault_items(
     let mut told = Items::new(alloc);
     add_fault(&mut told, document, fault)?;
     let told = told.into_list()?;
-    let meant = meant_in(alloc, document, &told, &[])?;
+    let mut after = Items::new(alloc);
+    let corrections = corrections_in(alloc, &told)?;
+    add_corrected(&mut after, document, &corrections, None, "")?;
     let mut items = with_repeats(alloc, document, told)?;
-    add_corrected(&mut items, document, &meant, None, "")?;
+    items.append(after);
+    Ok(items)
+}
+
+/// What is told of a script that is no JSON.
+fn broken_items(alloc: Global, document: &Document<'_>) -> Result<Items, AllocError> {
+    let mut items = Items::new(alloc);
+    add_no_json(&mut items, document.file, document.bytes)?;
+    let mut after = Items::new(alloc);
+    let corrections = corrections_in(alloc, items.list())?;
+    add_corrected(&mut after, document, &corrections, None, "")?;
+    items.append(after);
     Ok(items)
 }
 
@@ -318,8 +329,8 @@ fn add_untold(items: &mut Items, effort: &Effort) {
     }
 }
 
-/// Tells which calls were refused, and what comes once the texts in them are corrected that nearly
-/// are known ones, and the numbers that are beyond what is allowed.
+/// Tells which calls were refused, and what comes once all in them is corrected, if of each it is
+/// known what may be meant.
 fn add_calls(
     items: &mut Items,
     document: &Document<'_>,
@@ -329,34 +340,20 @@ fn add_calls(
     let mut refused = Items::new(items.alloc());
     list_refused(&mut refused, document, story)?;
     let refused = refused.into_list()?;
-    let numbers = numbers_in(items.alloc(), document, story)?;
-    let meant = meant_in(items.alloc(), document, &refused, &numbers)?;
+    let mut after = Items::new(items.alloc());
+    let corrections = corrections_in(items.alloc(), &refused)?;
+    add_corrected(
+        &mut after,
+        document,
+        &corrections,
+        Some(effort),
+        said_in(story),
+    )?;
     for item in refused {
         items.add(item);
     }
-    add_corrected(items, document, &meant, Some(effort), said_in(story))
-}
-
-/// The numbers that are beyond what is allowed in the constraints of calls that are refused so.
-fn numbers_in(
-    alloc: Global,
-    document: &Document<'_>,
-    story: &Story<'_>,
-) -> Result<Vec<NumberBeyond>, AllocError> {
-    let mut numbers = Vec::new(alloc);
-    for (place, call) in story.calls.iter().enumerate() {
-        let base = [
-            Step::Key("calls"),
-            Step::Item(place),
-            Step::Key("constraints"),
-        ];
-        if let Reply::Misread(fault) = call.reply
-            && let Some(number) = number_beyond(alloc, document, &base, fault)?
-        {
-            numbers.push(number)?;
-        }
-    }
-    Ok(numbers)
+    items.append(after);
+    Ok(())
 }
 
 fn outcome_of(story: &Story<'_>) -> Outcome {

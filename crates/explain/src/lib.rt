@@ -17,6 +17,7 @@ mod explaining;
 mod helping;
 mod json;
 mod lines;
+mod mended;
 mod not_chosen;
 mod page;
 mod written;
