@@ -55,19 +55,20 @@ fn put_meant(made: &mut Vec<u8>, was: &[u8], meant: &Meant) -> Result<(), AllocE
         Meant::Node(name) | Meant::Word(name) => {
             made.push(b'"')?;
             made.extend_from_slice(name.as_bytes())?;
-            made.push(b'"')
+            made.push(b'"')?;
         }
         Meant::Number(number) | Meant::Value(_, number) => {
             let text = format!(in alloc; "{number}")?;
-            made.extend_from_slice(text.as_bytes())
+            made.extend_from_slice(text.as_bytes())?;
         }
-        Meant::Flag(_, is_set) => made.extend_from_slice(flag_text(*is_set).as_bytes()),
+        Meant::Flag(_, is_set) => made.extend_from_slice(flag_text(*is_set).as_bytes())?,
         Meant::List => {
             made.push(b'[')?;
             made.extend_from_slice(was)?;
-            made.push(b']')
+            made.push(b']')?;
         }
     }
+    Ok(())
 }
 
 fn flag_text(is_set: bool) -> &'static str {
