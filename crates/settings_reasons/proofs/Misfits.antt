@@ -1,6 +1,6 @@
 -- What a misfit says of an offer and of a place.
 use Rattle.std.proofs.Common.{◌≡◌, ◌⊎◌, inl, inr, Bool, true, false, not, List, [], ◌∷◌, All, Contains, Option, Some, None, IsSomeAnd, slice_get, refl, sym, ap, subst, ◌∙◌, arith}
-use Rattle.std.proofs.lemmas.List.Elements.{All-nil, All-cons, All-contains}
+use Rattle.std.proofs.lemmas.List.Elements.{All-nil, All-cons, All-contains, All-from_recursion}
 use Rattle.std.proofs.lemmas.Option.{same_Some}
 use Rattle.sysmem_counts.specs.declared.field.Field.{Field}
 use Rattle.sysmem_counts.specs.declared.field.Field.TheVariants.{PermittedHeaps, PhysicallyContiguousRequired, SecureRequired, CpuDomainSupported, RamDomainSupported, InaccessibleDomainSupported, Usage, PixelFormat, ColorSpaces}
@@ -62,17 +62,11 @@ Refused heap s p field = FailsIn field heap s p → refuses field heap s.place.c
 
 -- this is so of each field by which places are refused
 places_fail : (heap : HeapFacts) (s : Settings) (p : Participant) → All (Refused heap s p) place_fields
-places_fail heap s p =
-    All-cons P PermittedHeaps _ (place_fails PermittedHeaps heap s p refl)
-    (All-cons P PhysicallyContiguousRequired _ (place_fails PhysicallyContiguousRequired heap s p refl)
-    (All-cons P SecureRequired _ (place_fails SecureRequired heap s p refl)
-    (All-cons P CpuDomainSupported _ (place_fails CpuDomainSupported heap s p refl)
-    (All-cons P RamDomainSupported _ (place_fails RamDomainSupported heap s p refl)
-    (All-cons P InaccessibleDomainSupported _ (place_fails InaccessibleDomainSupported heap s p refl)
-    (All-cons P Usage [] (place_fails Usage heap s p refl) (All-nil P)))))))
-  where
-    P : Field → Type 0
-    P = Refused heap s p
+places_fail heap s p = All-from_recursion (Refused heap s p) place_fields
+    (place_fails PermittedHeaps heap s p refl, (place_fails PhysicallyContiguousRequired heap s p refl,
+    (place_fails SecureRequired heap s p refl, (place_fails CpuDomainSupported heap s p refl,
+    (place_fails RamDomainSupported heap s p refl, (place_fails InaccessibleDomainSupported heap s p refl,
+    (place_fails Usage heap s p refl, tt)))))))
 
 -- a list of one of whom it is true
 pub one_of_whom : (P : Participant → Type 0) (one : Participant) → P one → AllOfSome P (one ∷ [])
