@@ -1,5 +1,5 @@
 -- The reasons against an offer.
-use Rattle.std.proofs.Common.{◌≡◌, ◌⊎◌, inl, inr, ℕ, ◌+◌, ◌<◌, Bool, true, false, not, List, [], ◌∷◌, ◌++◌, length, get_or, take, Option, Some, None, option_to_list, refl, sym, ap, subst, ◌∙◌, arith}
+use Rattle.std.proofs.Common.{◌≡◌, ◌⊎◌, ◌↔◌, inl, inr, IsTrue, ℕ, ◌+◌, ◌<◌, Bool, true, false, not, List, [], ◌∷◌, ◌++◌, length, get_or, take, Option, Some, None, option_to_list, refl, sym, ap, subst, ◌∙◌, arith}
 use Rattle.std.proofs.lemmas.List.{take_more}
 use Rattle.sysmem_counts.specs.declared.field.Field.{Field}
 use Rattle.sysmem_formats.specs.declared.offer.Offer.{Offer}
@@ -34,6 +34,10 @@ AreLines-none : (o : Offer) (w : Bool) (ps : List Participant) (fields : List Fi
 AreLines-none o w ps [] reasons field isnt lines = inr (isnt, lines)
 AreLines-none o w ps (f ∷ fs) reasons field isnt (inl here) = inl (here.0, here.1, here.2, AreLines-none o w ps fs here.0 field isnt here.3)
 AreLines-none o w ps (f ∷ fs) reasons field isnt (inr later) = inr (later.0, AreLines-none o w ps fs reasons field isnt later.1)
+
+-- what a test decides isn't so where the test fails
+pub not_decided : {P : Type 0} (b : Bool) → IsTrue b ↔ P → b ≡ false → ¬ P
+not_decided b decides isnt = λ is. cc (decides.1 is, isnt)
 
 -- the next line of a list, which is true
 pub line_more : (o : Offer) (w : Bool) (ps : List Participant) (lines : List Field) (i : ℕ) (d : Field) (reason : OfferRefusal) (old new : List OfferRefusal) → i < length lines → IsTrueLine o w ps (get_or lines i d)
