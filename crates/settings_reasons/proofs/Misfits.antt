@@ -10,7 +10,7 @@ use Rattle.sysmem_image.specs.Fields as bound
 use Rattle.sysmem_image.specs.Fields.{Bound, field_of}
 use Rattle.sysmem_memory.specs.declared.domain.CoherencyDomain.{CoherencyDomain}
 use Rattle.sysmem_memory.specs.Heap.{HeapFacts}
-use Rattle.sysmem_memory.specs.PlaceTable.{place_fields, refuses_by}
+use Rattle.sysmem_memory.specs.PlaceTable.{place_fields}
 use Rattle.offer_fits.specs.Demands.{offer_demand}
 use Rattle.offer_fits.specs.Offers.{entry_bounds, has_colour, has_format}
 use Rattle.sysmem_merge.specs.Failing.{FailsIn, FailsOn}
@@ -62,11 +62,25 @@ Refused heap s p field = FailsIn field heap s p → refuses field heap s.place.c
 
 -- this is so of each field by which places are refused
 places_fail : (heap : HeapFacts) (s : Settings) (p : Participant) → All (Refused heap s p) place_fields
-places_fail heap s p = All-from_recursion (Refused heap s p) place_fields
-    (place_fails PermittedHeaps heap s p refl, (place_fails PhysicallyContiguousRequired heap s p refl,
-    (place_fails SecureRequired heap s p refl, (place_fails CpuDomainSupported heap s p refl,
-    (place_fails RamDomainSupported heap s p refl, (place_fails InaccessibleDomainSupported heap s p refl,
-    (place_fails Usage heap s p refl, tt)))))))
+places_fail heap s p = All-from_recursion (Refused heap s p) place_fields (
+  place_fails PermittedHeaps heap s p refl,
+  (
+    place_fails PhysicallyContiguousRequired heap s p refl,
+    (
+      place_fails SecureRequired heap s p refl,
+      (
+        place_fails CpuDomainSupported heap s p refl,
+        (
+          place_fails RamDomainSupported heap s p refl,
+          (
+            place_fails InaccessibleDomainSupported heap s p refl,
+            (place_fails Usage heap s p refl, tt),
+          ),
+        ),
+      ),
+    ),
+  ),
+)
 
 -- a list of one of whom it is true
 pub one_of_whom : (P : Participant → Type 0) (one : Participant) → P one → AllOfSome P (one ∷ [])

@@ -52,14 +52,14 @@ impl<'a> Clash<'a> {
     ) -> Option<Clash<'a>>
         requires { IfSome (option_copied entry) (Contains participant.asked.now.entries) }
         ensures some { IfSome result (λ clash. clash ≡ record {
-          participant = participant.asked.now;
-          entry = option_copied entry;
+          participant = participant.entry.asked.now;
+          entry = option_copied entry.entry;
           least = least;
           most = most;
         }) }
         ensures none { IfNone result (is_above
-            (stated_at participant.asked.now (option_copied entry) least)
-            (stated_at participant.asked.now (option_copied entry) most) ≡ false) }
+            (stated_at participant.entry.asked.now (option_copied entry.entry) least)
+            (stated_at participant.entry.asked.now (option_copied entry.entry) most) ≡ false) }
     {
         let low = stated_at(participant.asked, entry, least);
         if !low.is_above(stated_at(participant.asked, entry, most)) {
@@ -116,7 +116,7 @@ impl<'a> Clash<'a> {
 
 /// What a participant states at a field: in an entry, or apart from its entries.
 fn stated_at(asked: &Constraints, entry: Option<&Entry>, field: Field) -> Amount
-    ensures { result ≡ stated_at asked.now (option_copied entry) field }
+    ensures { result ≡ stated_at asked.now (option_copied entry.entry) field }
 {
     match entry {
         Some(entry) => amount_at(&entry.bounds.asked, field),

@@ -1,6 +1,5 @@
 -- One more who refuses the place by the field, or nobody more.
-use Rattle.std.proofs.Common.{◌≡◌, Bool, false, sym, subst, take, ◌∙◌}
-use Rattle.std.proofs.lemmas.List.{take_all}
+use Rattle.std.proofs.Common.{◌≡◌, sym, ◌∙◌}
 use Rattle.settings_reasons.specs.True.{refuses}
 use Rattle.settings_reasons.proofs.Participants.{one_kept, one_left}
 use Rattle.settings_reasons.proofs.place_reason.refusing.Goals as goal
