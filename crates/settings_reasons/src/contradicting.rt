@@ -50,8 +50,8 @@ pub(crate) fn add_contradictions(
     }
 }
 
-/// The first of some pairs of fields that contradict each other in a participant's record: in one of
-/// its entries, or apart from these.
+/// The first of some pairs of fields that contradict each other in a participant's record: in one
+/// of its entries, or apart from these.
 fn first_clash<'a>(
     participant: NamedParticipant<'a>,
     entry: Option<&'a Entry>,
