@@ -14,10 +14,7 @@ use script_story::{Became, Effort, Scenario, Story, story_of};
 use std::alloc::{AllocError, Global};
 
 /// What may be meant where faults are shown; nothing where of one of them that isn't known.
-pub(crate) fn corrections_in<'b>(
-    alloc: Global,
-    shown: &'b [Item],
-) -> Result<Vec<&'b Correction>, AllocError> {
+fn corrections_in<'b>(alloc: Global, shown: &'b [Item]) -> Result<Vec<&'b Correction>, AllocError> {
     let mut all = Vec::new(alloc);
     for item in shown {
         if item.kind != Kind::Source {
@@ -39,9 +36,23 @@ pub(crate) fn said_in<'a>(story: &'a Story<'_>) -> &'a str {
     }
 }
 
-/// Tells what the script has once these are corrected: its answer, which calls are refused then, and
-/// what is chosen unless that is said now.
-pub(crate) fn add_corrected(
+/// What the script has once what may be meant stands where faults are shown, if of each of them that
+/// is known: its answer, which calls are refused then, and what is chosen unless that is said now.
+pub(crate) fn corrected(
+    alloc: Global,
+    document: &Document<'_>,
+    shown: &[Item],
+    effort: Option<&Effort>,
+    now: &str,
+) -> Result<Items, AllocError> {
+    let mut items = Items::new(alloc);
+    let corrections = corrections_in(alloc, shown)?;
+    add_corrected(&mut items, document, &corrections, effort, now)?;
+    Ok(items)
+}
+
+/// Tells what the script has once these are corrected.
+fn add_corrected(
     items: &mut Items,
     document: &Document<'_>,
     corrections: &[&Correction],

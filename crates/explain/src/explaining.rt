@@ -5,7 +5,7 @@ ghost use Rattle.std.specs.String.{string_bytes};
 ghost use Rattle.explain.specs.Lines.{IsToldBy, item_texts};
 ghost use Rattle.explain.specs.Wanted.{AreThere};
 
-use crate::corrected::{add_called_otherwise, add_corrected, corrections_in, said_in};
+use crate::corrected::{add_called_otherwise, corrected, said_in};
 use crate::domains::add_domains;
 use crate::json::{PlayedScript, Scene, objects_of};
 use crate::lines::with_lines;
@@ -211,9 +211,7 @@ fn fault_items(
     let mut told = Items::new(alloc);
     add_fault(&mut told, document, fault)?;
     let told = told.into_list()?;
-    let mut after = Items::new(alloc);
-    let corrections = corrections_in(alloc, &told)?;
-    add_corrected(&mut after, document, &corrections, None, "")?;
+    let after = corrected(alloc, document, &told, None, "")?;
     let mut items = with_repeats(alloc, document, told)?;
     items.append(after);
     Ok(items)
@@ -223,9 +221,7 @@ fn fault_items(
 fn broken_items(alloc: Global, document: &Document<'_>) -> Result<Items, AllocError> {
     let mut items = Items::new(alloc);
     add_no_json(&mut items, document.file, document.bytes)?;
-    let mut after = Items::new(alloc);
-    let corrections = corrections_in(alloc, items.list())?;
-    add_corrected(&mut after, document, &corrections, None, "")?;
+    let after = corrected(alloc, document, items.list(), None, "")?;
     items.append(after);
     Ok(items)
 }
@@ -340,12 +336,10 @@ fn add_calls(
     let mut refused = Items::new(items.alloc());
     list_refused(&mut refused, document, story)?;
     let refused = refused.into_list()?;
-    let mut after = Items::new(items.alloc());
-    let corrections = corrections_in(items.alloc(), &refused)?;
-    add_corrected(
-        &mut after,
+    let after = corrected(
+        items.alloc(),
         document,
-        &corrections,
+        &refused,
         Some(effort),
         said_in(story),
     )?;
