@@ -112,7 +112,7 @@ pub(crate) fn nearest_within(value: &Value, least: u64, most: u64) -> Option<u64
             _ => Some(least),
         },
         Value::String(text) => match text.parse::<u64>() {
-            Ok(n) => Some(n.clamp(least, most)),
+            Ok(n) => Some(n.max(least).min(most)),
             Err(_) => None,
         },
         _ => None,
