@@ -9,6 +9,7 @@ use domain_reasons::add_domain;
 use explanation_text::{Item, Items, Kind};
 use other_outcomes::{add_ended_later, add_heaps, add_platform};
 use script_faults::Document;
+use script_reading::Call;
 use script_story::{Became, Scenario, Story, asked_in, story_of};
 use std::alloc::AllocError;
 
@@ -111,22 +112,31 @@ fn add_first(
     stated: &[RestatedConstraints],
     depth: usize,
 ) -> Result<(), AllocError> {
-    let scenario = group.scenario;
-    if scenario.effort.is_spent() {
+    if group.scenario.effort.is_spent() {
         return Ok(());
     }
+    let calls = restated(items.alloc(), group.scenario.calls, stated)?;
+    add_first_of(items, group, &calls, depth)
+}
+
+/// The same of these calls.
+fn add_first_of(
+    items: &mut Items,
+    group: Group<'_, '_>,
+    calls: &Vec<Call<'_>>,
+    depth: usize,
+) -> Result<(), AllocError> {
     let alloc = items.alloc();
-    let calls = restated(alloc, scenario.calls, stated)?;
     let other = Scenario {
-        platform: scenario.platform,
-        calls: &calls,
-        effort: scenario.effort,
+        platform: &*group.scenario.platform,
+        calls: &*calls,
+        effort: &*group.scenario.effort,
     };
-    let told = other.tell(alloc, &calls)?;
+    let told = other.tell(alloc, calls)?;
     if told.report.starved {
         return Err(AllocError);
     }
-    let story = story_of(alloc, group.document.value, &calls, &told)?;
+    let story = story_of(alloc, group.document.value, calls, &told)?;
     match index_at(&story, group.path) {
         Some(index) if story.nodes.len() == group.story.nodes.len() => {
             add_not_chosen(items, &other, &story, index, depth)

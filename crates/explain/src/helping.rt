@@ -66,8 +66,7 @@ pub(crate) fn list_help(
             add_further(items, document, scenario, then, place)
         }
         Became::Chosen => {
-            let levels = if levels > 0 { 1 } else { 0 };
-            let once = Place { levels, ..place };
+            let once = place_of(story, path, if levels > 0 { 1 } else { 0 }, domain.became);
             let then = add_ended_earlier(items, scenario, story, index, path)?;
             add_further(items, document, scenario, then, once)?;
             let then = add_groups_exchanged(items, scenario, document.value, story, index, path)?;
