@@ -20,7 +20,7 @@ use Rattle.script_replay.specs.State.{RunState, first_run_state}
 use Rattle.script_replay.specs.declared.event.Event.{Event}
 use Rattle.script_replay.proofs.Decided.{gave_decided, happens_reported}
 use Rattle.script_replay.proofs.EventLines.{happens_platform}
-use Rattle.script_run.specs.Certificate.{CertifiesTo, IsCertifiedBy, certificate_of, texts_of}
+use Rattle.script_run.specs.Certificate.{CertifiesTo, IsCertifiedBy, texts_of}
 use Rattle.script_run.proofs.CallerLemmas.{runs-input}
 use Rattle.script_run.proofs.OneCertified.{certificate_said}
 use Rattle.script_run.proofs.Spelling.{spells}
