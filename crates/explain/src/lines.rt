@@ -99,6 +99,33 @@ fn add_lines(
     Ok(())
 }
 
+/// The items of a section, and which of them tell of the domain itself.
+#[derive(Clone, Copy)]
+struct Told<'a> {
+    items: &'a [Item],
+    is_own: &'a [bool],
+}
+
+impl Told<'_> {
+    /// Whether one that tells of the domain names a thing; those are left out that list who has
+    /// constraints.
+    fn names(&self, thing: Thing) -> bool {
+        self.items
+            .iter()
+            .zip(self.is_own)
+            .any(|(item, is_own)| *is_own && names(item, thing))
+    }
+
+    /// Whether one that tells of the domain tells a change of a field that the constraints of a
+    /// call state, with its lines.
+    fn places(&self, number: usize, field: Field) -> bool {
+        self.items
+            .iter()
+            .zip(self.is_own)
+            .any(|(item, is_own)| *is_own && places(item, number, field))
+    }
+}
+
 /// The lines of each participant of a domain that its section of these items names.
 fn rows_in(
     alloc: Global,
@@ -107,23 +134,25 @@ fn rows_in(
     domain: usize,
     items: &[Item],
 ) -> Result<Vec<Text>, AllocError> {
-    let told = own_of(alloc, items)?;
-    rows_of(alloc, document, story, domain, &told)
+    let is_own = own_of(alloc, items)?;
+    let told = Told {
+        items,
+        is_own: &is_own,
+    };
+    rows_of(alloc, document, story, domain, told)
 }
 
-/// The items that tell of the domain itself: what isn't chosen in a decision that would come is left
+/// Which items tell of the domain itself: what isn't chosen in a decision that would come is left
 /// out.
-fn own_of<'b>(alloc: Global, items: &'b [Item]) -> Result<Vec<&'b Item>, AllocError> {
+fn own_of(alloc: Global, items: &[Item]) -> Result<Vec<bool>, AllocError> {
     let mut own = Vec::new(alloc);
     let mut promised = None;
     for item in items {
-        if is_below(item, promised) {
-            continue;
-        }
-        if item.label != "choice" {
+        let is_own = !is_below(item, promised);
+        if is_own && item.label != "choice" {
             promised = promised_by(item);
         }
-        own.push(item)?;
+        own.push(is_own)?;
     }
     Ok(own)
 }
@@ -147,18 +176,18 @@ fn is_below(item: &Item, promised: Option<usize>) -> bool {
     }
 }
 
-/// The lines of each participant of a domain that these items name.
+/// The lines of each participant of a domain that those name that tell of it.
 fn rows_of(
     alloc: Global,
     document: &Document<'_>,
     story: &Story<'_>,
     domain: usize,
-    told: &[&Item],
+    told: Told<'_>,
 ) -> Result<Vec<Text>, AllocError> {
     let mut rows: Vec<Text> = Vec::new(alloc);
     let fields = fields_in(alloc, told)?;
     for (node, known) in story.nodes.iter().enumerate() {
-        if known.domain != domain || rows.len() >= MOST || !is_named(told, Thing::Node(node)) {
+        if known.domain != domain || rows.len() >= MOST || !told.names(Thing::Node(node)) {
             continue;
         }
         if let Some(number) = story.milestone(node, Milestone::SetConstraints) {
@@ -174,17 +203,16 @@ fn rows_of(
     Ok(rows)
 }
 
-/// Whether some items name a thing; those are left out that list who has constraints.
-fn is_named(told: &[&Item], thing: Thing) -> bool {
-    told.iter().any(|item| item.label != "who"
-        && item.mentions.iter().any(|mention| mention.thing == thing))
+/// Whether an item names a thing, but for one that lists who has constraints.
+fn names(item: &Item, thing: Thing) -> bool {
+    item.label != "who" && item.mentions.iter().any(|mention| mention.thing == thing)
 }
 
-/// The fields that some items name.
-fn fields_in(alloc: Global, told: &[&Item]) -> Result<Vec<Field>, AllocError> {
+/// The fields that those name that tell of the domain.
+fn fields_in(alloc: Global, told: Told<'_>) -> Result<Vec<Field>, AllocError> {
     let mut fields = Vec::new(alloc);
     for field in &Field::ALL {
-        if is_told(*field) && is_named(told, Thing::Field(*field)) {
+        if is_told(*field) && told.names(Thing::Field(*field)) {
             fields.push(*field)?;
         }
     }
@@ -194,13 +222,13 @@ fn fields_in(alloc: Global, told: &[&Item]) -> Result<Vec<Field>, AllocError> {
 /// Those of some fields whose lines no change of the constraints of a call tells.
 fn without_placed(
     alloc: Global,
-    told: &[&Item],
+    told: Told<'_>,
     fields: &[Field],
     number: usize,
 ) -> Result<Vec<Field>, AllocError> {
     let mut left = Vec::new(alloc);
     for field in fields {
-        if !told.iter().any(|item| places(*item, number, *field)) {
+        if !told.places(number, *field) {
             left.push(*field)?;
         }
     }
