@@ -67,6 +67,7 @@ fn put_meant(made: &mut Vec<u8>, was: &[u8], meant: &Meant) -> Result<(), AllocE
             made.extend_from_slice(was)?;
             made.push(b']')?;
         }
+        Meant::Nothing => {}
     }
     Ok(())
 }
@@ -83,8 +84,51 @@ fn spans_of(
 ) -> Result<Vec<Span>, AllocError> {
     match &correction.meant {
         Meant::Node(_) => nodes_alike(alloc, document, correction.span),
+        Meant::Nothing => { Vec::from_slice(alloc, &[with_comma(document.bytes, correction.span)]) }
         _ => Vec::from_slice(alloc, &[correction.span]),
     }
+}
+
+/// A member or an item with the comma behind it, or else with the one before it.
+fn with_comma(bytes: &[u8], span: Span) -> Span {
+    let behind = bytes.get(span.end..).unwrap_or(&[]);
+    let blanks = blanks_first(behind);
+    if behind.get(blanks).copied() == Some(b',') {
+        let end = span.end.saturating_add(blanks).saturating_add(1);
+        return Span {
+            start: span.start,
+            end,
+        };
+    }
+    let before = bytes.get(..span.start).unwrap_or(&[]);
+    let start = span.start.saturating_sub(blanks_last(before));
+    match start.checked_sub(1) {
+        Some(comma) if bytes.get(comma).copied() == Some(b',') => Span {
+            start: comma,
+            end: span.end,
+        },
+        _ => span,
+    }
+}
+
+/// How many bytes of white space a text begins with.
+fn blanks_first(bytes: &[u8]) -> usize {
+    for (k, byte) in bytes.iter().enumerate() {
+        if !byte.is_ascii_whitespace() {
+            return k;
+        }
+    }
+    bytes.len()
+}
+
+/// How many bytes of white space a text ends with.
+fn blanks_last(bytes: &[u8]) -> usize {
+    for (k, byte) in bytes.iter().rev().enumerate() {
+        if !byte.is_ascii_whitespace() {
+            return k;
+        }
+    }
+    bytes.len()
 }
 
 /// Where calls are made on a node of the name that stands there, from there on.
@@ -132,6 +176,10 @@ fn put_correction(text: &mut TextBuilder, bytes: &[u8], one: &Correction) {
             text.put("brackets around ");
             put_listed(text, was)
         }
+        Meant::Nothing => {
+            put_bytes(text, named_in(was));
+            text.put(" left out");
+        }
         Meant::Node(_) | Meant::Word(_) => put_replaced(text, &one.meant, unquoted(was)),
         _ => put_replaced(text, &one.meant, was),
     }
@@ -160,7 +208,7 @@ fn put_new(text: &mut TextBuilder, meant: &Meant) {
         Meant::Flag(field, is_set) => {
             text.field(*field).put(" ").put(flag_text(*is_set));
         }
-        Meant::List => {}
+        Meant::List | Meant::Nothing => {}
     }
 }
 
@@ -183,6 +231,15 @@ fn put_listed(text: &mut TextBuilder, was: &[u8]) {
         put_bytes(text, was)
     } else {
         text.put("the object");
+    }
+}
+
+/// The key of a member, or an item of a list.
+fn named_in(was: &[u8]) -> &[u8] {
+    let quote = was.iter().skip(1).position(|byte| *byte == b'"');
+    match (was.first(), quote) {
+        (Some(b'"'), Some(end)) => was.get(1..end.saturating_add(1)).unwrap_or(&[]),
+        _ => was,
     }
 }
 

@@ -18,6 +18,8 @@ pub enum Meant {
     Flag(Field, bool),
     /// A list of what stands there.
     List,
+    /// Nothing: a member or an item stands there that may be left out.
+    Nothing,
 }
 
 /// A part of a text, and what may be meant by it.

@@ -129,6 +129,14 @@ impl Items {
         }
     }
 
+    /// Whether it is known what may be meant by a part of what the last item shows.
+    pub fn is_corrected(&self) -> bool {
+        match self.list.last() {
+            Some(item) => item.correction.is_some(),
+            None => false,
+        }
+    }
+
     /// Puts the title of a section after the list.
     pub fn title(&mut self, text: &str) {
         self.push(Kind::Title, 0, "", TextBuilder::of(self.alloc, text))

@@ -170,6 +170,33 @@ impl<'a> Document<'a> {
         }
     }
 
+    /// Keeps with the last item that the member or the item of a list at a path may be left out.
+    pub fn leave_out(&self, items: &mut Items, path: &[Step<'_>]) {
+        match self.whole_span(items.alloc(), path) {
+            Ok(Some(span)) => items.correct(Correction {
+                span,
+                meant: Meant::Nothing,
+            }),
+            Ok(None) => {}
+            Err(AllocError) => items.refuse(),
+        }
+    }
+
+    /// Where the member at a path stands, its key among it; or an item of a list.
+    fn whole_span(&self, alloc: Global, path: &[Step<'_>]) -> Result<Option<Span>, AllocError> {
+        let Some(value) = self.span(alloc, path, RecordPart::Value)? else {
+            return Ok(None);
+        };
+        let Some(Step::Key(_)) = path.last() else {
+            return Ok(Some(value));
+        };
+        let key = self.span(alloc, path, RecordPart::Key)?;
+        Ok(key.map(|key| Span {
+            start: key.start,
+            end: value.end,
+        }))
+    }
+
     /// The same with a note that is put together.
     pub fn tell(
         &self,

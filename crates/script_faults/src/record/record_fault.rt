@@ -184,7 +184,17 @@ fn add_key(
         Some(help) => document.advise(items, faulty.depth, path, RecordPart::Key, note, help),
         None => document.point(items, faulty.depth, path, RecordPart::Key, note, &[]),
     }
+    leave_out(items, faulty, path);
     Ok(())
+}
+
+/// Keeps that what stands at a path of constraints may be left out, where nothing else is known of
+/// what may be meant.
+fn leave_out(items: &mut Items, faulty: Faulty<'_, '_>, path: &[Step<'_>]) {
+    let is_whole = key_of(path) == "constraints";
+    if !faulty.is_platform && !is_whole && !items.is_corrected() {
+        faulty.document.leave_out(items, path)
+    }
 }
 
 /// The side of a size that isn't within bounds: the height where the width is.
@@ -215,7 +225,8 @@ fn add_side(items: &mut Items, faulty: Faulty<'_, '_>, value: &Value) -> Result<
                 RecordPart::Begin,
                 note,
                 Help::of(help),
-            )
+            );
+            leave_out(items, faulty, faulty.path)
         }
     }
     Ok(())
@@ -239,6 +250,7 @@ fn add_number(
     faulty
         .document
         .tell(items, faulty.depth, path, RecordPart::Value, note, help);
+    leave_out(items, faulty, path);
     Ok(())
 }
 
@@ -264,6 +276,7 @@ fn add_name(items: &mut Items, faulty: Faulty<'_, '_>, value: &Value) -> Result<
         "unknown name",
         hint,
     );
+    leave_out(items, faulty, faulty.path);
     Ok(())
 }
 
@@ -284,6 +297,7 @@ fn add_kind(items: &mut Items, faulty: Faulty<'_, '_>, value: &Value) -> Result<
         note,
         help,
     );
+    leave_out(items, faulty, faulty.path);
     Ok(())
 }
 
@@ -368,6 +382,7 @@ fn add_list(items: &mut Items, faulty: Faulty<'_, '_>, value: &Value) -> Result<
         &note,
         &helps,
     );
+    leave_out(items, faulty, faulty.path);
     Ok(())
 }
 
