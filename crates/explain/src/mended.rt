@@ -38,6 +38,7 @@ fn put_mended(
 ) -> Result<Option<usize>, AllocError> {
     let mut from = start;
     for span in spans {
+        let span = cut_of(bytes, *span, meant);
         if span.start < from {
             return Ok(None);
         }
@@ -84,8 +85,15 @@ fn spans_of(
 ) -> Result<Vec<Span>, AllocError> {
     match &correction.meant {
         Meant::Node(_) => nodes_alike(alloc, document, correction.span),
-        Meant::Nothing => { Vec::from_slice(alloc, &[with_comma(document.bytes, correction.span)]) }
         _ => Vec::from_slice(alloc, &[correction.span]),
+    }
+}
+
+/// What goes from the text for what is meant: with what is left out a comma beside it.
+fn cut_of(bytes: &[u8], span: Span, meant: &Meant) -> Span {
+    match meant {
+        Meant::Nothing => with_comma(bytes, span),
+        _ => span,
     }
 }
 
