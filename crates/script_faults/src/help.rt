@@ -23,31 +23,13 @@ impl Help {
     }
 
     /// The name of a node, with words that say that it may be meant.
-    pub fn of_node(mut words: TextBuilder, name: &str) -> Help {
-        match String::from_str(words.alloc(), name) {
-            Ok(name) => Help {
-                words,
-                meant: Some(Meant::Node(name)),
-            },
-            Err(AllocError) => {
-                words.refuse();
-                Help::of(words)
-            }
-        }
+    pub fn of_node(words: TextBuilder, name: &str) -> Help {
+        meaning(words, name, true)
     }
 
     /// The same of a key or another name.
-    pub fn of_word(mut words: TextBuilder, name: &str) -> Help {
-        match String::from_str(words.alloc(), name) {
-            Ok(name) => Help {
-                words,
-                meant: Some(Meant::Word(name)),
-            },
-            Err(AllocError) => {
-                words.refuse();
-                Help::of(words)
-            }
-        }
+    pub fn of_word(words: TextBuilder, name: &str) -> Help {
+        meaning(words, name, false)
     }
 
     /// A key or another name that may be meant.
@@ -58,6 +40,24 @@ impl Help {
     /// The name of a node that may be meant.
     pub fn near_node(alloc: Global, name: &str) -> Help {
         Help::of_node(did_you_mean(alloc, name), name)
+    }
+}
+
+/// Words, and that a name may be meant: that of a node or not.
+fn meaning(mut words: TextBuilder, name: &str, is_node: bool) -> Help {
+    match String::from_str(words.alloc(), name) {
+        Ok(name) => {
+            let meant = Some(if is_node {
+                Meant::Node(name)
+            } else {
+                Meant::Word(name)
+            });
+            Help { words, meant }
+        }
+        Err(AllocError) => {
+            words.refuse();
+            Help::of(words)
+        }
     }
 }
 
