@@ -257,12 +257,20 @@ fn add_number(
 /// The number that is allowed at a place and nearest to one that isn't; none in the place of a
 /// greatest value below 0, which asks for no limit.
 fn number_meant(at: FaultPlace, number: &Value, bounds: (u64, u64)) -> Option<Meant> {
-    if number.as_i64().is_some_and(|number| number < 0) && at.name().starts_with("max_") {
+    if is_below_zero(number) && at.name().starts_with("max_") {
         return None;
     }
     match (at, nearest_within(number, bounds.0, bounds.1)) {
         (FaultPlace::At(field), Some(near)) => Some(Meant::Value(field, near)),
         _ => None,
+    }
+}
+
+/// Whether a value is a whole number below 0.
+fn is_below_zero(value: &Value) -> bool {
+    match value {
+        Value::Number(number) => !number.is_f64() && number.as_u64().is_none(),
+        _ => false,
     }
 }
 
