@@ -20,7 +20,7 @@ fn corrections_in<'b>(alloc: Global, shown: &'b [Item]) -> Result<Vec<&'b Correc
         if item.kind != Kind::Source {
             continue;
         }
-        match &item.correction {
+        match item.correction() {
             Some(one) => all.push(one)?,
             None => return Ok(Vec::new(alloc)),
         }

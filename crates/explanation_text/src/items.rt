@@ -2,6 +2,7 @@
 
 use crate::correction::Correction;
 use crate::decided::Decided;
+use crate::snippet::Shown;
 use crate::words::{Mention, Text, TextBuilder};
 use std::alloc::{AllocError, Global};
 
@@ -33,8 +34,8 @@ pub struct Item {
     pub kind: Kind,
     /// Of a `Decision` what it decides.
     pub decided: Option<Decided>,
-    /// Of a `Source` what may be meant by a part of it, where that is known.
-    pub correction: Option<Correction>,
+    /// Of a `Source` what is shown.
+    pub shown: Option<Shown>,
 }
 
 impl Drop for Item {
@@ -46,12 +47,20 @@ impl Drop for Item {
             depth: _,
             kind: _,
             decided: _,
-            correction: _,
+            shown: _,
         } = self;
     }
 }
 
 impl Item {
+    /// What may be meant by a part of what is shown, where that is known.
+    pub fn correction(&self) -> Option<&Correction> {
+        match &self.shown {
+            Some(shown) => shown.correction.as_ref(),
+            None => None,
+        }
+    }
+
     pub fn new(kind: Kind, depth: usize, label: &'static str, text: Text) -> Item {
         let (text, mentions) = text.into_parts();
         Item {
@@ -61,7 +70,7 @@ impl Item {
             depth,
             kind,
             decided: None,
-            correction: None,
+            shown: None,
         }
     }
 }
@@ -122,17 +131,26 @@ impl Items {
         }
     }
 
+    /// Keeps with the last item what it shows.
+    pub(crate) fn keep_shown(&mut self, shown: Shown) {
+        if let Some(item) = self.list.last_mut() {
+            item.shown = Some(shown);
+        }
+    }
+
     /// Tells what may be meant by a part of what the last item shows.
     pub fn correct(&mut self, correction: Correction) {
-        if let Some(item) = self.list.last_mut() {
-            item.correction = Some(correction);
+        if let Some(item) = self.list.last_mut()
+            && let Some(shown) = &mut item.shown
+        {
+            shown.correction = Some(correction);
         }
     }
 
     /// Whether it is known what may be meant by a part of what the last item shows.
     pub fn is_corrected(&self) -> bool {
         match self.list.last() {
-            Some(item) => item.correction.is_some(),
+            Some(item) => item.correction().is_some(),
             None => false,
         }
     }
@@ -163,7 +181,7 @@ impl Items {
             depth,
             kind: Kind::Decision,
             decided: Some(decided),
-            correction: None,
+            shown: None,
         })
     }
 

@@ -33,5 +33,5 @@ pub use places::{
     key_span_of, line_of, repeated_keys, span_of, start_of_line, stop_of, value_at,
 };
 pub use printing::text_of;
-pub use snippet::{Mark, show};
+pub use snippet::{Mark, Shown, show};
 pub use words::{ListBuilder, Mention, Name, Phrase, Text, TextBuilder, Thing};

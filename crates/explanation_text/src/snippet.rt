@@ -1,5 +1,6 @@
 //! A line of a text with carets below a part of it.
 
+use crate::correction::Correction;
 use crate::items::{Items, Kind};
 use crate::places::{
     Span, begins_character, characters, column_of, end_of_line, line_of, start_of_line,
@@ -15,12 +16,50 @@ const BEFORE: usize = 24;
 /// How wide what helps may be.
 const HELP: usize = 88;
 
-/// A part of a text, what stands after its line and column, and what is said of it.
+/// A part of a text, the path to it in words, empty where there is none, and what is said of it.
 #[derive(Clone, Copy)]
 pub struct Mark<'a> {
     pub span: Span,
-    pub said: &'a str,
+    pub path: &'a str,
     pub note: &'a str,
+}
+
+/// What is shown of a part of a text.
+#[derive(Drop)]
+pub struct Shown {
+    /// From 1, as the column, which is a character.
+    pub line: usize,
+    pub column: usize,
+    /// The path to the part, in words; empty where there is none.
+    pub path: String,
+    /// What is said of the part.
+    pub note: String,
+    pub helps: Vec<String>,
+    /// What may be meant by a part of what is shown, where that is known.
+    pub correction: Option<Correction>,
+}
+
+impl Shown {
+    fn new(
+        alloc: Global,
+        bytes: &[u8],
+        mark: Mark<'_>,
+        helps: &[String],
+    ) -> Result<Shown, AllocError> {
+        let at = mark.span.start.min(bytes.len());
+        let mut said = Vec::new(alloc);
+        for help in helps {
+            said.push(String::from_str(alloc, help)?)?;
+        }
+        Ok(Shown {
+            line: line_of(bytes, at),
+            column: column_of(bytes, at),
+            path: String::from_str(alloc, mark.path)?,
+            note: String::from_str(alloc, mark.note)?,
+            helps: said,
+            correction: None,
+        })
+    }
 }
 
 /// What is shown of a line: its text, and where the carets stand below it.
@@ -42,7 +81,11 @@ pub fn show(
 ) {
     let mut text = TextBuilder::new(items.alloc());
     put_snippet(&mut text, file, bytes, mark, helps);
-    items.push(Kind::Source, depth, "", text)
+    items.push(Kind::Source, depth, "", text);
+    match Shown::new(items.alloc(), bytes, mark, helps) {
+        Ok(shown) => items.keep_shown(shown),
+        Err(AllocError) => items.refuse(),
+    }
 }
 
 /// Puts where a part stands, its line, carets with a note below it, and what helps after a text.
@@ -54,9 +97,10 @@ fn put_snippet(text: &mut TextBuilder, file: &str, bytes: &[u8], mark: Mark<'_>,
     text.put("--> ");
     put_visible(text, file);
     text.put(":").put_number(line);
-    text.put(":")
-        .put_number(column_of(bytes, at))
-        .put(mark.said);
+    text.put(":").put_number(column_of(bytes, at));
+    if !mark.path.is_empty() {
+        text.put(": ").put(mark.path);
+    }
     put_bar(text, width, " |");
     text.put("\n").put_number(line).put(" | ");
     put_window(text, width, bytes, mark);

@@ -20,7 +20,7 @@ impl<'a> Broken<'a> {
     fn show(&self, items: &mut Items, at: usize, note: &str, helps: &[String]) {
         let mark = Mark {
             span: byte_at(at),
-            said: "",
+            path: "",
             note,
         };
         show(items, self.depth, self.file, self.bytes, mark, helps)

@@ -50,7 +50,7 @@ fn put_answer(items: &mut Items, fault: ScriptFault) {
             depth: 0,
             kind: Kind::Answer,
             decided: None,
-            correction: None,
+            shown: None,
         }),
         Err(AllocError) => items.refuse(),
     }

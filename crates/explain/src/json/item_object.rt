@@ -27,7 +27,10 @@ pub(crate) fn put_item(
             let domains = scene.domains(object.alloc())?;
             object.list("domains", domains)
         }
-        Kind::Source => put_source(object, scene, &item.text),
+        Kind::Source => match &item.shown {
+            Some(shown) => put_source(object, scene, shown),
+            None => Ok(()),
+        },
         Kind::Decision => Ok(()),
         Kind::Title => put_words(object, scene, item),
         Kind::Words => {

@@ -26,15 +26,15 @@ fn pointed(span: Span, part: RecordPart) -> Span {
 }
 
 /// Says what is wrong at a path that isn't found in the text.
-fn add_unplaced(items: &mut Items, depth: usize, said: &str, note: &str) {
-    let mut words = TextBuilder::of(items.alloc(), said);
-    words.put(": ").put(note);
+fn add_unplaced(items: &mut Items, depth: usize, path: &str, note: &str) {
+    let mut words = TextBuilder::of(items.alloc(), ": ");
+    words.put(path).put(": ").put(note);
     items.say(depth, "", words)
 }
 
-/// `: calls[4].constraints`, or `: the script`.
+/// `calls[4].constraints`, or `the script`.
 fn path_words(alloc: Global, path: &[Step<'_>], whole: Whole) -> TextBuilder {
-    let mut words = TextBuilder::of(alloc, ": ");
+    let mut words = TextBuilder::new(alloc);
     if path.is_empty() {
         words.put(whole.words());
     }
@@ -213,13 +213,13 @@ impl<'a> Document<'a> {
         }
     }
 
-    /// The same of a part that is known, with what stands after its line and column.
+    /// The same of a part that is known, with the path to it in words.
     pub fn show(
         &self,
         items: &mut Items,
         depth: usize,
         span: Span,
-        said: &str,
+        path: &str,
         note: &str,
         helps: &[String],
     ) {
@@ -228,7 +228,7 @@ impl<'a> Document<'a> {
             depth,
             self.file,
             self.bytes,
-            Mark { span, said, note },
+            Mark { span, path, note },
             helps,
         )
     }
