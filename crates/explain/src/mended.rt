@@ -185,7 +185,7 @@ fn put_correction(text: &mut TextBuilder, bytes: &[u8], one: &Correction) {
             put_listed(text, was)
         }
         Meant::Nothing => {
-            put_bytes(text, named_in(was));
+            put_named(text, named_in(was));
             text.put(" left out");
         }
         Meant::Node(_) | Meant::Word(_) => put_replaced(text, &one.meant, unquoted(was)),
@@ -239,6 +239,14 @@ fn put_listed(text: &mut TextBuilder, was: &[u8]) {
         put_bytes(text, was)
     } else {
         text.put("the object");
+    }
+}
+
+/// Puts a key or another text after a text.
+fn put_named(text: &mut TextBuilder, was: &[u8]) {
+    match std::str::from_utf8(was) {
+        Ok(word) if Field::from_name(word).is_some() => put_known(text, word),
+        _ => put_bytes(text, was),
     }
 }
 
