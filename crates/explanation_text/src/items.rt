@@ -2,6 +2,7 @@
 
 use crate::correction::Correction;
 use crate::decided::Decided;
+use crate::facts::Fact;
 use crate::snippet::Shown;
 use crate::words::{Mention, Text, TextBuilder};
 use std::alloc::{AllocError, Global};
@@ -29,6 +30,8 @@ pub struct Item {
     pub text: String,
     /// What the text names, in order.
     pub mentions: Vec<Mention>,
+    /// What the text tells, as values.
+    pub facts: Vec<Fact>,
     /// Below how many items it stands.
     pub depth: usize,
     pub kind: Kind,
@@ -44,6 +47,7 @@ impl Drop for Item {
             label: _,
             text: _,
             mentions: _,
+            facts: _,
             depth: _,
             kind: _,
             decided: _,
@@ -62,11 +66,12 @@ impl Item {
     }
 
     pub fn new(kind: Kind, depth: usize, label: &'static str, text: Text) -> Item {
-        let (text, mentions) = text.into_parts();
+        let (text, mentions, facts) = text.into_parts();
         Item {
             label,
             text,
             mentions,
+            facts,
             depth,
             kind,
             decided: None,
@@ -178,6 +183,7 @@ impl Items {
             label,
             text: line,
             mentions,
+            facts: Vec::new(self.alloc),
             depth,
             kind: Kind::Decision,
             decided: Some(decided),

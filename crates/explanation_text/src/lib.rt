@@ -14,6 +14,7 @@
 
 mod correction;
 mod decided;
+mod facts;
 mod items;
 mod markup;
 mod near;
@@ -25,6 +26,7 @@ mod words;
 
 pub use correction::{Correction, Meant};
 pub use decided::{Choice, Decided};
+pub use facts::{Deed, Fact, Said};
 pub use items::{Item, Items, Kind, are_same};
 pub use markup::{Drawing, Joint, Line, Shape, Standing, page_of};
 pub use near::nearest;

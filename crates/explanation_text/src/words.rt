@@ -1,5 +1,7 @@
 //! Words and lists that are put together, of which want of memory is asked for once, at their end.
 
+use crate::facts::{Fact, Said};
+use crate::places::Span;
 use std::alloc::{AllocError, Global};
 use std::fmt::Display;
 use sysmem_counts::Field;
@@ -55,11 +57,12 @@ impl Phrase for Text {
     }
 }
 
-/// A text, with what it names.
+/// A text, with what it names and tells.
 #[derive(Drop, PartialEq, Eq)]
 pub struct Text {
     text: String,
     mentions: Vec<Mention>,
+    facts: Vec<Fact>,
 }
 
 impl Text {
@@ -67,6 +70,7 @@ impl Text {
         Text {
             text: String::new(alloc),
             mentions: Vec::new(alloc),
+            facts: Vec::new(alloc),
         }
     }
 
@@ -78,9 +82,9 @@ impl Text {
         self.text.is_empty()
     }
 
-    /// The text, and what it names, in order.
-    pub fn into_parts(self) -> (String, Vec<Mention>) {
-        (self.text, self.mentions)
+    /// The text, and what it names and tells, in order.
+    pub fn into_parts(self) -> (String, Vec<Mention>, Vec<Fact>) {
+        (self.text, self.mentions, self.facts)
     }
 }
 
@@ -168,9 +172,12 @@ impl TextBuilder {
 
     /// Puts another text after the text.
     pub fn put_text(&mut self, text: &Text) -> &mut TextBuilder {
-        let before = self.text.text.len();
+        let before = self.len();
         for mention in &text.mentions {
             self.mention(before.saturating_add(mention.at), mention.thing);
+        }
+        for fact in &text.facts {
+            self.tell(fact.behind(before));
         }
         self.put(&text.text)
     }
@@ -200,9 +207,37 @@ impl TextBuilder {
         self.named(Thing::Modifier(modifier)).put(modifier.name())
     }
 
+    /// Puts how much or how great what the text is about is after it.
+    pub fn value(&mut self, number: u128) -> &mut TextBuilder {
+        if let Ok(number) = u64::try_from(number) {
+            self.tell(Fact::Value(Said::Number(number)));
+        }
+        self.put_number(number)
+    }
+
+    /// How long the text is, in bytes.
+    pub fn len(&self) -> usize {
+        self.text.text.len()
+    }
+
+    /// What stands in the text from a byte on.
+    pub fn since(&self, start: usize) -> Said {
+        Said::Words(Span {
+            start,
+            end: self.len(),
+        })
+    }
+
+    /// Keeps what the text tells.
+    pub fn tell(&mut self, fact: Fact) {
+        if self.text.facts.push(fact).is_err() {
+            self.is_refused = true;
+        }
+    }
+
     /// Names a thing by what comes next.
     fn named(&mut self, thing: Thing) -> &mut TextBuilder {
-        let at = self.text.text.len();
+        let at = self.len();
         self.mention(at, thing);
         self
     }
@@ -213,7 +248,7 @@ impl TextBuilder {
         }
     }
 
-    /// The text with what it names; `AllocError` where memory was refused to a part of it.
+    /// The text with what it names and tells; `AllocError` where memory was refused to a part of it.
     pub fn into_text(self) -> Result<Text, AllocError> {
         if self.is_refused {
             return Err(AllocError);
@@ -223,7 +258,7 @@ impl TextBuilder {
 
     /// The text alone; `AllocError` where memory was refused to a part of it.
     pub fn done(self) -> Result<String, AllocError> {
-        let (text, _mentions) = self.into_text()?.into_parts();
+        let (text, _mentions, _facts) = self.into_text()?.into_parts();
         Ok(text)
     }
 }
@@ -279,7 +314,7 @@ impl ListBuilder<String> {
 }
 
 impl ListBuilder<Text> {
-    /// Puts a text with what it names after the list; refuses the list where memory was refused to
+    /// Puts a text with what it names and tells after the list; refuses the list where memory was refused to
     /// the text.
     pub fn add_text(&mut self, words: TextBuilder) {
         match words.into_text() {

@@ -47,6 +47,7 @@ fn put_answer(items: &mut Items, fault: ScriptFault) {
             label: "",
             text,
             mentions: Vec::new(alloc),
+            facts: Vec::new(alloc),
             depth: 0,
             kind: Kind::Answer,
             decided: None,
