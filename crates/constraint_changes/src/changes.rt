@@ -12,7 +12,7 @@ use crate::trials::{
 };
 use constraint_edits::{Change, Edit, changes, edited, is_absurd};
 use domain_reasons::{choices_in, room_needed};
-use explanation_text::{Items, Text, TextBuilder};
+use explanation_text::{Items, Label, Text, TextBuilder};
 use script_story::{Effort, Milestone, Story, asked_in};
 use serde_json::Value;
 use std::alloc::{AllocError, Global};
@@ -23,8 +23,6 @@ use value_sources::NamedParticipant;
 const MOST: usize = 5;
 /// How many are tried.
 const TRIES: usize = 300;
-
-const LABELS: [&str; 5] = ["1.", "2.", "3.", "4.", "5."];
 
 /// What was found of changes so far.
 #[derive(Drop)]
@@ -63,8 +61,8 @@ impl Search<'_, '_> {
     }
 
     /// The label of one more that helps.
-    pub(crate) fn label(&mut self) -> &'static str {
-        let label = LABELS.get(self.count).copied().unwrap_or("");
+    pub(crate) fn label(&mut self) -> Label {
+        let label = Label::Alone(self.count);
         self.count = self.count.saturating_add(1);
         label
     }
@@ -324,7 +322,7 @@ fn put_head(items: &mut Items, search: &Search<'_, '_>, effort: &Effort) {
     if search.count == 0 && effort.is_spent() {
         words.put("; to try more would take long");
     }
-    items.say(1, "change", words)
+    items.say(1, Label::Change, words)
 }
 
 fn head_of(alloc: Global, search: &Search<'_, '_>) -> TextBuilder {
@@ -353,13 +351,7 @@ fn head_of(alloc: Global, search: &Search<'_, '_>) -> TextBuilder {
 }
 
 /// Puts a change that was tried, and what it gives.
-fn put_change(
-    items: &mut Items,
-    trial: Trial<'_, '_>,
-    label: &'static str,
-    who: &Text,
-    found: TrialResult,
-)
+fn put_change(items: &mut Items, trial: Trial<'_, '_>, label: Label, who: &Text, found: TrialResult)
     requires { IsPromised trial.scenario.now.platform.now
         (map call_seen trial.scenario.now.calls.now) ((trial.place, found.change ∷ []) ∷ [])
         trial.path.now found.outcome }

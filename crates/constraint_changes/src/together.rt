@@ -17,7 +17,7 @@ use crate::trials::{
 use crate::walk::{Run, Walk};
 use constraint_edits::{Amount, Edit, Halving, Reached, changes, is_absurd};
 use domain_reasons::choices_in;
-use explanation_text::{Items, ListBuilder, Text, TextBuilder};
+use explanation_text::{Items, Label, ListBuilder, Text, TextBuilder};
 use script_story::{Milestone, Outcome};
 use serde_json::Value;
 use std::alloc::{AllocError, Global};
@@ -48,7 +48,7 @@ pub fn add_together(
     let before = items.len();
     let first = add_all(items, group, edits)?;
     if items.len() == before && group.scenario.effort.is_spent() {
-        items.list_text(1, "change", "to try several together would take long");
+        items.list_text(1, Label::Change, "to try several together would take long");
     }
     Ok(first)
 }
@@ -630,7 +630,7 @@ impl CombinedChange<'_, '_> {
             .put("these ")
             .put_number(count)
             .put(" together suffice (fewer weren't found):");
-        items.say(1, "change", words);
+        items.say(1, Label::Change, words);
         for index in 0..count {
             self.put_part(items, parts, index)?;
         }
@@ -689,5 +689,5 @@ fn stating<'a>(participant: &NamedParticipant<'a>, value: &'a Value) -> NamedPar
 fn add_change(items: &mut Items, who: &Text, change: &Text) {
     let mut words = TextBuilder::of_text(items.alloc(), who);
     words.put(": ").put_text(change);
-    items.say(2, "and", words)
+    items.say(2, Label::And, words)
 }

@@ -5,8 +5,8 @@ ghost use Rattle.std.specs.Prelude.{◌≡◌, Some, IfOk, IfSome};
 use crate::applying::asks;
 use crate::change::Change;
 use crate::edits::{Edit, EditedConstraints, EditedRecord};
-use crate::objects::{ENTRIES, MEMORY, each_once, entries_of, exact_value, with};
-use explanation_text::{ListBuilder, TextBuilder};
+use crate::objects::{ENTRIES, MEMORY, entries_of, exact_value, put_values, with};
+use explanation_text::{Deed, Fact, ListBuilder, Said, TextBuilder};
 use serde_json::Value;
 use std::alloc::{AllocError, Global};
 use std::fmt;
@@ -119,6 +119,14 @@ impl Amount {
         }
     }
 
+    /// The value as it is said.
+    pub(crate) fn said(self) -> Said {
+        match self {
+            Amount::Number(number) => Said::Number(number),
+            Amount::Sides(width, height) => Said::Sides(width, height),
+        }
+    }
+
     /// The value as JSON.
     fn value(self, alloc: Global) -> Result<Value, AllocError> {
         match self {
@@ -186,15 +194,19 @@ fn asked_bound<'a>(entry: &'a Value, field: Field) -> Option<&'a Value> {
     }
 }
 
-/// The values in short of a bound by which entries ask for something, each once.
-fn asked_bounds(alloc: Global, entries: &[Value], field: Field) -> Result<TextBuilder, AllocError> {
+/// The values of a bound by which entries ask for something.
+fn asked_bounds<'a>(
+    alloc: Global,
+    entries: &'a [Value],
+    field: Field,
+) -> Result<Vec<&'a Value>, AllocError> {
     let mut bounds = Vec::new(alloc);
     for entry in entries {
         if let Some(bound) = asked_bound(entry, field) {
             bounds.push(bound)?;
         }
     }
-    each_once(alloc, &bounds)
+    Ok(bounds)
 }
 
 /// The constraints with another value of the field that a change leaves out, of a bound in each
@@ -219,21 +231,44 @@ pub(crate) fn with_amount(
         }
         _ => with(alloc, Some(value), name, amount.value(alloc)?)?,
     };
-    let mut words = TextBuilder::new(alloc);
-    if let Some(field) = left_out {
-        words.field(field);
-    }
-    words.put(" ");
-    match edit {
-        Edit::NoBound(field) => words.put_words(&asked_bounds(alloc, entries_of(value), field)?),
-        _ => words.put_number(stated),
-    };
-    words.put(" becomes ").put_number(amount);
+    let words = words_to(alloc, value, edit, stated, amount)?;
     let made = EditedRecord {
         value: changed,
         words: words.into_text()?,
     };
     Ok(made.by(Change::plain(edit, Some(amount))))
+}
+
+/// `max_size 1920x1088 becomes 4096x2160`.
+fn words_to(
+    alloc: Global,
+    value: &Value,
+    edit: Edit,
+    stated: Amount,
+    amount: Amount,
+) -> Result<TextBuilder, AllocError> {
+    let mut words = TextBuilder::new(alloc);
+    let Some(field) = edit.left_out() else {
+        return Ok(words);
+    };
+    words.field(field).put(" ");
+    let was = match edit {
+        Edit::NoBound(_) => put_values(
+            &mut words,
+            &asked_bounds(alloc, entries_of(value), field)?,
+        )?,
+        _ => {
+            words.put_number(stated);
+            stated.said()
+        }
+    };
+    words.put(" becomes ").put_number(amount);
+    words.tell(Fact::Change(Deed::Set {
+        field,
+        was: Some(was),
+        value: amount.said(),
+    }));
+    Ok(words)
 }
 
 /// The constraints with another value of the field that a change would leave out; `None` where it

@@ -5,11 +5,13 @@ ghost use Rattle.std.specs.Prelude.{◌≡◌, IfOk, IfSome};
 use crate::change::Change;
 use crate::exchanging::{exchanged, exchanges};
 use crate::locating::change_of;
-use crate::objects::{ENTRIES, MEMORY, entries_of, have, lacking, values_in, with, words_without};
+use crate::objects::{
+    ENTRIES, MEMORY, entries_of, have, lacking, members_in, put_values, with, words_without,
+};
 use crate::permitting::{meaning, means, permits_more, permitting};
 use crate::taking::{lacks_colour, putting_first, taking_colour, taking_pair};
 use crate::using::{asking_for, asks_for, has_cpu, without_cpu};
-use explanation_text::{ListBuilder, Text, TextBuilder};
+use explanation_text::{Deed, Fact, ListBuilder, Said, Text, TextBuilder};
 use serde_json::Value;
 use std::alloc::{AllocError, Global};
 use sysmem_counts::Field;
@@ -287,15 +289,20 @@ fn supporting(
     field: Field,
 ) -> Result<Option<EditedRecord>, AllocError> {
     let key = field.name();
-    let was = match memory_of(value, key) {
+    let (was, said) = match memory_of(value, key) {
         Some(Value::Bool(true)) => return Ok(None),
-        Some(_) => "false",
+        Some(_) => ("false", Some(Said::Flag(false))),
         None if field == Field::CpuDomainSupported => return Ok(None),
-        None => "(absent, so false)",
+        None => ("(absent, so false)", None),
     };
     let object = with(alloc, value.get(MEMORY), key, Value::Bool(true))?;
     let mut words = TextBuilder::new(alloc);
     words.field(field).put(" ").put(was).put(" becomes true");
+    words.tell(Fact::Change(Deed::Set {
+        field,
+        was: said,
+        value: Said::Flag(true),
+    }));
     Ok(Some(EditedRecord {
         value: with(alloc, Some(value), MEMORY, object)?,
         words: words.into_text()?,
@@ -345,9 +352,11 @@ fn without_bound(
     for entry in entries_of(value) {
         copy.add(lacking(alloc, entry, key)?);
     }
-    let was = values_in(alloc, entries_of(value), key)?;
     let mut words = TextBuilder::new(alloc);
-    words.field(field).put(" ").put_words(&was).put(" left out");
+    words.field(field).put(" ");
+    let was = put_values(&mut words, &members_in(alloc, entries_of(value), key)?)?;
+    words.put(" left out");
+    words.tell(Fact::Change(Deed::LeaveOut(field, was)));
     with_entries(alloc, value, copy.done()?, words.into_text()?)
 }
 

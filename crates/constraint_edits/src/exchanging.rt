@@ -3,7 +3,7 @@
 use crate::amount::amount_of;
 use crate::edits::{EditedRecord, with_entries};
 use crate::objects::{MEMORY, entries_of, have, with};
-use explanation_text::{ListBuilder, Text, TextBuilder};
+use explanation_text::{Deed, Fact, ListBuilder, Text, TextBuilder};
 use serde_json::Value;
 use std::alloc::{AllocError, Global};
 use sysmem_counts::Field;
@@ -63,6 +63,7 @@ fn exchanged_in(
     let mut words = TextBuilder::new(alloc);
     words.field(least).put(" ").put_number(a).put(" and ");
     words.field(most).put(" ").put_number(b).put(" exchanged");
+    words.tell(Fact::Change(Deed::Exchange(least, most)));
     Ok(Some(EditedRecord {
         value: with(alloc, Some(&lowered), most.name(), low.clone()?)?,
         words: words.into_text()?,

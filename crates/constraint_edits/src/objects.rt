@@ -1,7 +1,8 @@
 //! Values of JSON with a member put in or left out, and their words.
 
+use crate::amount::amount_of;
 use explanation_text::wording::put_few;
-use explanation_text::{ListBuilder, TextBuilder};
+use explanation_text::{Deed, Fact, ListBuilder, Said, TextBuilder};
 use serde_json::{Map, Number, Value};
 use std::alloc::{AllocError, Global};
 use sysmem_counts::Field;
@@ -76,62 +77,76 @@ pub(crate) fn have(value: &Value, key: &str) -> bool {
     false
 }
 
-/// Puts a value in short after a text: a size as `1920x1080`.
-fn put_value(text: &mut TextBuilder, value: &Value) {
-    if let (Some(width), Some(height)) = (value.get("width"), value.get("height")) {
-        if let (Some(width), Some(height)) = (width.as_u64(), height.as_u64()) {
-            text.put_number(width).put("x").put_number(height);
-            return;
-        }
+/// Puts a value in short after a text, a size as `1920x1080`; gives what is said so.
+fn put_value(text: &mut TextBuilder, value: &Value) -> Said {
+    if let Some(amount) = amount_of(value) {
+        text.put_number(amount);
+        return amount.said();
     }
+    let start = text.len();
     match value.to_string(text.alloc()) {
         Ok(written) => {
             text.put(&written);
         }
         Err(AllocError) => text.refuse(),
     }
+    match value {
+        Value::Bool(is_set) => Said::Flag(*is_set),
+        _ => text.since(start),
+    }
 }
 
-/// The values in short that a key has in entries, each once: `1280x720 and 4096x2160`.
-pub(crate) fn values_in(
+/// The values that a key has in entries.
+pub(crate) fn members_in<'a>(
     alloc: Global,
-    entries: &[Value],
+    entries: &'a [Value],
     key: &str,
-) -> Result<TextBuilder, AllocError> {
+) -> Result<Vec<&'a Value>, AllocError> {
     let mut members = Vec::new(alloc);
     for entry in entries {
         if let Some(member) = entry.get(key) {
             members.push(member)?;
         }
     }
-    each_once(alloc, &members)
+    Ok(members)
 }
 
-/// Values in short, each once.
-pub(crate) fn each_once(alloc: Global, values: &[&Value]) -> Result<TextBuilder, AllocError> {
-    let mut texts: Vec<String> = Vec::new(alloc);
+/// Puts values in short after a text, each once: `1280x720 and 4096x2160`; gives what is said so.
+pub(crate) fn put_values(text: &mut TextBuilder, values: &Vec<&Value>) -> Result<Said, AllocError> {
+    let mut each: Vec<&Value> = Vec::new(text.alloc());
     for value in values {
-        let mut words = TextBuilder::new(alloc);
-        put_value(&mut words, value);
-        let text = words.done()?;
-        if !texts.contains(&text) {
-            texts.push(text)?;
+        if !each.contains(value) {
+            each.push(*value)?;
         }
     }
-    let mut names = ListBuilder::new(alloc);
-    for text in &texts {
-        names.add(text.as_str());
+    if let [only] = each.as_slice() {
+        return Ok(put_value(text, *only));
     }
-    let mut joined = TextBuilder::new(alloc);
-    put_few(&mut joined, &names.done()?, 3);
-    Ok(joined)
+    let start = text.len();
+    put_several(text, &each);
+    Ok(text.since(start))
+}
+
+/// Puts values in short after a text.
+fn put_several(text: &mut TextBuilder, values: &Vec<&Value>) {
+    let mut names = ListBuilder::new(text.alloc());
+    for value in values {
+        let mut words = TextBuilder::new(text.alloc());
+        let _said = put_value(&mut words, *value);
+        names.add_text(words);
+    }
+    match names.done() {
+        Ok(names) => put_few(text, &names, 3),
+        Err(AllocError) => text.refuse(),
+    }
 }
 
 /// `max_size 1920x1080 left out`.
 pub(crate) fn words_without(alloc: Global, field: Field, value: &Value) -> TextBuilder {
     let mut words = TextBuilder::new(alloc);
     words.field(field).put(" ");
-    put_value(&mut words, value);
+    let was = put_value(&mut words, value);
     words.put(" left out");
+    words.tell(Fact::Change(Deed::LeaveOut(field, was)));
     words
 }

@@ -2,7 +2,7 @@
 
 use crate::edits::EditedRecord;
 use crate::objects::{MEMORY, exact_value, text_value, with};
-use explanation_text::{ListBuilder, TextBuilder, nearest};
+use explanation_text::{Deed, Fact, ListBuilder, Said, TextBuilder, nearest};
 use serde_json::Value;
 use std::alloc::{AllocError, Global};
 use sysmem_counts::Field;
@@ -95,8 +95,9 @@ pub(crate) fn permitting(
     copy.add(heap_value(alloc, heap)?);
     let mut words = TextBuilder::new(alloc);
     words.field(Field::PermittedHeaps).put(" with ");
-    words.put(&heap.heap_type).put("#").put_number(heap.id);
+    let added = put_heap(&mut words, &heap.heap_type, heap.id);
     words.put(" too");
+    words.tell(Fact::Change(Deed::Add(Field::PermittedHeaps, added)));
     permitted(alloc, value, copy.done()?, words)
 }
 
@@ -182,8 +183,20 @@ pub(crate) fn meaning(
 fn words_for(alloc: Global, heap: &Heap, item: &Value) -> TextBuilder {
     let mut words = TextBuilder::new(alloc);
     words.field(Field::PermittedHeaps).put(" with ");
-    words.put(&heap.heap_type).put("#").put_number(heap.id);
+    let meant = put_heap(&mut words, &heap.heap_type, heap.id);
     words.put(" in the place of ");
-    words.put(type_in(item)).put("#").put_number(id_in(item));
+    let was = put_heap(&mut words, type_in(item), id_in(item));
+    words.tell(Fact::Change(Deed::Replace {
+        field: Field::PermittedHeaps,
+        was,
+        item: meant,
+    }));
     words
+}
+
+/// Puts a heap after a text: `cma#0`; gives what is said so.
+fn put_heap(text: &mut TextBuilder, heap_type: &str, id: u64) -> Said {
+    let start = text.len();
+    text.put(heap_type).put("#").put_number(id);
+    text.since(start)
 }

@@ -4,7 +4,7 @@
 use crate::edits::{EditedRecord, with_entries};
 use crate::objects::{entries_of, lacking, text_value, with};
 use explanation_text::wording::put_few;
-use explanation_text::{ListBuilder, Text, TextBuilder};
+use explanation_text::{Deed, Fact, ListBuilder, Text, TextBuilder};
 use serde_json::Value;
 use std::alloc::{AllocError, Global};
 use sysmem_counts::Field;
@@ -64,7 +64,12 @@ fn words_beside(alloc: Global, colour: &str, names: &[&str]) -> TextBuilder {
     let mut words = TextBuilder::new(alloc);
     words.field(Field::ColorSpaces).put(" ");
     put_few(&mut words, names, 3);
-    words.put(", with ").put(colour).put(" too");
+    words.put(", with ");
+    let start = words.len();
+    words.put(colour);
+    let added = words.since(start);
+    words.put(" too");
+    words.tell(Fact::Change(Deed::Add(Field::ColorSpaces, added)));
     words
 }
 
@@ -146,6 +151,7 @@ pub(crate) fn putting_first(
     words.put_number(shown).put(" (");
     put_named(&mut words, entry);
     words.put(") put first");
+    words.tell(Fact::Change(Deed::PutFirst(shown)));
     with_entries(alloc, value, copy.done()?, words.into_text()?)
 }
 
@@ -163,7 +169,10 @@ fn naming(alloc: Global, entry: &Value, pair: Pair) -> Result<Value, AllocError>
 fn words_on(alloc: Global, like: &Value, index: usize, pair: Pair) -> TextBuilder {
     let mut words = TextBuilder::new(alloc);
     words.field(Field::PixelFormat).put(" ");
+    let start = words.len();
     words.format(pair.format).put(" ").modifier(pair.modifier);
+    let taken = words.since(start);
+    words.tell(Fact::Change(Deed::AddEntry(taken)));
     words.put(" too, in an entry before the others that is else like ");
     if index == 0 {
         words.put("the first (");

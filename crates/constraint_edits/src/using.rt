@@ -2,7 +2,7 @@
 
 use crate::edits::EditedRecord;
 use crate::objects::{exact_value, text_value, with};
-use explanation_text::TextBuilder;
+use explanation_text::{Deed, Fact, Said, TextBuilder};
 use serde_json::Value;
 use std::alloc::{AllocError, Global};
 use sysmem_counts::Field;
@@ -27,16 +27,44 @@ pub(crate) fn without_cpu(
     if others.len() == usages.len() {
         return Ok(None);
     }
-    let words = if others.is_empty() {
+    let mut words = TextBuilder::new(alloc);
+    if others.is_empty() {
         others.push(text_value(alloc, "none")?)?;
-        "usage cpu becomes none"
+        put_unused(&mut words);
     } else {
-        "usage without cpu"
-    };
+        put_without_cpu(&mut words);
+    }
     Ok(Some(EditedRecord {
         value: with(alloc, Some(value), USAGE, Value::Array(others))?,
-        words: TextBuilder::of(alloc, words).into_text()?,
+        words: words.into_text()?,
     }))
+}
+
+/// Puts that nothing uses the buffers, where a CPU alone does, after a text.
+fn put_unused(text: &mut TextBuilder) {
+    text.put("usage ");
+    let was = put_said(text, "cpu");
+    text.put(" becomes ");
+    let value = put_said(text, "none");
+    text.tell(Fact::Change(Deed::Set {
+        field: Field::Usage,
+        was: Some(was),
+        value,
+    }))
+}
+
+/// Puts that no CPU uses the buffers after a text.
+fn put_without_cpu(text: &mut TextBuilder) {
+    text.put("usage without ");
+    let lacking = put_said(text, "cpu");
+    text.tell(Fact::Change(Deed::Remove(Field::Usage, lacking)))
+}
+
+/// Puts a word after a text; gives what is said so.
+fn put_said(text: &mut TextBuilder, word: &str) -> Said {
+    let start = text.len();
+    text.put(word);
+    text.since(start)
 }
 
 /// Whether a CPU is to use the buffers.
@@ -82,11 +110,17 @@ pub(crate) fn asking_for(
     let name = Field::MinBufferCount.name();
     let mut words = TextBuilder::new(alloc);
     words.field(Field::MinBufferCount);
-    match value.get(name).and_then(Value::as_u64) {
+    let least = value.get(name).and_then(Value::as_u64);
+    match least {
         Some(least) => words.put(" ").put_number(least),
         None => words.put(" (absent)"),
     };
     words.put(" becomes ").put_number(count);
+    words.tell(Fact::Change(Deed::Set {
+        field: Field::MinBufferCount,
+        was: least.map(Said::Number),
+        value: Said::Number(u64::from(count)),
+    }));
     Ok(Some(EditedRecord {
         value: with(alloc, Some(value), name, exact_value(u64::from(count)))?,
         words: words.into_text()?,

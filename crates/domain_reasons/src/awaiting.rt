@@ -1,7 +1,7 @@
 //! Who is awaited, and what helps.
 
 use explanation_text::wording::put_count;
-use explanation_text::{Items, ListBuilder, Text, TextBuilder};
+use explanation_text::{Fact, Items, Label, ListBuilder, Said, Text, TextBuilder};
 use script_reading::Act;
 use script_story::{Domain, Milestone, Story, put_domain};
 use std::alloc::{AllocError, Global};
@@ -54,7 +54,7 @@ fn add_host(items: &mut Items, story: &Story<'_>, domain: &Domain, above: usize)
         .put(", to which ")
         .name(story.called(domain.root))
         .put(" was attached");
-    items.say(1, "awaits", words)
+    items.say(1, Label::Awaits, words)
 }
 
 /// The root of the domain to which this one was attached, where that has no verdict.
@@ -129,8 +129,9 @@ fn add_those(items: &mut Items, story: &Story<'_>, awaited: &[AwaitedNode], help
     let more = seen.saturating_sub(MOST_ROWS);
     if more > 0 {
         let mut words = TextBuilder::new(items.alloc());
+        words.tell(Fact::Value(Said::Number(more as u64)));
         words.put_number(more).put(" more: ").put_text(help);
-        items.say(1, "awaits", words);
+        items.say(1, Label::Awaits, words);
     }
 }
 
@@ -142,7 +143,7 @@ fn add_one(items: &mut Items, story: &Story<'_>, one: &AwaitedNode) {
         .put_text(&one.what)
         .put(": ")
         .put_text(&one.help);
-    items.say(1, "awaits", words)
+    items.say(1, Label::Awaits, words)
 }
 
 /// The last call on a node that was refused and would have helped.

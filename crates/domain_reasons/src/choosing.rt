@@ -4,7 +4,7 @@ use crate::passed_over::add_passed_over;
 use crate::room::add_left;
 use crate::selecting::{Choice, DomainView, add_left_out, choices_of};
 use explanation_text::wording::put_few;
-use explanation_text::{Items, ListBuilder, Text, TextBuilder};
+use explanation_text::{Items, Label, ListBuilder, Text, TextBuilder};
 use negotiation_inputs::Platform;
 use script_story::{Domain, Story, asked_in, put_domain};
 use settings_reasons::add_settings;
@@ -47,7 +47,7 @@ fn add_from(items: &mut Items, story: &Story<'_>, host: usize) {
         put_domain(&mut words, story, above.root);
     }
     words.put(", unchanged: these accept its settings");
-    items.say(1, "from", words)
+    items.say(1, Label::From, words)
 }
 
 /// Tells which child was chosen of each group that is selected.
@@ -59,7 +59,7 @@ fn add_children(items: &mut Items, story: &Story<'_>, domain: &Domain) -> Result
     }
     let mut words = TextBuilder::new(alloc);
     put_few(&mut words, &texts, MOST_CHOICES);
-    items.say(1, "choice", words);
+    items.say(1, Label::Choice, words);
     Ok(())
 }
 

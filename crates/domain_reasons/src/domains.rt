@@ -5,7 +5,7 @@ use crate::choosing::add_choice;
 use crate::exchanged::{are_exchanged, is_named_so, states_usage, usage_meant, usages_of};
 use crate::failing::{add_failed, add_none, add_too_many};
 use explanation_text::wording::put_few;
-use explanation_text::{Items, Kind, ListBuilder, Text, TextBuilder};
+use explanation_text::{Fact, Items, Kind, Label, ListBuilder, Text, TextBuilder};
 use negotiation_inputs::Platform;
 use script_story::{Became, Domain, Milestone, Story, asked_in, put_domain};
 use std::alloc::{AllocError, Global};
@@ -64,7 +64,8 @@ fn put_title(items: &mut Items, story: &Story<'_>, domain: &Domain) {
     if let Some(number) = domain.ended {
         put_ended(&mut words, story, number);
     }
-    items.push(Kind::Title, 0, "", words)
+    words.tell(Fact::Domain(domain.became.standing()));
+    items.push(Kind::Title, 0, Label::Plain, words)
 }
 
 /// Puts after which call a verdict came after a text.
@@ -86,7 +87,7 @@ fn add_who(
 ) -> Result<(), AllocError> {
     let alloc = items.alloc();
     let participants = asked_in(alloc, story, index, are_selected)?;
-    items.say(1, "who", who_text(alloc, story, &participants));
+    items.say(1, Label::Who, who_text(alloc, story, &participants));
     for participant in &participants {
         note_usage(items, story, *participant)?;
     }
@@ -110,7 +111,11 @@ fn note_usage(
     let alloc = items.alloc();
     match exchanged_with(alloc, story, participant)? {
         None if !is_named_so(participant) => {}
-        other => items.say(1, "note", note_of(alloc, story, participant, usage, other)),
+        other => items.say(
+            1,
+            Label::Note,
+            note_of(alloc, story, participant, usage, other),
+        ),
     }
     Ok(())
 }

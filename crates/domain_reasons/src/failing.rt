@@ -5,7 +5,7 @@ use crate::choosing::groups_in;
 use crate::room::{accepted_before, add_lacking, settings_above};
 use crate::selecting::{DomainView, MOST_TOLD, add_empty};
 use explanation_text::wording::{MOST_NAMES, put_few};
-use explanation_text::{Items, ListBuilder, Name, Text, TextBuilder};
+use explanation_text::{Items, Label, ListBuilder, Name, Text, TextBuilder};
 use negotiation_inputs::Platform;
 use script_reading::Act;
 use script_story::{Became, Domain, MadeCall, Story, asked_in, left_out};
@@ -25,7 +25,7 @@ pub(crate) fn add_failed(items: &mut Items, story: &Story<'_>, domain: &Domain) 
             None => return,
         },
     };
-    items.say(1, "why", words)
+    items.say(1, Label::Why, words)
 }
 
 /// Why a domain failed that a call closed.
@@ -109,10 +109,10 @@ pub(crate) fn add_too_many(items: &mut Items, story: &Story<'_>, index: usize) {
     let alloc = items.alloc();
     items.list_text(
         1,
-        "why",
+        Label::Why,
         "the groups' children make more selections than the 4096 that are tried",
     );
-    items.say(1, "groups", groups_text(alloc, story, index))
+    items.say(1, Label::Groups, groups_text(alloc, story, index))
 }
 
 /// A domain's groups, and how many children each has.
@@ -165,7 +165,7 @@ pub(crate) fn add_none(
     let mut told = 0usize;
     add_empty(items, 1, empty, &[], &mut told, story.nodes.len())?;
     if told >= MOST_TOLD {
-        items.list_text(1, "", "further selections fail too");
+        items.list_text(1, Label::Plain, "further selections fail too");
     }
     Ok(())
 }
@@ -217,7 +217,7 @@ fn add_fewer(items: &mut Items, participants: &[NamedParticipant<'_>], count: u3
                 .field(Field::MaxBufferCount)
                 .put("), ");
             words.put_number(count).put(" were decided");
-            items.say(1, "count", words);
+            items.say(1, Label::Count, words);
         }
     }
 }

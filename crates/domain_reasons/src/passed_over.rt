@@ -1,7 +1,7 @@
 //! Children of groups after the chosen one that couldn't have been chosen.
 
 use crate::selecting::{Choice, DomainView, SelectedNodes, open_group, reach, with_choice};
-use explanation_text::{Items, TextBuilder};
+use explanation_text::{Items, Label, TextBuilder};
 use settings_reasons::{add_conflict, is_unmet};
 use std::alloc::{AllocError, Global};
 
@@ -106,7 +106,7 @@ fn add_why(
         .put(", which comes after ")
         .name(before)
         .put(", can't be met:");
-    items.say(2, "", words);
+    items.say(2, Label::Plain, words);
     add_conflict(
         items,
         3,

@@ -1,6 +1,6 @@
 //! Room in the buffers that were decided, for those who come to them late.
 
-use explanation_text::{Items, ListBuilder, TextBuilder};
+use explanation_text::{Items, Label, ListBuilder, TextBuilder};
 use script_reading::Act;
 use script_story::{Became, Domain, Milestone, Story, asked_in};
 use std::alloc::{AllocError, Global};
@@ -124,7 +124,7 @@ pub(crate) fn add_lacking<'a>(
     if lacking == 0 {
         return Ok(());
     }
-    items.say(1, "count", lacking_text(alloc, &all, count, lacking));
+    items.say(1, Label::Count, lacking_text(alloc, &all, count, lacking));
     add_gone(items, story, index)
 }
 
@@ -138,7 +138,7 @@ fn lacking_text(
     let were = if count == 1 { "was" } else { "were" };
     let mut words = TextBuilder::new(alloc);
     words
-        .put_number(needed(all))
+        .value(u128::from(needed(all)))
         .put(" buffers are needed, ")
         .put_number(count)
         .put(" ")
@@ -163,7 +163,7 @@ pub(crate) fn add_left(
     let alloc = items.alloc();
     let mut all = accepted_before(alloc, story, index)?;
     all.extend_from_slice(&asked_in(alloc, story, index, true)?)?;
-    items.say(1, "count", left_text(alloc, &all, count));
+    items.say(1, Label::Count, left_text(alloc, &all, count));
     add_gone(items, story, index)
 }
 
@@ -172,7 +172,7 @@ pub(crate) fn add_left(
 fn left_text(alloc: Global, all: &[NamedParticipant<'_>], count: u32) -> TextBuilder {
     let taken = held(all);
     let mut words = TextBuilder::new(alloc);
-    words.put_number(taken).put(" of ").put_number(count);
+    words.value(u128::from(taken)).put(" of ").put_number(count);
     words.put(if count == 1 { " buffer " } else { " buffers " });
     words.put(if taken == 1 || count == 1 {
         "is held, "
@@ -199,7 +199,7 @@ fn add_gone(items: &mut Items, story: &Story<'_>, index: usize) -> Result<(), Al
             continue;
         }
         if count < MOST_GONE {
-            items.say(2, "", gone_text(alloc, story, *one, own));
+            items.say(2, Label::Plain, gone_text(alloc, story, *one, own));
         }
         count = count.saturating_add(1);
     }
@@ -216,7 +216,7 @@ fn add_more(items: &mut Items, more: usize) {
     words
         .put_number(more)
         .put(" more held some, and are gone too");
-    items.say(2, "", words)
+    items.say(2, Label::Plain, words)
 }
 
 /// How many buffers are for a participant alone: for camping, and as dedicated slack.

@@ -2,7 +2,7 @@
 
 use crate::choosing::MOST_CHOICES;
 use explanation_text::wording::{put_few, put_joined};
-use explanation_text::{Items, ListBuilder, Name, Text, TextBuilder, are_same};
+use explanation_text::{Items, Label, ListBuilder, Name, Text, TextBuilder, are_same};
 use negotiation_inputs::Platform;
 use script_story::{Story, asked_by};
 use settings_reasons::{add_conflict, is_unmet};
@@ -232,7 +232,7 @@ fn put_cases(items: &mut Items, depth: usize, group: Name<'_>, cases: Vec<Case<'
 /// Puts what holds for some children of a group after the items.
 fn put_case(items: &mut Items, depth: usize, group: Name<'_>, case: Case<'_>) {
     let head = head_of(items.alloc(), group, &case.names);
-    items.say(depth, "", head);
+    items.say(depth, Label::Plain, head);
     items.append(case.below)
 }
 
@@ -292,7 +292,7 @@ fn add_not(
 ) -> Result<(), AllocError> {
     let mut words = TextBuilder::of(items.alloc(), "not ");
     words.name(empty.story.called(other.child)).put(":");
-    items.say(2, "", words);
+    items.say(2, Label::Plain, words);
     let longer = with_choice(items.alloc(), choices, other.group, other.child)?;
     add_empty(items, 3, empty, &longer, told, empty.story.nodes.len())
 }

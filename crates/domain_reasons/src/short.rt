@@ -3,7 +3,7 @@
 use crate::answer::answer_of;
 use crate::domains::add_domain;
 use crate::selecting::{DomainView, add_left_out};
-use explanation_text::{Items, Kind, TextBuilder};
+use explanation_text::{Items, Kind, Label, TextBuilder};
 use negotiation_inputs::Platform;
 use script_story::{Became, Story, refused_words};
 use std::alloc::AllocError;
@@ -14,9 +14,9 @@ const MOST: usize = 8;
 /// Tells the answer of a story, and which calls are refused.
 pub fn add_in_short(items: &mut Items, story: &Story<'_>) -> Result<(), AllocError> {
     let alloc = items.alloc();
-    items.say(2, "", answer_of(alloc, story));
+    items.say(2, Label::Plain, answer_of(alloc, story));
     for text in &refused_words(alloc, story)? {
-        items.say(2, "", TextBuilder::of_text(alloc, text));
+        items.say(2, Label::Plain, TextBuilder::of_text(alloc, text));
     }
     Ok(())
 }
@@ -32,7 +32,7 @@ pub fn add_shortly(
     add_reasons(&mut section, &*platform, &*story, index)?;
     let mut told = 0usize;
     for mut item in section.into_list()? {
-        if item.kind == Kind::Title || item.label == "who" || told >= MOST {
+        if item.kind == Kind::Title || item.label == Label::Who || told >= MOST {
             continue;
         }
         told = told.saturating_add(1);

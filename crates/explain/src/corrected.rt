@@ -6,7 +6,7 @@ use crate::mended::{mended, put_corrections};
 use crate::not_chosen::add_not_chosen;
 use constraint_changes::put_choice;
 use domain_reasons::{add_in_short, add_shortly, choices_in};
-use explanation_text::{Correction, Item, Items, Kind, TextBuilder};
+use explanation_text::{Correction, Item, Items, Kind, Label, TextBuilder};
 use other_outcomes::{list_meant, list_moved};
 use script_faults::{Document, add_fault};
 use script_reading::{ParseFault, Script, ScriptFault, parse_script, read_script};
@@ -102,7 +102,7 @@ fn add_meant(
     let mut words = TextBuilder::of(items.alloc(), "with ");
     put_corrections(&mut words, document, corrections)?;
     words.put(" the script has:");
-    items.say(1, "then", words);
+    items.say(1, Label::Then, words);
     Ok(())
 }
 
@@ -243,7 +243,7 @@ fn add_chosen(
     let mut told = Items::new(alloc);
     domain.told.tell(&mut told, 2);
     for mut item in told.into_list()? {
-        item.label = "->";
+        item.label = Label::Promised;
         items.add(item);
     }
     let choice = choices_in(alloc, story, domain.root, domain.told.selection())?;
@@ -261,7 +261,7 @@ fn add_refusal(
     add_fault(&mut told, document, fault)?;
     for item in told.into_list()? {
         if item.kind == Kind::Answer {
-            items.list_text(2, "", &item.text);
+            items.list_text(2, Label::Plain, &item.text);
         }
     }
     Ok(())

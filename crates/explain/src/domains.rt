@@ -6,7 +6,7 @@ use crate::not_chosen::add_not_chosen;
 use constraint_changes::{Group, RestatedConstraints, add_together, list_changes, restated};
 use constraint_edits::edits_on;
 use domain_reasons::add_domain;
-use explanation_text::{Item, Items, Kind};
+use explanation_text::{Item, Items, Kind, Label};
 use other_outcomes::{add_ended_later, add_heaps, add_platform};
 use script_faults::Document;
 use script_reading::Call;
@@ -96,7 +96,7 @@ fn end_of_first(changes: &[Item]) -> usize {
         if item.kind == Kind::Decision {
             let next = k.saturating_add(1);
             return match changes.get(next) {
-                Some(below) if below.label == "choice" => next.saturating_add(1),
+                Some(below) if below.label == Label::Choice => next.saturating_add(1),
                 _ => next,
             };
         }

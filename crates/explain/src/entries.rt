@@ -8,7 +8,7 @@ ghost use Rattle.constraint_changes.specs.Edited.{IsPromised};
 use constraint_changes::{Trial, entry_place, line_at, put_choice};
 use constraint_edits::{Change, Edit, EditedConstraints, edited};
 use domain_reasons::choices_in;
-use explanation_text::{Items, Step, TextBuilder};
+use explanation_text::{Items, Label, Step, TextBuilder};
 use script_faults::{Document, RecordPart};
 use script_story::{Became, Milestone, Outcome, Scenario, Story, asked_in};
 use settings_reasons::{holder_of, is_taken, unused_entries};
@@ -127,7 +127,7 @@ impl Teller<'_, '_> {
         index: usize,
         holder: Holder,
     ) -> Result<(), AllocError> {
-        items.say(1, "note", self.sentence(items.alloc(), index, holder));
+        items.say(1, Label::Note, self.sentence(items.alloc(), index, holder));
         let item = entry_place(self.participant.stated, index).item;
         let is_own = item == entry_place(self.participant.stated, holder.index).item;
         let is_chosen = became_at(self.story, self.index) == Some(Became::Chosen);
@@ -197,7 +197,7 @@ impl Teller<'_, '_> {
             .call(self.number)
             .put(") put first ")
             .put(end);
-        items.say(1, "then", words)
+        items.say(1, Label::Then, words)
     }
 
     /// The first pair of the platform that the entry of an index takes, and which entry holds for

@@ -12,7 +12,8 @@ use crate::lines::with_lines;
 use crate::page::page_of_scene;
 use domain_reasons::answer_of;
 use explanation_text::{
-    Item, Items, Kind, Span, TextBuilder, column_of, line_of, repeated_keys, text_of,
+    Item, Items, Kind, Label, Span, Standing, TextBuilder, column_of, line_of, repeated_keys,
+    text_of,
 };
 use script_faults::{Document, Whole, add_fault, add_no_json};
 use script_reading::{ParseFault, Script, ScriptFault, parse_script, read_script};
@@ -248,7 +249,7 @@ fn with_repeats(
 fn add_repeats_first(items: &mut Items, document: &Document<'_>) -> Result<(), AllocError> {
     add_repeats(items, document)?;
     if items.len() > 1 {
-        items.title("where the script is refused");
+        items.title("where the script is refused", Standing::Bad);
     }
     Ok(())
 }
@@ -304,7 +305,12 @@ fn add_story(
     scenario: &Scenario<'_>,
     story: &Story<'_>,
 ) -> Result<(), AllocError> {
-    items.push(Kind::Answer, 0, "", answer_of(items.alloc(), story));
+    items.push(
+        Kind::Answer,
+        0,
+        Label::Plain,
+        answer_of(items.alloc(), story),
+    );
     add_repeats(items, document)?;
     add_calls(items, document, story, scenario.effort)?;
     add_called_otherwise(items, document, scenario, story)?;
@@ -316,10 +322,10 @@ fn add_story(
 /// Tells that not all was tried, where that would take long.
 fn add_untold(items: &mut Items, effort: &Effort) {
     if effort.is_spent() {
-        items.title("note: what isn't told");
+        items.title("note: what isn't told", Standing::Open);
         items.list_text(
             1,
-            "note",
+            Label::Note,
             "more changes, and more that would be decided otherwise: to try more would take long",
         );
     }
@@ -370,7 +376,7 @@ fn add_repeats(items: &mut Items, document: &Document<'_>) -> Result<(), AllocEr
     if repeats.is_empty() {
         return Ok(());
     }
-    items.title("note: keys that are given twice");
+    items.title("note: keys that are given twice", Standing::Open);
     for (first, again) in &repeats {
         add_repeat(items, document, *first, *again);
     }

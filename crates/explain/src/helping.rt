@@ -7,7 +7,7 @@ use crate::domains::add_edits;
 use crate::not_chosen::add_not_chosen;
 use constraint_changes::put_choice;
 use domain_reasons::{add_domain, choices_in};
-use explanation_text::{Items, Kind};
+use explanation_text::{Items, Kind, Label};
 use other_outcomes::{
     Otherwise, add_ended_earlier, add_groups_exchanged, add_later_children, add_later_pairs,
     add_released, add_then, add_without, reordered,
@@ -124,7 +124,7 @@ fn add_above(items: &mut Items, then: &Option<Otherwise<'_>>) {
     if then.is_some() {
         items.list_text(
             2,
-            "",
+            Label::Plain,
             "why, and what would help, stands with the calls to look at",
         )
     }
@@ -264,7 +264,7 @@ pub(crate) fn add_help_then(
 fn add_below(items: &mut Items, section: Items, most: usize) -> Result<(), AllocError> {
     let mut count = 0usize;
     for mut item in section.into_list()? {
-        if item.kind == Kind::Title || item.label == "who" {
+        if item.kind == Kind::Title || item.label == Label::Who {
             continue;
         }
         count = count.saturating_add(1);
@@ -274,7 +274,7 @@ fn add_below(items: &mut Items, section: Items, most: usize) -> Result<(), Alloc
         }
     }
     if count > most {
-        items.list_text(2, "", "and more of this");
+        items.list_text(2, Label::Plain, "and more of this");
     }
     Ok(())
 }

@@ -1,6 +1,6 @@
 //! Where the fields stand in the script's text that the section of an empty domain names.
 
-use explanation_text::{Item, Kind, Step, Text, TextBuilder, Thing, line_of};
+use explanation_text::{Deed, Fact, Item, Kind, Label, Step, Text, TextBuilder, Thing, line_of};
 use record_reading::{ENTRY_FIELDS, MEMORY_FIELDS};
 use script_faults::{Document, RecordPart, Whole};
 use script_story::{Became, Milestone, Story};
@@ -94,7 +94,7 @@ fn add_lines(
     let items = lined.get(section.start..).unwrap_or(&[]);
     let rows = rows_in(alloc, document, story, domain, items)?;
     for row in rows {
-        lined.push(Item::new(Kind::Words, 1, "lines", row))?;
+        lined.push(Item::new(Kind::Words, 1, Label::Lines, row))?;
     }
     Ok(())
 }
@@ -149,7 +149,7 @@ fn own_of(alloc: Global, items: &[Item]) -> Result<Vec<bool>, AllocError> {
     let mut promised = None;
     for item in items {
         let is_own = !is_below(item, promised);
-        if is_own && item.label != "choice" {
+        if is_own && item.label != Label::Choice {
             promised = promised_by(item);
         }
         own.push(is_own)?;
@@ -159,7 +159,7 @@ fn own_of(alloc: Global, items: &[Item]) -> Result<Vec<bool>, AllocError> {
 
 /// How deep a decision stands that would come, if an item is one.
 fn promised_by(item: &Item) -> Option<usize> {
-    if item.label == "->" {
+    if item.label == Label::Promised {
         Some(item.depth)
     } else {
         None
@@ -170,7 +170,7 @@ fn promised_by(item: &Item) -> Option<usize> {
 /// choice of children does not.
 fn is_below(item: &Item, promised: Option<usize>) -> bool {
     match promised {
-        Some(depth) if item.depth == depth => item.label != "choice",
+        Some(depth) if item.depth == depth => item.label != Label::Choice,
         Some(depth) => item.depth > depth,
         None => false,
     }
@@ -205,7 +205,7 @@ fn rows_of(
 
 /// Whether an item names a thing, but for one that lists who has constraints.
 fn names(item: &Item, thing: Thing) -> bool {
-    item.label != "who" && item.mentions.iter().any(|mention| mention.thing == thing)
+    item.label != Label::Who && item.mentions.iter().any(|mention| mention.thing == thing)
 }
 
 /// The fields that those name that tell of the domain.
@@ -235,33 +235,18 @@ fn without_placed(
     Ok(left)
 }
 
-/// Whether an item tells a change of a field that the constraints of a call state, with its lines:
-/// `encoder (call 7, line 23): max_size 1920x1088 becomes 4096x2160`.
+/// Whether an item tells a change of the value of a field that the constraints of a call state,
+/// with its lines: `encoder (call 7, line 23): max_size 1920x1088 becomes 4096x2160`.
 fn places(item: &Item, number: usize, field: Field) -> bool {
-    let is_change = item.label == "and" || item.label.ends_with('.');
-    let call = first_byte_of(item, Thing::Call(number));
-    let (Some(call), Some(at)) = (call, first_byte_of(item, Thing::Field(field))) else {
-        return false;
-    };
-    let is_stated = is_after(item, " becomes ", at) || item.text.ends_with(" left out");
-    is_change && is_stated && is_after(item, ", line", call)
+    item.facts.contains(&Fact::Lined(number))
+        && item.facts.iter().any(|fact| is_stated(*fact, field))
 }
 
-/// Where an item names a thing first.
-fn first_byte_of(item: &Item, thing: Thing) -> Option<usize> {
-    for mention in &item.mentions {
-        if mention.thing == thing {
-            return Some(mention.at);
-        }
-    }
-    None
-}
-
-/// Whether some words stand after a byte of an item's text, behind which no participant is named.
-fn is_after(item: &Item, words: &str, at: usize) -> bool {
-    match item.text.rfind(words) {
-        Some(found) => found > at,
-        None => false,
+/// Whether it is told that a field that is stated gets another value, or is left out.
+fn is_stated(fact: Fact, field: Field) -> bool {
+    match fact {
+        Fact::Change(Deed::Set { field: one, .. } | Deed::LeaveOut(one, _)) => one == field,
+        _ => false,
     }
 }
 
@@ -342,5 +327,8 @@ fn put_line(
     if entry > 0 {
         let place = entry.saturating_add(1);
         text.put(" (entry ").put_number(place).put(")");
+        text.tell(Fact::Stated(field, line, Some(place)));
+    } else {
+        text.tell(Fact::Stated(field, line, None));
     }
 }

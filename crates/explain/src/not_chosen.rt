@@ -2,7 +2,7 @@
 //! would do too but stands after it.
 
 use domain_reasons::add_domain;
-use explanation_text::{Item, Items};
+use explanation_text::{Item, Items, Label};
 use other_outcomes::{add_later_children, add_taken_pairs};
 use script_story::{Scenario, Story};
 use std::alloc::{AllocError, Global};
@@ -62,9 +62,9 @@ impl Kept {
 
     /// Begins with an item that others may stand below.
     fn begin(&mut self, item: Item) {
-        let has_head = item.label == "place" || item.label == "image";
-        self.is_open = has_head || item.label == "choice";
-        self.is_on_image = item.label == "image";
+        let has_head = item.label == Label::Place || item.label == Label::Image;
+        self.is_open = has_head || item.label == Label::Choice;
+        self.is_on_image = item.label == Label::Image;
         self.head = if has_head { Some(item) } else { None };
     }
 }
@@ -99,7 +99,7 @@ fn add_deeper(
         }
     }
     if count > most {
-        items.list_text(depth, "", "and more of this");
+        items.list_text(depth, Label::Plain, "and more of this");
     }
     Ok(())
 }

@@ -3,6 +3,8 @@
 use crate::correction::Correction;
 use crate::decided::Decided;
 use crate::facts::Fact;
+use crate::label::Label;
+use crate::markup::Standing;
 use crate::snippet::Shown;
 use crate::words::{Mention, Text, TextBuilder};
 use std::alloc::{AllocError, Global};
@@ -24,8 +26,8 @@ pub enum Kind {
 
 /// A line, or some, of what is told.
 pub struct Item {
-    /// What the text is about, in one word; empty where it says so itself.
-    pub label: &'static str,
+    /// What the text is about.
+    pub label: Label,
     /// May have several lines where it is `Source`.
     pub text: String,
     /// What the text names, in order.
@@ -65,7 +67,7 @@ impl Item {
         }
     }
 
-    pub fn new(kind: Kind, depth: usize, label: &'static str, text: Text) -> Item {
+    pub fn new(kind: Kind, depth: usize, label: Label, text: Text) -> Item {
         let (text, mentions, facts) = text.into_parts();
         Item {
             label,
@@ -122,7 +124,7 @@ impl Items {
         }
     }
 
-    pub fn push(&mut self, kind: Kind, depth: usize, label: &'static str, words: TextBuilder) {
+    pub fn push(&mut self, kind: Kind, depth: usize, label: Label, words: TextBuilder) {
         match words.into_text() {
             Ok(text) => self.add(Item::new(kind, depth, label, text)),
             Err(AllocError) => self.refuse(),
@@ -160,24 +162,26 @@ impl Items {
         }
     }
 
-    /// Puts the title of a section after the list.
-    pub fn title(&mut self, text: &str) {
-        self.push(Kind::Title, 0, "", TextBuilder::of(self.alloc, text))
+    /// Puts the title of a section after the list, whose part in a decision is this.
+    pub fn title(&mut self, text: &str, standing: Standing) {
+        let mut words = TextBuilder::of(self.alloc, text);
+        words.tell(Fact::Section(standing));
+        self.push(Kind::Title, 0, Label::Plain, words)
     }
 
     /// Puts words with a label after the list.
-    pub fn say(&mut self, depth: usize, label: &'static str, words: TextBuilder) {
+    pub fn say(&mut self, depth: usize, label: Label, words: TextBuilder) {
         self.push(Kind::Words, depth, label, words)
     }
 
     /// Puts a text with a label after the list.
-    pub fn list_text(&mut self, depth: usize, label: &'static str, text: &str) {
+    pub fn list_text(&mut self, depth: usize, label: Label, text: &str) {
         self.say(depth, label, TextBuilder::of(self.alloc, text))
     }
 
     /// Puts a line of a report with a label after the list, and what it decides; the label of one
-    /// that would come of what stands above it is `->`.
-    pub fn decide(&mut self, depth: usize, label: &'static str, line: String, decided: Decided) {
+    /// that would come of what stands above it is `Promised`.
+    pub fn decide(&mut self, depth: usize, label: Label, line: String, decided: Decided) {
         let mentions = Vec::new(self.alloc);
         self.add(Item {
             label,

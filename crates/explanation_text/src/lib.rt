@@ -4,7 +4,7 @@
 //!
 //! ```
 //! let mut items = Items::new(rt.alloc());
-//! items.list_text(1, "who", "camera /0 and display /1");
+//! items.list_text(1, Label::Who, "camera /0 and display /1");
 //! print!(rt; "{}", text_of(rt.alloc(), &items.into_list()?)?)?;
 //! if let Some(span) = span_of(rt.alloc(), bytes, &[Step::Key("calls"), Step::Item(3)], &value)? {
 //!     println!(rt; "line {}", line_of(bytes, span.start))?;
@@ -16,6 +16,7 @@ mod correction;
 mod decided;
 mod facts;
 mod items;
+mod label;
 mod markup;
 mod near;
 mod places;
@@ -28,6 +29,7 @@ pub use correction::{Correction, Meant};
 pub use decided::{Choice, Decided};
 pub use facts::{Deed, Fact, Said};
 pub use items::{Item, Items, Kind, are_same};
+pub use label::Label;
 pub use markup::{Drawing, Joint, Line, Shape, Standing, page_of};
 pub use near::nearest;
 pub use places::{

@@ -2,6 +2,7 @@
 //! words that stand far in.
 
 use crate::items::{Item, Kind};
+use crate::label::Label;
 use crate::wording::{put_repeated, width_of};
 use crate::words::TextBuilder;
 use std::alloc::{AllocError, Global};
@@ -66,22 +67,17 @@ fn keep_indent(
 
 /// How many columns an item's label takes, with the space after it.
 fn label_width(item: &Item) -> usize {
-    if item.label.is_empty() {
-        return 0;
+    let width = width_of(item.label.word());
+    match item.label {
+        Label::Plain => 0,
+        Label::Alone(_) | Label::Promised => width.saturating_add(1),
+        _ => width.max(LABEL).saturating_add(1),
     }
-    let width = width_of(item.label);
-    let is_word = item
-        .label
-        .as_bytes()
-        .iter()
-        .all(|b| b.is_ascii_alphabetic());
-    let column = if is_word { width.max(LABEL) } else { width };
-    column.saturating_add(1)
 }
 
 /// How much further what stands below an item is indented.
 fn below(item: &Item, label: usize) -> usize {
-    if item.label.is_empty() || item.label == "change" {
+    if matches!(item.label, Label::Plain | Label::Change) {
         2
     } else {
         label
@@ -94,8 +90,9 @@ fn put_label(text: &mut TextBuilder, item: &Item, indent: usize, label: usize) {
         text.put("\n");
     }
     put_repeated(text, ' ', indent);
-    text.put(item.label);
-    put_repeated(text, ' ', label.saturating_sub(width_of(item.label)))
+    let word = item.label.word();
+    text.put(word);
+    put_repeated(text, ' ', label.saturating_sub(width_of(word)))
 }
 
 /// Puts lines after the text, each after some spaces.

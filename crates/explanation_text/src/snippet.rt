@@ -2,6 +2,7 @@
 
 use crate::correction::Correction;
 use crate::items::{Items, Kind};
+use crate::label::Label;
 use crate::places::{
     Span, begins_character, characters, column_of, end_of_line, line_of, start_of_line,
 };
@@ -81,7 +82,7 @@ pub fn show(
 ) {
     let mut text = TextBuilder::new(items.alloc());
     put_snippet(&mut text, file, bytes, mark, helps);
-    items.push(Kind::Source, depth, "", text);
+    items.push(Kind::Source, depth, Label::Plain, text);
     match Shown::new(items.alloc(), bytes, mark, helps) {
         Ok(shown) => items.keep_shown(shown),
         Err(AllocError) => items.refuse(),

@@ -4,7 +4,7 @@ ghost use Rattle.std.specs.Prelude.{◌≡◌, map, IfOk, IfSome};
 ghost use Rattle.other_outcomes.specs.Exchanged.{IsPromisedExchanged, on_other};
 
 use crate::pending::place_of;
-use explanation_text::{Items, ListBuilder, TextBuilder};
+use explanation_text::{Items, Label, ListBuilder, TextBuilder};
 use script_reading::Call;
 use script_story::{MadeCall, Outcome, Scenario, Story};
 use std::alloc::{AllocError, Global};
@@ -62,7 +62,7 @@ fn add_exchanged(items: &mut Items, story: &Story<'_>, pair: Siblings) {
     words.put(", and the first child that does is chosen; with their names exchanged in calls ");
     words.call(pair.first).put(" and ");
     words.call(pair.second).put(" it would be:");
-    items.say(1, "then", words)
+    items.say(1, Label::Then, words)
 }
 
 /// Tells which child its group chooses then: the later one.
@@ -72,7 +72,7 @@ fn add_choice(items: &mut Items, story: &Story<'_>, pair: Siblings) {
         words.name(story.called(group)).put(": ");
     }
     words.name(story.called(pair.later));
-    items.say(2, "choice", words)
+    items.say(2, Label::Choice, words)
 }
 
 /// The chosen child of each group of a domain that isn't attached, with each later child.

@@ -2,7 +2,7 @@
 //! it.
 
 use crate::otherwise::Otherwise;
-use explanation_text::{Items, TextBuilder};
+use explanation_text::{Items, Label, TextBuilder};
 use script_reading::{Act, Call};
 use script_story::{Scenario, Story};
 use std::alloc::{AllocError, Global};
@@ -26,7 +26,7 @@ pub fn add_released<'a>(
     };
     let mut words = TextBuilder::of(alloc, "with release in the place of close in call ");
     words.call(number).put(" it would be:");
-    items.say(1, "then", words);
+    items.say(1, Label::Then, words);
     let is_chosen = outcome.is_chosen();
     outcome.promise(items, 2);
     Ok(Some(Otherwise {

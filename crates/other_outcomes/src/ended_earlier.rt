@@ -9,7 +9,7 @@ use crate::ended_later::{End, ended_by, ending, put_calls, put_names};
 use crate::moved::{outcome_moved, with_moves};
 use crate::otherwise::Otherwise;
 use domain_reasons::{accepted_before, count_above, gone_before};
-use explanation_text::{Items, TextBuilder};
+use explanation_text::{Items, Label, TextBuilder};
 use script_reading::Call;
 use script_story::{Became, Move, Outcome, Scenario, Story, asked_in};
 use std::alloc::{AllocError, Global};
@@ -156,7 +156,7 @@ fn put_head(items: &mut Items, story: &Story<'_>, ends: &[End], decided: usize, 
     text.put(" after call ").call(decided);
     text.put(if never { ", or left out," } else { "" });
     text.put(" it would be:");
-    items.say(1, "then", text)
+    items.say(1, Label::Then, text)
 }
 
 /// What the domain at a path becomes without the calls that end those.

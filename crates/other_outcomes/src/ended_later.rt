@@ -7,7 +7,7 @@ ghost use Rattle.other_outcomes.specs.Moved.{IsMoved, IsPromisedMoved};
 use crate::moved::step;
 use domain_reasons::{accepted_before, room_needed};
 use explanation_text::wording::{MOST_NAMES, mark_after, put_few};
-use explanation_text::{Items, ListBuilder, TextBuilder};
+use explanation_text::{Items, Label, ListBuilder, TextBuilder};
 use script_reading::{Act, Call};
 use script_story::{Milestone, Outcome, Scenario, Story};
 use std::alloc::{AllocError, Global};
@@ -65,7 +65,7 @@ fn add_ends(
     if ends.is_empty() || add_before(items, scenario, story, ends, decided, path)? {
         return Ok(());
     }
-    items.say(1, "note", still_text(items.alloc(), story, ends));
+    items.say(1, Label::Note, still_text(items.alloc(), story, ends));
     Ok(())
 }
 
@@ -130,7 +130,7 @@ pub(crate) fn ended_by(
 fn put_head(items: &mut Items, story: &Story<'_>, ends: &[End], decided: usize) {
     let mut text = still_text(items.alloc(), story, ends);
     put_tried(&mut text, ends, decided);
-    items.say(1, "then", text)
+    items.say(1, Label::Then, text)
 }
 
 /// Puts that those are to end before the call of a number after a text.

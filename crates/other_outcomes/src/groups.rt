@@ -6,7 +6,7 @@ ghost use Rattle.other_outcomes.specs.Earlier.{IsEarlier, IsPromisedEarlier, in_
 use crate::ended_later::{FARTHEST, carried};
 use crate::otherwise::Otherwise;
 use crate::pending::place_of;
-use explanation_text::{Items, TextBuilder};
+use explanation_text::{Items, Label, TextBuilder};
 use script_reading::Call;
 use script_story::{Outcome, Scenario, Story, story_of};
 use serde_json::Value;
@@ -209,7 +209,7 @@ fn put_head(items: &mut Items, story: &Story<'_>, pair: Groups) {
         .put(", before call ")
         .call(pair.made)
         .put(" it would be:");
-    items.say(1, "then", words)
+    items.say(1, Label::Then, words)
 }
 
 /// Whether other children of two groups are chosen once these calls are made.

@@ -1,7 +1,7 @@
 //! A platform one of whose heaps is contiguous or secure, where participants need that.
 
 use crate::platforms::{heaps_of, outcome_on};
-use explanation_text::{Items, TextBuilder};
+use explanation_text::{Items, Label, TextBuilder};
 use script_story::{Outcome, Scenario};
 use std::alloc::{AllocError, Global};
 use sysmem_memory::Heap;
@@ -82,7 +82,7 @@ fn add_heap(items: &mut Items, heap: &Heap, wanted: Trait) {
     words.put(&heap.heap_type).put("#").put_number(heap.id);
     words.put(" ").put(wanted.name());
     words.put(" on the platform, which doesn't say so, it would be:");
-    items.say(1, "then", words)
+    items.say(1, Label::Then, words)
 }
 
 /// What the domain at a path would be if the heap of an index were so that isn't, if it would be

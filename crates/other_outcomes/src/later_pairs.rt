@@ -1,7 +1,7 @@
 //! A platform that has another pair first, where participants list that before the chosen one.
 
 use crate::platforms::{heaps_of, outcome_on};
-use explanation_text::{Items, ListBuilder, TextBuilder};
+use explanation_text::{Items, Label, ListBuilder, TextBuilder};
 use negotiation_inputs::Platform;
 use script_story::{Outcome, Scenario, Story, asked_in};
 use settings_reasons::{is_taken, listed_before};
@@ -152,7 +152,7 @@ fn add_pair(items: &mut Items, pair: Pair, chosen: Pair) {
     words.modifier(chosen.modifier);
     words.put(" on the platform, whose order decides, not the entries'; ");
     words.put("with it first there it would be:");
-    items.say(1, "then", words)
+    items.say(1, Label::Then, words)
 }
 
 /// What the domain at a path would be if a pair stood first on the platform, if that would be

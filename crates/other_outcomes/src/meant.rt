@@ -1,7 +1,7 @@
 //! What a script has once calls that were refused are made on the nodes that they may mean.
 
 use crate::moved::is_read;
-use explanation_text::{Items, ListBuilder, TextBuilder};
+use explanation_text::{Items, Label, ListBuilder, TextBuilder};
 use script_reading::Act;
 use script_story::{MadeCall, Milestone, Story};
 use serde_json::{Map, Value};
@@ -211,5 +211,5 @@ fn add_meant(items: &mut Items, story: &Story<'_>, meant: &[MeantCall]) {
         words.name(story.called(one.node));
     }
     words.put(" the script has:");
-    items.say(1, "then", words)
+    items.say(1, Label::Then, words)
 }

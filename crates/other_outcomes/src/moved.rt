@@ -5,7 +5,7 @@ ghost use Rattle.script_reading.specs.declared.call.Call.{Call as Called};
 ghost use Rattle.other_outcomes.specs.Moved.{IsMoved, IsPromisedMoved, moving};
 
 use crate::otherwise::{Otherwise, reordered};
-use explanation_text::{Items, ListBuilder, TextBuilder};
+use explanation_text::{Items, Label, ListBuilder, TextBuilder};
 use script_reading::{Call, ParseFault, read_script};
 use script_story::{Became, Move, Outcome, Scenario, Story, moves_in};
 use serde_json::Value;
@@ -45,7 +45,7 @@ fn add_moves(items: &mut Items, moves: &[Move], end: &str) {
     let mut words = TextBuilder::of(items.alloc(), "with ");
     put_moves(&mut words, moves);
     words.put(end);
-    items.say(1, "then", words)
+    items.say(1, Label::Then, words)
 }
 
 /// Puts which calls are moved after a text: `call 5 moved after call 6`.

@@ -3,7 +3,7 @@
 use crate::otherwise::Otherwise;
 use domain_reasons::who_holds_up;
 use explanation_text::wording::{MOST_NAMES, put_few};
-use explanation_text::{Items, Name, TextBuilder};
+use explanation_text::{Items, Label, Name, TextBuilder};
 use script_reading::{Act, Call};
 use script_story::{Became, Scenario, Story};
 use std::alloc::{AllocError, Global};
@@ -65,7 +65,7 @@ fn add_ended(
     let mut words = TextBuilder::of(items.alloc(), "with ");
     put_ended(&mut words, story, awaited)?;
     words.put(end);
-    items.say(1, "then", words);
+    items.say(1, Label::Then, words);
     Ok(())
 }
 

@@ -1,6 +1,6 @@
 //! A platform with one pair more, where participants take a format that it lacks.
 
-use explanation_text::{Items, ListBuilder, TextBuilder};
+use explanation_text::{Items, Label, ListBuilder, TextBuilder};
 use negotiation_inputs::Platform;
 use script_story::{Outcome, Scenario};
 use std::alloc::{AllocError, Global};
@@ -36,7 +36,7 @@ fn add_pair(items: &mut Items, pair: Pair) {
     words.format(pair.format).put(" ");
     words.modifier(pair.modifier);
     words.put(" on the platform it would be:");
-    items.say(1, "then", words)
+    items.say(1, Label::Then, words)
 }
 
 /// What the domain at a path would be on the platform with one pair more, if it would be chosen.

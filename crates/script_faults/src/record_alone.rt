@@ -8,7 +8,7 @@ ghost use Rattle.script_faults.specs.RecordFault.{Spells, TellsRecord, fault_in,
 
 use crate::no_json::{Broken, add_break, is_blank};
 use crate::record::{Document, Whole, add_record_fault};
-use explanation_text::{Items, text_of};
+use explanation_text::{Items, Label, text_of};
 use record_reading::{Code, Fault, read_platform};
 use serde_json::Value;
 use std::alloc::{AllocError, Global};
@@ -167,7 +167,11 @@ fn place_words(
 fn break_words(alloc: Global, bytes: &[u8], file: &str) -> Result<String, AllocError> {
     let mut items = Items::new(alloc);
     if is_blank(bytes) {
-        items.list_text(0, "", "the record is empty, where an object is due");
+        items.list_text(
+            0,
+            Label::Plain,
+            "the record is empty, where an object is due",
+        );
     } else {
         let depth = 0;
         add_break(&mut items, Broken { file, bytes, depth })?;

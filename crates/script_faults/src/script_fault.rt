@@ -5,7 +5,7 @@ use crate::help::Help;
 use crate::keys::SCRIPT;
 use crate::no_json::{Broken, add_break, is_blank};
 use crate::record::{Document, RecordPart, add_record_fault, first_unknown, key_of, wrong_kind};
-use explanation_text::{Item, Items, Kind, Step, TextBuilder, nearest};
+use explanation_text::{Item, Items, Kind, Label, Step, TextBuilder, nearest};
 use script_reading::{LONGEST, ScriptFault};
 use serde_json::Value;
 use std::alloc::{AllocError, Global};
@@ -44,7 +44,7 @@ fn put_answer(items: &mut Items, fault: ScriptFault) {
     };
     match format!(in alloc; "script refused: {fault}{what}") {
         Ok(text) => items.add(Item {
-            label: "",
+            label: Label::Plain,
             text,
             mentions: Vec::new(alloc),
             facts: Vec::new(alloc),
@@ -60,7 +60,7 @@ fn put_answer(items: &mut Items, fault: ScriptFault) {
 fn add_length(items: &mut Items) {
     let mut words = TextBuilder::of(items.alloc(), "the script has more than ");
     words.put_number(LONGEST).put(" bytes; no more are read");
-    items.say(1, "", words)
+    items.say(1, Label::Plain, words)
 }
 
 fn add_calls(items: &mut Items, document: &Document<'_>) {
@@ -70,7 +70,7 @@ fn add_calls(items: &mut Items, document: &Document<'_>) {
     };
     let mut words = TextBuilder::of(items.alloc(), "the script has ");
     words.put_number(count).put(" calls, at most 4096 are made");
-    items.say(1, "", words)
+    items.say(1, Label::Plain, words)
 }
 
 /// Tells where a script stops being JSON.
@@ -78,7 +78,7 @@ pub fn add_no_json(items: &mut Items, file: &str, bytes: &[u8]) -> Result<(), Al
     put_answer(items, ScriptFault::NotJson);
     if is_blank(bytes) {
         let text = "the file is empty: a script is an object with platform and calls";
-        items.list_text(1, "", text);
+        items.list_text(1, Label::Plain, text);
         return Ok(());
     }
     let depth = 1;

@@ -7,7 +7,7 @@ ghost use Rattle.script_replay.specs.Events.{fate_seen, fate_text, pending};
 ghost use Rattle.script_story.specs.Became.{became_by, became_of, chosen_by, chosen_in};
 
 use crate::story::Became;
-use explanation_text::{Choice, Decided, Items};
+use explanation_text::{Choice, Decided, Items, Label};
 use negotiation_inputs::Platform;
 use script_replay::{Decision, DomainFate, put_fate};
 use std::alloc::{AllocError, Global};
@@ -102,7 +102,7 @@ impl Outcome {
         let decided = self.decided(items.alloc());
         let Outcome { said, fate: _ } = self;
         match decided {
-            Ok(decided) => items.decide(depth, "->", said, decided),
+            Ok(decided) => items.decide(depth, Label::Promised, said, decided),
             Err(AllocError) => items.refuse(),
         }
     }
@@ -110,7 +110,7 @@ impl Outcome {
     /// Puts it after a list as what the report says.
     pub fn tell(&self, items: &mut Items, depth: usize) {
         match self.parts(items.alloc()) {
-            Ok((said, decided)) => items.decide(depth, "told", said, decided),
+            Ok((said, decided)) => items.decide(depth, Label::Told, said, decided),
             Err(AllocError) => items.refuse(),
         }
     }

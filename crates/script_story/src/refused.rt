@@ -2,7 +2,7 @@
 
 use crate::story::{Became, MadeCall, Milestone, Story};
 use explanation_text::wording::{MOST_NAMES, mark_after, put_few, put_joined};
-use explanation_text::{Items, ListBuilder, Name, Step, Text, TextBuilder};
+use explanation_text::{Items, Label, ListBuilder, Name, Standing, Step, Text, TextBuilder};
 use record_reading::{Code, Fault, FaultPlace};
 use script_faults::{Document, add_record_fault};
 use script_reading::Act;
@@ -84,7 +84,7 @@ fn add_rows(items: &mut Items, document: &Document<'_>, story: &Story<'_>, rows:
     } else {
         MOST_ROWS
     };
-    items.title("calls to look at");
+    items.title("calls to look at", Standing::Bad);
     for row in rows.iter().take(most) {
         add_refused_calls(items, document, story, row);
     }
@@ -98,7 +98,7 @@ fn add_more(items: &mut Items, more: usize) {
     }
     let mut words = TextBuilder::of(items.alloc(), "and ");
     words.put_number(more).put(" more");
-    items.say(1, "", words)
+    items.say(1, Label::Plain, words)
 }
 
 /// What is told of the calls that were refused, those with one cause together; where their
@@ -210,7 +210,7 @@ fn add_refused_calls(
         return;
     };
     let words = row_text(items.alloc(), story, call, row);
-    items.say(1, "", words);
+    items.say(1, Label::Plain, words);
     let Some(fault) = row.fault else {
         return;
     };

@@ -7,7 +7,7 @@ ghost use Rattle.script_story.specs.Became.{became_word};
 ghost use Rattle.script_story.specs.Paths.{path_at};
 
 use crate::outcome::Outcome;
-use explanation_text::{Name, TextBuilder};
+use explanation_text::{Name, Standing, TextBuilder};
 use negotiation_inputs::Constraints;
 use script_reading::Act;
 use script_replay::{Reply, put_reply_text};
@@ -184,6 +184,15 @@ impl Became {
             Became::TooMany => "too_many",
             Became::NoMemory => "no_memory",
             Became::Failed => "failed",
+        }
+    }
+
+    /// How what is told of such a domain stands with a decision.
+    pub fn standing(self) -> Standing {
+        match self {
+            Became::Chosen => Standing::Chosen,
+            Became::Pending => Standing::Open,
+            Became::Empty | Became::TooMany | Became::NoMemory | Became::Failed => Standing::Bad,
         }
     }
 }

@@ -6,7 +6,7 @@ use crate::offering::{are_refused, offers_of};
 use crate::placing::{place_name, places_of};
 use crate::refusing::{add_no_image, add_offers, place_rows};
 use crate::rows::add_rows;
-use explanation_text::{Items, TextBuilder};
+use explanation_text::{Fact, Items, Label, Said, TextBuilder};
 use negotiation_inputs::Platform;
 use std::alloc::{AllocError, Global};
 use sysmem_counts::Field;
@@ -30,7 +30,7 @@ pub fn add_settings(
     };
     add_sides(items, wishes)?;
     let size = wishes.size(items.alloc(), false);
-    add_derived(items, "size", size);
+    add_derived(items, Label::Size, size);
     note_size(items, wishes)
 }
 
@@ -42,12 +42,15 @@ fn add_count(items: &mut Items, participants: &[NamedParticipant<'_>], settings:
         ": "
     };
     let mut words = TextBuilder::new(items.alloc());
-    words.put_number(settings.count).put(mark).put_words(&why);
-    items.say(1, "count", words)
+    words
+        .value(u128::from(settings.count))
+        .put(mark)
+        .put_words(&why);
+    items.say(1, Label::Count, words)
 }
 
 /// Tells a number, and where it comes from; refuses the items where memory was refused to that.
-fn add_derived(items: &mut Items, label: &'static str, derived: Result<DerivedNumber, AllocError>) {
+fn add_derived(items: &mut Items, label: Label, derived: Result<DerivedNumber, AllocError>) {
     match derived {
         Ok(derived) => add_number(items, label, &derived),
         Err(AllocError) => items.refuse(),
@@ -55,12 +58,9 @@ fn add_derived(items: &mut Items, label: &'static str, derived: Result<DerivedNu
 }
 
 /// Tells a number, and where it comes from.
-fn add_number(items: &mut Items, label: &'static str, derived: &DerivedNumber) {
+fn add_number(items: &mut Items, label: Label, derived: &DerivedNumber) {
     let mut words = TextBuilder::new(items.alloc());
-    words
-        .put_number(derived.value)
-        .put(": ")
-        .put_text(&derived.why);
+    words.value(derived.value).put(": ").put_text(&derived.why);
     items.say(1, label, words)
 }
 
@@ -89,7 +89,7 @@ fn note_side(items: &mut Items, wishes: Wishes<'_, '_>, side: Side) -> Result<()
         .put(" that are asked for: is the ")
         .field(Field::SizeAlignment)
         .put(" meant?");
-    items.say(1, "note", words);
+    items.say(1, Label::Note, words);
     Ok(())
 }
 
@@ -107,7 +107,7 @@ fn note_row(items: &mut Items, wishes: Wishes<'_, '_>) -> Result<(), AllocError>
     words
         .put_number(packed)
         .put(" of its pixels: are the row's fields meant?");
-    items.say(1, "note", words);
+    items.say(1, Label::Note, words);
     Ok(())
 }
 
@@ -119,7 +119,7 @@ fn add_chosen_place(
     settings: &Settings,
 ) -> Result<(), AllocError> {
     let alloc = items.alloc();
-    items.say(1, "place", place_name(alloc, platform, settings.place));
+    items.say(1, Label::Place, place_name(alloc, platform, settings.place));
     let places = places_of(alloc, platform)?;
     let earlier = before(&places, &settings.place);
     let rows = place_rows(alloc, platform, earlier, participants, false)?;
@@ -139,7 +139,7 @@ fn add_offer(
         Offer::NoImage => TextBuilder::of(alloc, "none"),
         offer => offer_name(alloc, &offer),
     };
-    items.say(1, "image", name);
+    items.say(1, Label::Image, name);
     let offers = offers_of(alloc, platform)?;
     let earlier = before(&offers, &settings.offer);
     let images = add_image(items, participants, earlier)?;
@@ -236,7 +236,7 @@ fn add_sides(items: &mut Items, wishes: Wishes<'_, '_>) -> Result<(), AllocError
     let alloc = items.alloc();
     let width = wishes.side(alloc, Side::Width)?;
     add_width(items, &width, &wishes.side(alloc, Side::Height)?);
-    add_derived(items, "row", wishes.row(alloc, false));
+    add_derived(items, Label::Row, wishes.row(alloc, false));
     Ok(())
 }
 
@@ -248,9 +248,17 @@ fn add_width(items: &mut Items, width: &DerivedNumber, height: &DerivedNumber) {
             .put_number(width.value)
             .put("x")
             .put_number(height.value);
+        tell_sides(&mut words, width.value, height.value);
         words.put(": ").put_text(&width.why);
-        return items.say(1, "pixels", words);
+        return items.say(1, Label::Pixels, words);
     }
-    add_number(items, "width", width);
-    add_number(items, "height", height)
+    add_number(items, Label::Width, width);
+    add_number(items, Label::Height, height)
+}
+
+/// Keeps the sides that a text tells.
+fn tell_sides(text: &mut TextBuilder, width: u128, height: u128) {
+    if let (Ok(width), Ok(height)) = (u64::try_from(width), u64::try_from(height)) {
+        text.tell(Fact::Value(Said::Sides(width, height)));
+    }
 }

@@ -5,7 +5,7 @@ ghost use Rattle.std.specs.Prelude.{Contains, IfSome, option_copied};
 use crate::amounts::put_amount;
 use crate::clash::Clash;
 use crate::offer_words::pair_name;
-use explanation_text::{Items, TextBuilder};
+use explanation_text::{Items, Label, TextBuilder};
 use sysmem_counts::Field;
 use sysmem_image::Entry;
 use value_sources::NamedParticipant;
@@ -77,7 +77,7 @@ fn add_clash(items: &mut Items, depth: usize, clash: &Clash<'_>) {
     if let Some(entry) = clash.entry() {
         put_entry(&mut text, entry);
     }
-    items.say(depth, "", text)
+    items.say(depth, Label::Plain, text)
 }
 
 /// Puts in which entry it is after a text.

@@ -15,7 +15,7 @@ use crate::refusing::{offer_rows, place_rows};
 use crate::rows::{add_rows, nearest};
 use crate::unmet::InTheWay;
 use explanation_text::wording::MOST_NAMES;
-use explanation_text::{Items, TextBuilder};
+use explanation_text::{Items, Label, TextBuilder};
 use negotiation_inputs::Platform;
 use std::alloc::{AllocError, Global};
 use sysmem_counts::Field;
@@ -45,7 +45,7 @@ pub fn add_conflict(
 fn add_counts(items: &mut Items, depth: usize, participants: &[NamedParticipant<'_>]) {
     for field in COUNTS {
         if let Some(reason) = CountReason::of(field, participants) {
-            items.say(depth, "count", reason.text(items.alloc()));
+            items.say(depth, Label::Count, reason.text(items.alloc()));
         }
     }
 }
@@ -73,7 +73,7 @@ fn add_place_rows(
 ) -> Result<(), AllocError> {
     let alloc = items.alloc();
     let places = places_of(alloc, platform)?;
-    items.say(depth, "place", none_of(alloc, "place", places.len()));
+    items.say(depth, Label::Place, none_of(alloc, "place", places.len()));
     let rows = place_rows(alloc, platform, &places, participants, true)?;
     let below = depth.saturating_add(1);
     add_rows(
@@ -113,7 +113,7 @@ fn add_offer_rows(
     whole: bool,
 ) -> Result<(), AllocError> {
     let alloc = items.alloc();
-    items.say(depth, "image", none_of(alloc, "offer", offers.len()));
+    items.say(depth, Label::Image, none_of(alloc, "offer", offers.len()));
     let colours = platform.colours().len();
     let rows = offer_rows(alloc, offers, participants, whole, true, colours)?;
     let far = nearest(&rows).saturating_add(1);
@@ -221,7 +221,7 @@ fn add_in_the_way(
     let kept = unmet.participants();
     let others = participants.len().saturating_sub(kept.len());
     let text = unmet_text(alloc, "in the way", &unmet, others);
-    items.say(depth, "", text);
+    items.say(depth, Label::Plain, text);
     add_others_in_the_way(items, depth, platform, participants, kept)
 }
 
@@ -290,7 +290,7 @@ fn add_next<'a, 'b>(
     match without_one(alloc, platform, participants, some)? {
         Some(others) if others.unmet.participants().len() <= MOST_NAMES => {
             let text = unmet_text(alloc, "also in the way", &others.unmet, 0);
-            items.say(depth, "", text);
+            items.say(depth, Label::Plain, text);
             Ok(Some(others))
         }
         _ => Ok(None),

@@ -13,7 +13,7 @@ use crate::offering::{are_refused, offers_of};
 use crate::place_reason::PlaceReason;
 use crate::placing::{put_place, put_place_reason};
 use crate::refusing::add_offers;
-use explanation_text::{Items, ListBuilder, TextBuilder};
+use explanation_text::{Items, Label, ListBuilder, TextBuilder};
 use negotiation_inputs::{Constraints, Platform};
 use std::alloc::{AllocError, Global};
 use sysmem_counts::Field;
@@ -55,10 +55,10 @@ pub fn list_misfits(
     if items.len() == start {
         let mut words = TextBuilder::new(items.alloc());
         words
-            .put_number(settings.count)
+            .value(u128::from(settings.count))
             .put(" buffers were decided: too few for these");
         words.put(" beside all who came before, or more than one of these takes");
-        items.say(1, "count", words);
+        items.say(1, Label::Count, words);
     }
     Ok(())
 }
@@ -75,7 +75,7 @@ fn add_misfit(
             continue;
         };
         let text = misfit_text(items.alloc(), &misfit);
-        items.say(1, "misfit", text);
+        items.say(1, Label::Misfit, text);
         if matches!(field, Field::PixelFormat | Field::ColorSpaces) {
             add_refused_images(items, platform, participant, before)?;
         }
@@ -119,7 +119,7 @@ fn add_refused_images(
 fn add_unrefused(items: &mut Items, offer: &Offer) {
     let mut words = offer_name(items.alloc(), offer);
     words.put(" is refused by nobody before: the platform has what was decided before it");
-    items.say(2, "", words)
+    items.say(2, Label::Plain, words)
 }
 
 /// The images of a platform that a participant takes.

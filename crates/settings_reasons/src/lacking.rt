@@ -3,7 +3,7 @@
 use crate::listed::is_taken;
 use crate::offer_words::pair_name;
 use crate::rows::{FailureRow, add, add_rows};
-use explanation_text::{Items, Text, TextBuilder};
+use explanation_text::{Items, Label, Text, TextBuilder};
 use negotiation_inputs::Platform;
 use std::alloc::AllocError;
 use sysmem_image::{ColourSet, Entry};
@@ -149,7 +149,7 @@ fn add_lacked_rows(
         return Ok(());
     }
     let alloc = items.alloc();
-    items.list_text(depth, "lacks", "the platform doesn't have these:");
+    items.list_text(depth, Label::Lacks, "the platform doesn't have these:");
     let mut rows: Vec<FailureRow> = Vec::new(alloc);
     for named in lacked {
         let far = participants.saturating_sub(named.participants.len());

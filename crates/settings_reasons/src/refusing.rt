@@ -6,7 +6,7 @@ use crate::offering::distance_of;
 use crate::place_reason::{PlaceReason, place_reasons};
 use crate::placing::{put_heap_place, put_place_reason};
 use crate::rows::{FailureRow, add, add_rows};
-use explanation_text::{Items, ListBuilder, Text, TextBuilder};
+use explanation_text::{Items, Label, ListBuilder, Text, TextBuilder};
 use negotiation_inputs::Platform;
 use std::alloc::{AllocError, Global};
 use std::mem;
@@ -128,7 +128,7 @@ pub(crate) fn add_no_image(
     for reason in &refused.texts {
         words.put(": ").put_text(reason);
     }
-    items.say(2, "", words);
+    items.say(2, Label::Plain, words);
     Ok(())
 }
 

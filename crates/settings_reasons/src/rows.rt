@@ -1,7 +1,7 @@
 //! Rows of what fails for the same reasons.
 
 use explanation_text::wording::put_few;
-use explanation_text::{Items, Text, TextBuilder};
+use explanation_text::{Items, Label, Text, TextBuilder};
 use std::alloc::{AllocError, Global};
 use value_sources::{NamedParticipant, put_has};
 
@@ -126,7 +126,7 @@ fn add_others(items: &mut Items, depth: usize, before: &str, others: usize, what
         .put_number(others)
         .put(" ")
         .put(what);
-    items.say(depth, "", words)
+    items.say(depth, Label::Plain, words)
 }
 
 /// The distance of the nearest row.
@@ -148,13 +148,17 @@ fn farthest(rows: &[FailureRow]) -> usize {
 
 fn add_row(items: &mut Items, depth: usize, before: &str, row: &FailureRow) {
     let head = head_of(items.alloc(), before, row);
-    items.say(depth, "", head);
+    items.say(depth, Label::Plain, head);
     if row.reasons.len() <= 1 {
         return;
     }
     let below = depth.saturating_add(1);
     for reason in &row.reasons {
-        items.say(below, "", TextBuilder::of_text(items.alloc(), reason));
+        items.say(
+            below,
+            Label::Plain,
+            TextBuilder::of_text(items.alloc(), reason),
+        );
     }
 }
 

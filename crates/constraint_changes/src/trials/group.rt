@@ -3,7 +3,7 @@
 use crate::trials::changed_lines::{changed_lines, entry_lines};
 use constraint_edits::Edit;
 use explanation_text::wording::put_few;
-use explanation_text::{ListBuilder, Step, Text, TextBuilder, line_of};
+use explanation_text::{Fact, ListBuilder, Step, Text, TextBuilder, line_of};
 use script_faults::{Document, RecordPart};
 use script_story::{Milestone, Scenario, Story};
 use serde_json::Value;
@@ -104,6 +104,9 @@ impl Group<'_, '_> {
         let mut words = TextBuilder::of_name(alloc, participant.called());
         words.put(" (call ").call(number);
         put_lines(&mut words, &lines);
+        if !lines.is_empty() {
+            words.tell(Fact::Lined(number));
+        }
         words.put(")");
         words.into_text()
     }

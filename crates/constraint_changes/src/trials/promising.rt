@@ -8,7 +8,7 @@ use crate::trials::editing::EditedCall;
 use crate::trials::exchanging::Exchange;
 use crate::trials::group::Group;
 use crate::trials::restating::RestatedConstraints;
-use explanation_text::{Item, Items, Kind, Text};
+use explanation_text::{Item, Items, Kind, Label, Text};
 use script_story::Outcome;
 use std::alloc::{AllocError, Global};
 
@@ -69,6 +69,6 @@ pub fn put_exchanged(
 /// Puts which children a decision chooses, if it chooses some.
 pub fn put_choice(items: &mut Items, depth: usize, choice: Text) {
     if !choice.is_empty() {
-        items.add(Item::new(Kind::Words, depth, "choice", choice));
+        items.add(Item::new(Kind::Words, depth, Label::Choice, choice));
     }
 }

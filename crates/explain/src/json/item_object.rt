@@ -1,19 +1,15 @@
 //! The object of an item.
 
-use crate::json::changes::{is_change, put_change};
+use crate::json::changes::put_change;
 use crate::json::mentions::mentions_in;
 use crate::json::object::Object;
 use crate::json::places::{place_of_call, put_source};
 use crate::json::scene::Scene;
-use crate::json::values::{count_value, measure};
-use explanation_text::{Item, Kind, ListBuilder, Thing};
+use crate::json::values::{count_value, said_value};
+use explanation_text::{Fact, Item, Kind, Label, ListBuilder};
 use serde_json::Value;
 use std::alloc::{AllocError, Global};
-
-/// The labels of texts that begin with a number or a size, unless with the name of a node.
-const MEASURED: [&str; 7] = [
-    "awaits", "count", "height", "pixels", "row", "size", "width",
-];
+use sysmem_counts::Field;
 
 /// Puts what an item says beside its text into an object.
 pub(crate) fn put_item(
@@ -44,7 +40,7 @@ pub(crate) fn put_item(
 pub(crate) fn put_form(object: &mut Object, item: &Item) -> Result<(), AllocError> {
     object.put("depth", count_value(item.depth))?;
     object.say("kind", kind_of(item))?;
-    object.say("label", item.label)
+    object.say("label", item.label.word())
 }
 
 /// What kind of item it is, in a word.
@@ -52,7 +48,7 @@ fn kind_of(item: &Item) -> &'static str {
     match item.kind {
         Kind::Answer => "answer",
         Kind::Title => "title",
-        Kind::Words if is_change(item.label) => "change",
+        Kind::Words if item.label.is_change() => "change",
         Kind::Words => "words",
         Kind::Source => "source",
         Kind::Decision => "decision",
@@ -73,58 +69,47 @@ fn put_words(object: &mut Object, scene: &Scene<'_, '_>, item: &Item) -> Result<
     }
 }
 
-/// Puts what an item of its label tells in a form of its own.
+/// Puts what an item tells as values into an object.
 fn put_told(object: &mut Object, item: &Item) -> Result<(), AllocError> {
     let alloc = object.alloc();
-    let text = item.text.as_str();
-    if is_change(item.label) {
-        return put_change(object, text);
+    if item.label.is_change() {
+        return put_change(object, item);
     }
-    if item.label == "lines" {
-        return object.list("lines", lines_in(alloc, text)?);
+    if item.label == Label::Lines {
+        return object.list("lines", lines_in(alloc, item)?);
     }
-    let (word, _) = text.split_once(' ').unwrap_or((text, ""));
-    if !MEASURED.contains(&item.label) || begins_with_name(item) {
-        return Ok(());
+    for fact in &item.facts {
+        if let Fact::Value(said) = fact {
+            let value = said_value(alloc, &item.text, *said)?;
+            object.put("value", value)?;
+        }
     }
-    match measure(alloc, word.trim_end_matches(':'))? {
-        Some(value) => object.put("value", value),
-        None => Ok(()),
-    }
+    Ok(())
 }
 
-/// Whether the first word is the name of a node, which may be a number.
-fn begins_with_name(item: &Item) -> bool {
-    match item.mentions.first() {
-        Some(first) => first.at == 0 && matches!(first.thing, Thing::Node(_)),
-        None => false,
-    }
-}
-
-/// The lines of fields: `camera: min_size in line 17, max_size in line 18 (entry 2)`.
-fn lines_in(alloc: Global, text: &str) -> Result<Vec<Value>, AllocError> {
-    let Some((_, told)) = text.split_once(": ") else {
-        return Ok(Vec::new(alloc));
-    };
+/// The lines of fields.
+fn lines_in(alloc: Global, item: &Item) -> Result<Vec<Value>, AllocError> {
     let mut lines = ListBuilder::new(alloc);
-    for part in told.split(", ") {
-        if let Some((field, place)) = part.split_once(" in line ") {
-            lines.add(line_value(alloc, field, place)?);
+    for fact in &item.facts {
+        if let Fact::Stated(field, line, entry) = fact {
+            lines.add(line_value(alloc, *field, *line, *entry)?);
         }
     }
     lines.done()
 }
 
 /// A field with its line and the entry that states it, if that isn't the first.
-fn line_value(alloc: Global, field: &str, place: &str) -> Result<Value, AllocError> {
+fn line_value(
+    alloc: Global,
+    field: Field,
+    line: usize,
+    entry: Option<usize>,
+) -> Result<Value, AllocError> {
     let mut object = Object::new(alloc);
-    let (line, entry) = place.split_once(" (entry ").unwrap_or((place, ""));
-    if let Ok(entry) = entry.trim_end_matches(')').parse::<usize>() {
+    if let Some(entry) = entry {
         object.put("entry", count_value(entry))?;
     }
-    object.say("field", field)?;
-    if let Ok(line) = line.parse::<usize>() {
-        object.put("line", count_value(line))?;
-    }
+    object.say("field", field.name())?;
+    object.put("line", count_value(line))?;
     Ok(object.into_value())
 }

@@ -4,11 +4,11 @@ ghost use Rattle.std.specs.Prelude.{IfOk};
 ghost use Rattle.std.specs.String.{string_bytes};
 ghost use Rattle.explain.specs.Lines.{IsLineOf};
 
-use crate::json::changes::{change_value, is_change};
+use crate::json::changes::change_value;
 use crate::json::item_object::{put_form, put_item};
 use crate::json::object::Object;
 use crate::json::scene::Scene;
-use explanation_text::{Choice, Decided, Item, Kind, Thing};
+use explanation_text::{Choice, Decided, Item, Kind, Label, Thing};
 use report_json::{Choice as ReportedChoice, Root, chosen_object, word_object};
 use serde_json::Value;
 use std::alloc::{AllocError, Global};
@@ -74,7 +74,7 @@ impl<'a, 'b> Telling<'a, 'b> {
         match self.then {
             Some(depth) if item.depth > depth => true,
             _ => {
-                self.then = if item.label == "then" {
+                self.then = if item.label == Label::Then {
                     Some(item.depth)
                 } else {
                     None
@@ -121,10 +121,10 @@ impl<'a, 'b> Telling<'a, 'b> {
 
     /// Keeps a change until its decision comes; with those before it, if they are made together.
     fn keep(&mut self, item: &Item) -> Result<(), AllocError> {
-        if item.label != "and" {
+        if item.label != Label::And {
             self.changes.clear();
         }
-        if !is_change(item.label) {
+        if !item.label.is_change() {
             return Ok(());
         }
         let value = change_value(*item.text.allocator(), &self.scene, item)?;

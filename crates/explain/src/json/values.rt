@@ -1,7 +1,7 @@
-//! Values of JSON for what words say.
+//! Values of JSON for what texts say.
 
 use crate::json::object::Object;
-use explanation_text::TextBuilder;
+use explanation_text::{Said, TextBuilder};
 use serde_json::Value;
 use std::alloc::{AllocError, Global};
 
@@ -23,32 +23,19 @@ pub(crate) fn count_value(count: usize) -> Value {
     Value::from(count)
 }
 
-/// The value that words spell: a number, width and height as `1920x1080`, true or false; else a
-/// text.
-pub(crate) fn spelled(alloc: Global, words: &str) -> Result<Value, AllocError> {
-    if let Some(value) = measure(alloc, words)? {
-        return Ok(value);
-    }
-    match words {
-        "true" => Ok(Value::Bool(true)),
-        "false" => Ok(Value::Bool(false)),
-        _ => Value::try_from_str(alloc, words),
+/// A value that a text says: a number, an object with width and height, true or false, or a text.
+pub(crate) fn said_value(alloc: Global, text: &str, said: Said) -> Result<Value, AllocError> {
+    match said {
+        Said::Number(number) => number_value(alloc, number),
+        Said::Sides(width, height) => sides_value(alloc, width, height),
+        Said::Flag(is_set) => Ok(Value::Bool(is_set)),
+        Said::Words(span) => Value::try_from_str(alloc, span.text_in(text)),
     }
 }
 
-/// The number or the sides that a word spells, if it does.
-pub(crate) fn measure(alloc: Global, word: &str) -> Result<Option<Value>, AllocError> {
-    if let Ok(number) = word.parse::<u64>() {
-        return Ok(Some(number_value(alloc, number)?));
-    }
-    let Some((width, height)) = word.split_once('x') else {
-        return Ok(None);
-    };
-    let (Ok(width), Ok(height)) = (width.parse::<u64>(), height.parse::<u64>()) else {
-        return Ok(None);
-    };
+fn sides_value(alloc: Global, width: u64, height: u64) -> Result<Value, AllocError> {
     let mut sides = Object::new(alloc);
     sides.put("height", number_value(alloc, height)?)?;
     sides.put("width", number_value(alloc, width)?)?;
-    Ok(Some(sides.into_value()))
+    Ok(sides.into_value())
 }

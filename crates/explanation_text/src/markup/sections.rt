@@ -1,6 +1,9 @@
 //! The items as sections of the page: lists of terms where they have labels, else plain lists.
 
+use crate::facts::Fact;
 use crate::items::{Item, Kind};
+use crate::label::Label;
+use crate::markup::Standing;
 use crate::markup::page::Page;
 use std::alloc::Global;
 
@@ -18,7 +21,7 @@ enum List {
 struct Open {
     depth: usize,
     list: List,
-    label: &'static str,
+    label: Label,
 }
 
 /// The sections of a page, so far.
@@ -48,17 +51,18 @@ impl Sections<'_> {
     fn put_item(&mut self, item: &Item) {
         match item.kind {
             Kind::Answer => {}
-            Kind::Title => self.put_title(&item.text),
+            Kind::Title => self.put_title(item),
             Kind::Source => self.put_source(item),
-            Kind::Decision if item.label == "->" => self.put_promise(item),
+            Kind::Decision if item.label == Label::Promised => self.put_promise(item),
             Kind::Words | Kind::Decision => self.put_entry(item),
         }
     }
 
     /// A new article: of a domain below the heading of all decisions, else below its own.
-    fn put_title(&mut self, title: &str) {
+    fn put_title(&mut self, item: &Item) {
+        let title = item.text.as_str();
         self.close_article();
-        let is_domain = title.starts_with("domain ");
+        let is_domain = is_of_domain(item);
         if is_domain && !self.is_in_decisions {
             self.page.put("<h2>Decisions</h2>\n");
             self.is_in_decisions = true;
@@ -66,7 +70,7 @@ impl Sections<'_> {
         if !is_domain {
             self.page.add_in("<h2>", title, "</h2>\n");
         }
-        self.page.put(article_of(title));
+        self.page.put(article_of(item));
         self.is_in_article = true;
         if is_domain {
             self.page.add_in("<h3>", title, "</h3>\n");
@@ -152,7 +156,7 @@ impl Sections<'_> {
     }
 
     /// Closes an entry, and begins the next of its list.
-    fn begin_next(&mut self, last: Open, label: &'static str) {
+    fn begin_next(&mut self, last: Open, label: Label) {
         if last.list != List::Terms {
             return self.page.put("</li>\n<li>");
         }
@@ -184,32 +188,48 @@ impl Sections<'_> {
         }
     }
 
-    fn put_term(&mut self, label: &'static str) {
-        self.page.add_in("<dt>", label, "</dt>\n")
+    fn put_term(&mut self, label: Label) {
+        self.page.add_in("<dt>", label.word(), "</dt>\n")
     }
 }
 
 /// Whether an item is told of the term before it.
 fn joins(list: List, item: &Item) -> bool {
-    list == List::Terms && item.label.is_empty() && !item.text.ends_with(':')
+    list == List::Terms && item.label == Label::Plain && !item.text.ends_with(':')
 }
 
 /// The kind of list in which an item with this label stands.
-fn list_of(label: &str) -> List {
-    match label.as_bytes().first() {
-        None => List::Plain,
-        Some(first) if first.is_ascii_digit() => List::Numbered,
-        Some(_) => List::Terms,
+fn list_of(label: Label) -> List {
+    match label {
+        Label::Plain => List::Plain,
+        Label::Alone(_) => List::Numbered,
+        _ => List::Terms,
     }
 }
 
+/// Whether a title is of a domain's section.
+fn is_of_domain(title: &Item) -> bool {
+    title
+        .facts
+        .iter()
+        .any(|fact| matches!(fact, Fact::Domain(_)))
+}
+
+/// How what stands below a title stands with a decision.
+fn standing_of(title: &Item) -> Standing {
+    for fact in &title.facts {
+        if let Fact::Domain(standing) | Fact::Section(standing) = fact {
+            return *standing;
+        }
+    }
+    Standing::Plain
+}
+
 /// The opening of an article, by its title.
-fn article_of(title: &str) -> &'static str {
-    if title.contains("): chosen") {
-        "<article class=\"chosen\">\n"
-    } else if title.starts_with("note") || title.contains("): pending") {
-        "<article class=\"open\">\n"
-    } else {
-        "<article class=\"bad\">\n"
+fn article_of(title: &Item) -> &'static str {
+    match standing_of(title) {
+        Standing::Chosen => "<article class=\"chosen\">\n",
+        Standing::Open => "<article class=\"open\">\n",
+        Standing::Plain | Standing::Bad => "<article class=\"bad\">\n",
     }
 }

@@ -15,6 +15,11 @@ impl Span {
     pub fn within<'a>(&self, bytes: &'a [u8]) -> &'a [u8] {
         bytes.get(self.start..self.end).unwrap_or(&[])
     }
+
+    /// Its text; empty where it isn't a part of this one.
+    pub fn text_in<'a>(&self, text: &'a str) -> &'a str {
+        text.get(self.start..self.end).unwrap_or("")
+    }
 }
 
 /// A step from a value to a value in it.

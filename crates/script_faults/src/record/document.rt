@@ -8,7 +8,8 @@ ghost use Rattle.script_faults.specs.declared.record.document.RecordPart.TheVari
 use crate::help::Help;
 use crate::record::paths::put_path;
 use explanation_text::{
-    Correction, Items, Mark, Meant, Span, Step, TextBuilder, key_span_of, show, span_of, value_at,
+    Correction, Items, Label, Mark, Meant, Span, Step, TextBuilder, key_span_of, show, span_of,
+    value_at,
 };
 use serde_json::Value;
 use std::alloc::{AllocError, Global};
@@ -29,7 +30,7 @@ fn pointed(span: Span, part: RecordPart) -> Span {
 fn add_unplaced(items: &mut Items, depth: usize, path: &str, note: &str) {
     let mut words = TextBuilder::of(items.alloc(), ": ");
     words.put(path).put(": ").put(note);
-    items.say(depth, "", words)
+    items.say(depth, Label::Plain, words)
 }
 
 /// `calls[4].constraints`, or `the script`.

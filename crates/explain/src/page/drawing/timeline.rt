@@ -75,11 +75,7 @@ fn line_of(alloc: Global, story: &Story<'_>, domain: &Domain) -> Result<Line, Al
         number: None,
         actor: 0,
         words: words.done()?,
-        standing: match domain.became {
-            Became::Chosen => Standing::Chosen,
-            Became::Pending => Standing::Open,
-            _ => Standing::Bad,
-        },
+        standing: domain.became.standing(),
     })
 }
 
