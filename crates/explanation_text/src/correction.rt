@@ -18,8 +18,27 @@ pub enum Meant {
     Flag(Field, bool),
     /// A list of what stands there.
     List,
-    /// Nothing: a member or an item stands there that may be left out.
+    /// The same in double quotes.
+    Quotes,
+    /// This text of JSON, in the place of what stands there, if something does.
+    Written(String),
+    /// The member stands in other objects.
+    Moved(Moved),
+    /// Nothing: a member or an item stands there that may be left out, with a comma beside it.
     Nothing,
+    /// Nothing: just what stands there may be left out.
+    Blank,
+}
+
+/// Where a member belongs.
+#[derive(Drop)]
+pub struct Moved {
+    /// The object, in words.
+    pub into: &'static str,
+    /// The key of an object around it, which isn't there yet.
+    pub key: Option<&'static str>,
+    /// Behind which brackets it comes first: the byte after each.
+    pub places: Vec<usize>,
 }
 
 /// A part of a text, and what may be meant by it.

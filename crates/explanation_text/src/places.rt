@@ -5,6 +5,7 @@ mod helping;
 mod keys;
 mod lines;
 mod machine;
+mod mending;
 mod path;
 mod repeats;
 mod skipping;

@@ -1,7 +1,9 @@
 //! Where a text that is no JSON can't be continued to some.
 
+use crate::correction::Correction;
 use crate::places::helping::help_of;
 use crate::places::machine::Machine;
+use crate::places::mending::mend_of;
 use crate::places::taken::{Expected, Halt};
 use serde_json::Value;
 use std::alloc::{AllocError, Global};
@@ -14,6 +16,8 @@ pub struct JsonStop {
     pub expected: Expected,
     /// What may help, in words; empty where nothing is known.
     pub help: String,
+    /// What may be meant, where that is known.
+    pub meant: Option<Correction>,
 }
 
 /// The first byte from which on the text is no beginning of JSON, or its end where it is one that
@@ -24,6 +28,12 @@ pub fn stop_of(alloc: Global, bytes: &[u8]) -> Result<Option<JsonStop>, AllocErr
         Some((at, expected)) => stopped(alloc, &machine, bytes, at, expected),
         None => Ok(None),
     }
+}
+
+/// Whether a text is JSON.
+pub(crate) fn is_json(alloc: Global, bytes: &[u8]) -> Result<bool, AllocError> {
+    let mut machine = Machine::new(alloc);
+    Ok(end_of_json(alloc, &mut machine, bytes)?.is_none())
 }
 
 /// Where the text stops being the beginning of JSON, and what the grammar allows there.
@@ -61,7 +71,13 @@ fn stopped(
     expected: Expected,
 ) -> Result<Option<JsonStop>, AllocError> {
     let help = help_of(alloc, machine, bytes, at, expected)?;
-    Ok(Some(JsonStop { at, expected, help }))
+    let meant = mend_of(alloc, machine, bytes, at, expected)?;
+    Ok(Some(JsonStop {
+        at,
+        expected,
+        help,
+        meant,
+    }))
 }
 
 /// Whether the number that ends before a place is none that can be read.
