@@ -1,16 +1,20 @@
 //! What a script means once each part of it is corrected of which it is known what may be meant; and
-//! once its calls are moved that stand too early.
+//! once its calls are made otherwise that were refused.
+
+ghost use Rattle.std.specs.Prelude.{◌≡◌};
 
 use crate::helping::{LEVELS, add_help_then};
-use crate::mended::{mended, put_corrections};
+use crate::mended::mended;
+use crate::mended_words::put_corrections;
 use crate::not_chosen::add_not_chosen;
 use constraint_changes::put_choice;
-use domain_reasons::{add_in_short, add_shortly, choices_in};
+use domain_reasons::{add_in_short, add_shortly, answer_of, choices_in};
 use explanation_text::{Correction, Item, Items, Kind, Label, TextBuilder};
 use other_outcomes::{list_meant, list_moved};
 use script_faults::{Document, add_fault};
 use script_reading::{ParseFault, Script, ScriptFault, parse_script, read_script};
-use script_story::{Became, Effort, Scenario, Story, story_of};
+use script_story::{Became, Effort, Scenario, Story, list_refused, story_of};
+use serde_json::Value;
 use std::alloc::{AllocError, Global};
 
 /// What may be meant where faults are shown; nothing where of one of them that isn't known.
@@ -46,50 +50,58 @@ pub(crate) fn corrected(
     now: &str,
 ) -> Result<Items, AllocError> {
     let mut items = Items::new(alloc);
-    let corrections = corrections_in(alloc, shown)?;
-    add_corrected(&mut items, document, &corrections, effort, now)?;
+    let _is_told = add_corrected(&mut items, document, shown, effort, Some(now), LEVELS)?;
     Ok(items)
 }
 
-/// Tells what the script has once these are corrected.
+/// Tells the same; whether something is told. The story goes on so often at most.
+#[cycle(add_answer)]
 fn add_corrected(
     items: &mut Items,
     document: &Document<'_>,
-    corrections: &[&Correction],
+    shown: &[Item],
     effort: Option<&Effort>,
-    now: &str,
-) -> Result<(), AllocError> {
-    if corrections.is_empty() {
-        return Ok(());
-    }
-    match mended(items.alloc(), document, corrections)? {
-        Some(bytes) => add_bytes(items, document, corrections, &bytes, effort, now),
-        None => Ok(()),
-    }
+    now: Option<&str>,
+    levels: usize,
+) -> Result<bool, AllocError> {
+    let Some(levels) = levels.checked_sub(1) else {
+        return Ok(false);
+    };
+    let Some((bytes, value)) = meant_in(items, document, shown)? else {
+        return Ok(false);
+    };
+    let other = Document {
+        file: document.file,
+        bytes: &bytes,
+        value: &value,
+        whole: document.whole,
+    };
+    add_answer(items, &other, effort, now, levels)?;
+    Ok(true)
 }
 
-/// Tells what the script has with these bytes, in which some are corrected.
-fn add_bytes(
+/// The script in which what may be meant stands where faults are shown, and what it spells, if of
+/// each of them that is known; tells what is corrected.
+fn meant_in(
     items: &mut Items,
     document: &Document<'_>,
-    corrections: &[&Correction],
-    bytes: &[u8],
-    effort: Option<&Effort>,
-    now: &str,
-) -> Result<(), AllocError> {
-    match parse_script(items.alloc(), bytes) {
+    shown: &[Item],
+) -> Result<Option<(Vec<u8>, Value)>, AllocError> {
+    let alloc = items.alloc();
+    let corrections = corrections_in(alloc, shown)?;
+    if corrections.is_empty() {
+        return Ok(None);
+    }
+    let Some(bytes) = mended(alloc, document, &corrections)? else {
+        return Ok(None);
+    };
+    match parse_script(alloc, &bytes) {
         Ok(value) => {
-            add_meant(items, document, corrections)?;
-            let other = Document {
-                file: document.file,
-                bytes,
-                value: &value,
-                whole: document.whole,
-            };
-            add_answer(items, &other, effort, Some(now))
+            add_meant(items, document, &corrections)?;
+            Ok(Some((bytes, value)))
         }
         Err(ParseFault::NoMemory) => Err(AllocError),
-        Err(ParseFault::Refused(_)) => Ok(()),
+        Err(ParseFault::Refused(_)) => Ok(None),
     }
 }
 
@@ -106,82 +118,156 @@ fn add_meant(
     Ok(())
 }
 
+/// A script whose calls are made otherwise.
+#[derive(Drop)]
+struct Recalled {
+    value: Value,
+    /// Whether its calls stand where the text has them.
+    is_in_place: bool,
+}
+
 /// Tells what the script has once refused calls are made on the nodes that they may mean, if some
-/// do; else once the calls are moved that stand too early.
+/// do; else once the calls are moved that stand too early. Whether something is told; the story goes
+/// on so often at most.
+#[cycle(add_answer)]
 pub(crate) fn add_called_otherwise(
     items: &mut Items,
     document: &Document<'_>,
     scenario: &Scenario<'_>,
     story: &Story<'_>,
-) -> Result<(), AllocError> {
-    let Some(value) = list_meant(items, document.value, story)? else {
-        return add_moved(items, document, scenario, story);
+    levels: usize,
+) -> Result<bool, AllocError> {
+    let Some(levels) = levels.checked_sub(1) else {
+        return Ok(false);
+    };
+    let Some(made) = called_otherwise(items, document, story)? else {
+        return Ok(false);
     };
     let other = Document {
         file: document.file,
-        bytes: document.bytes,
-        value: &value,
+        bytes: if made.is_in_place {
+            document.bytes
+        } else {
+            &[]
+        },
+        value: &made.value,
         whole: document.whole,
     };
-    add_answer(items, &other, Some(scenario.effort), Some(said_in(story)))
+    let now = if made.is_in_place || !is_one_pending(story) {
+        Some(said_in(story))
+    } else {
+        None
+    };
+    add_answer(items, &other, Some(scenario.effort), now, levels)?;
+    Ok(true)
 }
 
-/// Tells what the script has once the calls are moved that stand too early, if some do. What is
-/// chosen then stands with a domain that waits.
-fn add_moved(
+/// The script with refused calls made otherwise, if that is known; tells how.
+fn called_otherwise(
     items: &mut Items,
     document: &Document<'_>,
-    scenario: &Scenario<'_>,
     story: &Story<'_>,
-) -> Result<(), AllocError> {
-    let Some(value) = list_moved(items, document.value, story)? else {
-        return Ok(());
-    };
-    let other = Document {
-        file: document.file,
-        bytes: &[],
-        value: &value,
-        whole: document.whole,
-    };
-    let waits = story
+) -> Result<Option<Recalled>, AllocError> {
+    if let Some(value) = list_meant(items, document.value, story)? {
+        return Ok(Some(Recalled {
+            value,
+            is_in_place: true,
+        }));
+    }
+    match list_moved(items, document.value, story)? {
+        Some(value) => Ok(Some(Recalled {
+            value,
+            is_in_place: false,
+        })),
+        None => Ok(None),
+    }
+}
+
+/// Whether a domain waits: what is chosen by calls that are moved stands there.
+fn is_one_pending(story: &Story<'_>) -> bool {
+    story
         .domains
         .iter()
-        .any(|domain| domain.became == Became::Pending);
-    let now = if waits { None } else { Some(said_in(story)) };
-    add_answer(items, &other, Some(scenario.effort), now)
+        .any(|domain| domain.became == Became::Pending)
 }
 
 /// Tells the answer of a script, which of its calls are refused, what would help its domains, and
 /// what is chosen unless that is said now, or it isn't to be told as nothing is given for now; or
-/// that it is refused itself. What is tried costs of this, or as much as of a script by itself.
-fn add_answer(
+/// that it is refused itself. What is tried costs of this, or as much as of a script by itself. The
+/// story goes on so often at most.
+#[cycle(add_answer)]
+pub(crate) fn add_answer(
     items: &mut Items,
     document: &Document<'_>,
     effort: Option<&Effort>,
     now: Option<&str>,
+    levels: usize,
 ) -> Result<(), AllocError> {
     let alloc = items.alloc();
     match read_script(alloc, document.value) {
         Ok(script) => match effort {
-            Some(effort) => add_script(items, document, &script, effort, now),
+            Some(effort) => add_script(items, document, &script, effort, now, levels),
             None => {
                 let effort = Effort::new(alloc, &script.platform, &script.calls)?;
-                add_script(items, document, &script, &effort, now)
+                add_script(items, document, &script, &effort, now, levels)
             }
         },
         Err(ParseFault::NoMemory) => Err(AllocError),
-        Err(ParseFault::Refused(fault)) => add_refusal(items, document, fault),
+        Err(ParseFault::Refused(fault)) => {
+            let shown = fault_in(alloc, document, fault)?;
+            let mut below = Items::new(alloc);
+            let _is_told = add_corrected(&mut below, document, &shown, effort, now, levels)?;
+            add_shown(items, shown);
+            add_deeper(items, below)
+        }
     }
 }
 
+/// What is told of a fault of a script.
+fn fault_in(
+    alloc: Global,
+    document: &Document<'_>,
+    fault: ScriptFault,
+) -> Result<Vec<Item>, AllocError> {
+    let mut told = Items::new(alloc);
+    add_fault(&mut told, document, fault)?;
+    told.into_list()
+}
+
+/// Puts what is told of faults, but for titles, below a correction.
+fn add_shown(items: &mut Items, shown: Vec<Item>) {
+    for mut item in shown {
+        if item.kind == Kind::Title {
+            continue;
+        }
+        if item.kind == Kind::Answer {
+            item.kind = Kind::Words;
+        }
+        item.depth = item.depth.max(1).saturating_add(1);
+        items.add(item);
+    }
+}
+
+/// Puts items one deeper after others.
+fn add_deeper(items: &mut Items, below: Items) -> Result<(), AllocError> {
+    for mut item in below.into_list()? {
+        item.depth = item.depth.saturating_add(1);
+        items.add(item);
+    }
+    Ok(())
+}
+
 /// Tells the answer of a script that isn't refused, which of its calls are, what would help its
-/// domains, and what is chosen unless that is said now.
+/// domains, and what is chosen unless that is said now; or what it has once faults are corrected, or
+/// its calls made otherwise that were refused.
+#[cycle(add_answer)]
 fn add_script<'a>(
     items: &mut Items,
     document: &Document<'a>,
     script: &Script<'a>,
     effort: &Effort,
     now: Option<&str>,
+    levels: usize,
 ) -> Result<(), AllocError> {
     let alloc = items.alloc();
     let scenario = Scenario {
@@ -194,8 +280,29 @@ fn add_script<'a>(
         return Err(AllocError);
     }
     let story = story_of(alloc, document.value, &script.calls, &told)?;
+    let mut below = Items::new(alloc);
+    let shown = refused_in(alloc, document, &story)?;
+    if add_corrected(&mut below, document, &shown, Some(effort), now, levels)? {
+        items.say(2, Label::Plain, answer_of(alloc, &story));
+        add_shown(items, shown);
+        return add_deeper(items, below);
+    }
     add_in_short(items, &story)?;
+    if add_called_otherwise(&mut below, document, &scenario, &story, levels)? {
+        return add_deeper(items, below);
+    }
     add_domains_then(items, document, &scenario, &story, now)
+}
+
+/// What is told of the calls that were refused.
+fn refused_in(
+    alloc: Global,
+    document: &Document<'_>,
+    story: &Story<'_>,
+) -> Result<Vec<Item>, AllocError> {
+    let mut refused = Items::new(alloc);
+    list_refused(&mut refused, document, story)?;
+    refused.into_list()
 }
 
 /// Tells why each domain has no settings, or none with an earlier child, and what would help; and
@@ -249,20 +356,4 @@ fn add_chosen(
     let choice = choices_in(alloc, story, domain.root, domain.told.selection())?;
     put_choice(items, 2, choice);
     add_not_chosen(items, scenario, story, index, 2)
-}
-
-/// Tells that a script is refused, and for what.
-fn add_refusal(
-    items: &mut Items,
-    document: &Document<'_>,
-    fault: ScriptFault,
-) -> Result<(), AllocError> {
-    let mut told = Items::new(items.alloc());
-    add_fault(&mut told, document, fault)?;
-    for item in told.into_list()? {
-        if item.kind == Kind::Answer {
-            items.list_text(2, Label::Plain, &item.text);
-        }
-    }
-    Ok(())
 }

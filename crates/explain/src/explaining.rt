@@ -5,8 +5,10 @@ ghost use Rattle.std.specs.String.{string_bytes};
 ghost use Rattle.explain.specs.Lines.{IsToldBy, item_texts};
 ghost use Rattle.explain.specs.Wanted.{AreThere};
 
+use crate::broken::corrected_json;
 use crate::corrected::{add_called_otherwise, corrected, said_in};
 use crate::domains::add_domains;
+use crate::helping::LEVELS;
 use crate::json::{PlayedScript, Scene, objects_of};
 use crate::lines::with_lines;
 use crate::page::page_of_scene;
@@ -222,8 +224,7 @@ fn fault_items(
 fn broken_items(alloc: Global, document: &Document<'_>) -> Result<Items, AllocError> {
     let mut items = Items::new(alloc);
     add_no_json(&mut items, document.file, document.bytes)?;
-    let after = corrected(alloc, document, items.list(), None, "")?;
-    items.append(after);
+    items.append(corrected_json(alloc, document)?);
     Ok(items)
 }
 
@@ -313,7 +314,7 @@ fn add_story(
     );
     add_repeats(items, document)?;
     add_calls(items, document, story, scenario.effort)?;
-    add_called_otherwise(items, document, scenario, story)?;
+    let _is_told = add_called_otherwise(items, document, scenario, story, LEVELS)?;
     add_domains(items, document, scenario, story)?;
     add_untold(items, scenario.effort);
     Ok(())

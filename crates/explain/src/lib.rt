@@ -10,6 +10,7 @@
 //! ```
 #![tactic(auto)]
 
+mod broken;
 mod corrected;
 mod domains;
 mod entries;
@@ -18,6 +19,7 @@ mod helping;
 mod json;
 mod lines;
 mod mended;
+mod mended_words;
 mod not_chosen;
 mod page;
 mod written;

@@ -1,84 +1,161 @@
-//! The text of a script in which parts are corrected, and what is corrected, in words.
+//! The text of a script in which parts are corrected.
 
-use explanation_text::wording::{mark_after, put_visible};
-use explanation_text::{Correction, Meant, Span, Step, TextBuilder, line_of};
+use explanation_text::{Correction, Meant, Moved, Span, Step};
 use script_faults::{Document, RecordPart};
 use serde_json::Value;
 use std::alloc::{AllocError, Global};
-use sysmem_counts::Field;
-use sysmem_formats::{Modifier, PixelFormat};
 
-/// The script with what is meant; `None` where that doesn't stand in the order of the text.
+/// A part of a text, and what stands there instead.
+#[derive(Drop)]
+struct Replaced {
+    span: Span,
+    by: Vec<u8>,
+}
+
+/// The script with what is meant; `None` where two corrections are of one part.
 pub(crate) fn mended(
     alloc: Global,
     document: &Document<'_>,
     corrections: &[&Correction],
 ) -> Result<Option<Vec<u8>>, AllocError> {
+    let mut parts: Vec<Replaced> = Vec::new(alloc);
+    for one in corrections {
+        add_parts(&mut parts, document, *one)?;
+    }
+    with_parts(alloc, document.bytes, &parts)
+}
+
+/// A text with parts replaced, which are in order; `None` where one begins before another ends.
+fn with_parts(
+    alloc: Global,
+    bytes: &[u8],
+    parts: &[Replaced],
+) -> Result<Option<Vec<u8>>, AllocError> {
     let mut made = Vec::new(alloc);
     let mut from = 0usize;
-    for one in corrections {
-        let spans = spans_of(alloc, document, *one)?;
-        match put_mended(&mut made, document.bytes, from, &spans, &one.meant)? {
-            Some(end) => from = end,
-            None => return Ok(None),
+    for part in parts {
+        if part.span.start < from {
+            return Ok(None);
         }
+        made.extend_from_slice(bytes.get(from..part.span.start).unwrap_or(&[]))?;
+        made.extend_from_slice(&part.by)?;
+        from = part.span.end;
     }
-    made.extend_from_slice(document.bytes.get(from..).unwrap_or(&[]))?;
+    made.extend_from_slice(bytes.get(from..).unwrap_or(&[]))?;
     Ok(Some(made))
 }
 
-/// Puts the text from a byte to the end of the last of these parts, each mended so, after what is
-/// made, and gives that end; `None` where one begins before.
-fn put_mended(
-    made: &mut Vec<u8>,
-    bytes: &[u8],
-    start: usize,
-    spans: &[Span],
-    meant: &Meant,
-) -> Result<Option<usize>, AllocError> {
-    let mut from = start;
-    for span in spans {
-        let span = cut_of(bytes, *span, meant);
-        if span.start < from {
-            return Ok(None);
-        }
-        made.extend_from_slice(bytes.get(from..span.start).unwrap_or(&[]))?;
-        put_meant(made, span.within(bytes), meant)?;
-        from = span.end;
-    }
-    Ok(Some(from))
-}
-
-/// Puts what is meant by what stands there, as JSON.
-fn put_meant(made: &mut Vec<u8>, was: &[u8], meant: &Meant) -> Result<(), AllocError> {
-    let alloc = *made.allocator();
-    match meant {
-        Meant::Node(name) | Meant::Word(name) => {
-            made.push(b'"')?;
-            made.extend_from_slice(name.as_bytes())?;
-            made.push(b'"')?;
-        }
-        Meant::Number(number) | Meant::Value(_, number) => {
-            let text = format!(in alloc; "{number}")?;
-            made.extend_from_slice(text.as_bytes())?;
-        }
-        Meant::Flag(_, is_set) => made.extend_from_slice(flag_text(*is_set).as_bytes())?,
-        Meant::List => {
-            made.push(b'[')?;
-            made.extend_from_slice(was)?;
-            made.push(b']')?;
-        }
-        Meant::Nothing => {}
-    }
+/// Adds a part to others, in the order of the text.
+fn add_part(parts: &mut Vec<Replaced>, span: Span, by: Vec<u8>) -> Result<(), AllocError> {
+    let place = parts
+        .iter()
+        .position(|part| part.span.start > span.start)
+        .unwrap_or(parts.len());
+    parts.insert(place, Replaced { span, by })?;
     Ok(())
 }
 
-fn flag_text(is_set: bool) -> &'static str {
+/// Adds the parts that a correction replaces.
+fn add_parts(
+    parts: &mut Vec<Replaced>,
+    document: &Document<'_>,
+    one: &Correction,
+) -> Result<(), AllocError> {
+    let alloc = *parts.allocator();
+    let bytes = document.bytes;
+    let was = one.span.within(bytes);
+    match &one.meant {
+        Meant::Node(_) => {
+            for span in &nodes_alike(alloc, document, one.span)? {
+                add_part(parts, *span, instead(alloc, was, &one.meant)?)?;
+            }
+            Ok(())
+        }
+        Meant::Nothing => add_part(parts, with_comma(bytes, one.span), Vec::new(alloc)),
+        Meant::Moved(moved) => {
+            add_part(parts, with_comma(bytes, one.span), Vec::new(alloc))?;
+            for place in &moved.places {
+                add_part(
+                    parts,
+                    before(*place),
+                    member_at(bytes, *place, was, moved, alloc)?,
+                )?;
+            }
+            Ok(())
+        }
+        Meant::Later { end, .. } => {
+            add_part(parts, with_comma(bytes, one.span), Vec::new(alloc))?;
+            let mut item = Vec::from_slice(alloc, b", ")?;
+            item.extend_from_slice(was)?;
+            add_part(parts, before(*end), item)
+        }
+        _ => add_part(parts, one.span, instead(alloc, was, &one.meant)?),
+    }
+}
+
+/// Nothing, before a byte.
+fn before(at: usize) -> Span {
+    Span { start: at, end: at }
+}
+
+/// A member as it comes first at a place behind a bracket.
+fn member_at(
+    bytes: &[u8],
+    place: usize,
+    member: &[u8],
+    moved: &Moved,
+    alloc: Global,
+) -> Result<Vec<u8>, AllocError> {
+    let mut made = Vec::new(alloc);
+    if moved.is_new {
+        let key = moved.into.key();
+        let front = format!(in alloc; "\"{key}\": {{")?;
+        made.extend_from_slice(front.as_bytes())?;
+    }
+    made.extend_from_slice(member)?;
+    if moved.is_new {
+        made.push(b'}')?;
+    }
+    let behind = bytes.get(place..).unwrap_or(&[]);
+    if behind.get(blanks_first(behind)).copied() != Some(b'}') {
+        made.push(b',')?;
+        made.push(b' ')?;
+    }
+    Ok(made)
+}
+
+/// What stands in the place of a part for what is meant, as JSON.
+fn instead(alloc: Global, was: &[u8], meant: &Meant) -> Result<Vec<u8>, AllocError> {
+    match meant {
+        Meant::Node(name) | Meant::Word(name) => between(alloc, b"\"", name.as_bytes(), b"\""),
+        Meant::Quotes => between(alloc, b"\"", unquoted(was), b"\""),
+        Meant::List => between(alloc, b"[", was, b"]"),
+        Meant::Number(number) | Meant::Value(_, number) => {
+            let text = format!(in alloc; "{number}")?;
+            Vec::from_slice(alloc, text.as_bytes())
+        }
+        Meant::Flag(_, is_set) => Vec::from_slice(alloc, flag_text(*is_set).as_bytes()),
+        Meant::Written(text) => Vec::from_slice(alloc, text.as_bytes()),
+        Meant::Moved(_) | Meant::Later { .. } | Meant::Nothing | Meant::Blank => {
+            Ok(Vec::new(alloc))
+        }
+    }
+}
+
+/// Bytes between two others.
+fn between(alloc: Global, open: &[u8], inner: &[u8], close: &[u8]) -> Result<Vec<u8>, AllocError> {
+    let mut made = Vec::from_slice(alloc, open)?;
+    made.extend_from_slice(inner)?;
+    made.extend_from_slice(close)?;
+    Ok(made)
+}
+
+pub(crate) fn flag_text(is_set: bool) -> &'static str {
     if is_set { "true" } else { "false" }
 }
 
-/// The parts that are corrected alike: of the name of a node all in calls that are made on it.
-fn spans_of(
+/// The parts that are corrected alike: of the name of a node all that name it, from there on.
+pub(crate) fn spans_of(
     alloc: Global,
     document: &Document<'_>,
     correction: &Correction,
@@ -86,14 +163,6 @@ fn spans_of(
     match &correction.meant {
         Meant::Node(_) => nodes_alike(alloc, document, correction.span),
         _ => Vec::from_slice(alloc, &[correction.span]),
-    }
-}
-
-/// What goes from the text for what is meant: with what is left out a comma beside it.
-fn cut_of(bytes: &[u8], span: Span, meant: &Meant) -> Span {
-    match meant {
-        Meant::Nothing => with_comma(bytes, span),
-        _ => span,
     }
 }
 
@@ -139,7 +208,7 @@ fn blanks_last(bytes: &[u8]) -> usize {
     bytes.len()
 }
 
-/// Where calls are made on a node of the name that stands there, from there on.
+/// Where calls are made on a node of the name that stands there, or make it, from there on.
 fn nodes_alike(
     alloc: Global,
     document: &Document<'_>,
@@ -151,136 +220,35 @@ fn nodes_alike(
         return Ok(spans);
     };
     for index in 0..calls.len() {
-        let path = [Step::Key("calls"), Step::Item(index), Step::Key("on")];
-        if let Some(span) = document.span(alloc, &path, RecordPart::Value)?
-            && span.start >= first.start
-            && span.within(document.bytes) == first.within(document.bytes)
-        {
-            spans.push(span)?;
-        }
+        add_alike(&mut spans, document, index, "on", first)?;
+        add_alike(&mut spans, document, index, "as", first)?;
     }
     Ok(spans)
 }
 
-/// Puts what stands in the place of what after a text: `vulkan in the place of gpu (line 13)`.
-pub(crate) fn put_corrections(
-    text: &mut TextBuilder,
+/// Adds where a member of the call of an index stands, if it is written like a part of the text
+/// and comes not before it.
+fn add_alike(
+    spans: &mut Vec<Span>,
     document: &Document<'_>,
-    corrections: &[&Correction],
+    index: usize,
+    key: &str,
+    first: Span,
 ) -> Result<(), AllocError> {
-    for (k, one) in corrections.iter().enumerate() {
-        let spans = spans_of(text.alloc(), document, *one)?;
-        put_correction(text, document.bytes, *one);
-        put_lines(text, document.bytes, &spans);
-        text.put(mark_after(k, corrections.len()));
+    let path = [Step::Key("calls"), Step::Item(index), Step::Key(key)];
+    if let Some(span) = document.span(*spans.allocator(), &path, RecordPart::Value)?
+        && span.start >= first.start
+        && span.within(document.bytes) == first.within(document.bytes)
+    {
+        spans.push(span)?;
     }
     Ok(())
 }
 
-fn put_correction(text: &mut TextBuilder, bytes: &[u8], one: &Correction) {
-    let was = one.span.within(bytes);
-    match &one.meant {
-        Meant::List => {
-            text.put("brackets around ");
-            put_listed(text, was)
-        }
-        Meant::Nothing => {
-            put_named(text, named_in(was));
-            text.put(" left out");
-        }
-        Meant::Node(_) | Meant::Word(_) => put_replaced(text, &one.meant, unquoted(was)),
-        _ => put_replaced(text, &one.meant, was),
-    }
-}
-
-/// Puts what is meant in the place of what after a text.
-fn put_replaced(text: &mut TextBuilder, meant: &Meant, was: &[u8]) {
-    put_new(text, meant);
-    text.put(" in the place of ");
-    put_bytes(text, was)
-}
-
-/// Puts what is meant after a text.
-fn put_new(text: &mut TextBuilder, meant: &Meant) {
-    match meant {
-        Meant::Node(name) => {
-            text.put(name);
-        }
-        Meant::Word(name) => put_known(text, name),
-        Meant::Number(number) => {
-            text.put_number(*number);
-        }
-        Meant::Value(field, number) => {
-            text.field(*field).put(" ").put_number(*number);
-        }
-        Meant::Flag(field, is_set) => {
-            text.field(*field).put(" ").put(flag_text(*is_set));
-        }
-        Meant::List | Meant::Nothing => {}
-    }
-}
-
-/// Puts what may be a field, a format, a modifier or another word after a text.
-fn put_known(text: &mut TextBuilder, word: &str) {
-    if let Some(field) = Field::from_name(word) {
-        text.field(field);
-    } else if let Some(format) = PixelFormat::from_name(word) {
-        text.format(format);
-    } else if let Some(modifier) = Modifier::from_name(word) {
-        text.modifier(modifier);
-    } else {
-        text.put(word);
-    }
-}
-
-/// Puts a name that stands in quotes, or that an object stands there.
-fn put_listed(text: &mut TextBuilder, was: &[u8]) {
-    if was.first().copied() == Some(b'"') {
-        put_bytes(text, was)
-    } else {
-        text.put("the object");
-    }
-}
-
-/// Puts a key or another text after a text.
-fn put_named(text: &mut TextBuilder, was: &[u8]) {
-    match std::str::from_utf8(was) {
-        Ok(word) if Field::from_name(word).is_some() => put_known(text, word),
-        _ => put_bytes(text, was),
-    }
-}
-
-/// The key of a member, or an item of a list.
-fn named_in(was: &[u8]) -> &[u8] {
-    let quote = was.iter().skip(1).position(|byte| *byte == b'"');
-    match (was.first(), quote) {
-        (Some(b'"'), Some(end)) => was.get(1..end.saturating_add(1)).unwrap_or(&[]),
+/// What stands between quotes, or all where none do.
+pub(crate) fn unquoted(was: &[u8]) -> &[u8] {
+    match was.first() {
+        Some(b'"' | b'\'') => was.get(1..was.len().saturating_sub(1)).unwrap_or(&[]),
         _ => was,
     }
-}
-
-/// What stands between quotes.
-fn unquoted(was: &[u8]) -> &[u8] {
-    was.get(1..was.len().saturating_sub(1)).unwrap_or(&[])
-}
-
-fn put_bytes(text: &mut TextBuilder, was: &[u8]) {
-    match String::from_utf8_lossy(text.alloc(), was) {
-        Ok(was) => put_visible(text, &was),
-        Err(AllocError) => text.refuse(),
-    }
-}
-
-/// Puts the lines in which some parts begin after a text: ` (lines 60, 64 and 75)`.
-fn put_lines(text: &mut TextBuilder, bytes: &[u8], spans: &[Span]) {
-    text.put(if spans.len() > 1 {
-        " (lines "
-    } else {
-        " (line "
-    });
-    for (k, span) in spans.iter().enumerate() {
-        let line = line_of(bytes, span.start.min(bytes.len()));
-        text.put_number(line).put(mark_after(k, spans.len()));
-    }
-    text.put(")");
 }

@@ -6,7 +6,9 @@ use crate::record::{
     Document, RecordPart, first_unknown, is_field_of, is_one_of, key_of, wrong_kind,
 };
 use explanation_text::wording::{put_few, put_joined};
-use explanation_text::{Items, ListBuilder, Step, TextBuilder, nearest};
+use explanation_text::{
+    Correction, Items, ListBuilder, Meant, Moved, Owner, Step, TextBuilder, nearest,
+};
 use script_reading::{CALLS, ScriptFault, makes_name};
 use serde_json::Value;
 use std::alloc::{AllocError, Global};
@@ -45,8 +47,11 @@ pub(crate) fn add_call_fault<'a>(
     match fault {
         ScriptFault::TooManyActors(_) => add_actors(items, faulty)?,
         ScriptFault::BadName(_) => add_name(items, faulty)?,
-        ScriptFault::SharedName(_) => add_shared(items, faulty),
+        ScriptFault::SharedName(_) => add_shared(items, faulty)?,
         _ => add_shape(items, faulty)?,
+    }
+    if !items.is_corrected() {
+        document.leave_out(items, &faulty.path());
     }
     Ok(())
 }
@@ -85,10 +90,37 @@ impl<'a> Faulty<'a, '_> {
             None => {
                 let mut words = TextBuilder::of(alloc, key);
                 words.put(" is missing");
-                document.tell(items, 1, &path, RecordPart::Begin, words, Help::of(help))
+                document.tell(items, 1, &path, RecordPart::Begin, words, Help::of(help));
+                if let Some(name) = self.meant_by(alloc, key)? {
+                    document.add_member(items, &path, key, name);
+                }
             }
         }
         Ok(())
+    }
+
+    /// The name that a member is likely to have which the call lacks.
+    fn meant_by(&self, alloc: Global, key: &str) -> Result<Option<&'a str>, AllocError> {
+        match key {
+            "as" => Ok(only_unmade(self.calls, self.index)),
+            "on" => {
+                let made = names_made(alloc, *self)?;
+                Ok(only_idle(self.calls, &made))
+            }
+            "call" if self.call.get("constraints").is_some() => Ok(Some("set_constraints")),
+            "call" if self.call.get("as").is_some() => Ok(Some("duplicate")),
+            _ => Ok(None),
+        }
+    }
+
+    /// Keeps that a member of the call is likely meant to have this name.
+    fn mean_name(&self, items: &mut Items, key: &'static str, meant: Meant) {
+        let path = [Step::Key("calls"), Step::Item(self.index), Step::Key(key)];
+        match self.document.span(items.alloc(), &path, RecordPart::Value) {
+            Ok(Some(span)) => items.correct(Correction { span, meant }),
+            Ok(None) => {}
+            Err(AllocError) => items.refuse(),
+        }
     }
 
     /// Tells a key that the call can't have, in the place of which one that it lacks is meant.
@@ -266,10 +298,38 @@ fn add_key(
     path: &[Step<'_>],
 ) -> Result<(), AllocError> {
     let help = help_of_key(items.alloc(), key_of(path), name, keys)?;
-    faulty
-        .document
-        .advise(items, 1, path, RecordPart::Key, "unknown key", help);
+    let document = faulty.document;
+    document.advise(items, 1, path, RecordPart::Key, "unknown key", help);
+    if is_field_of(key_of(path), &CONSTRAINTS_FIELDS) {
+        let moved = in_constraints(items.alloc(), faulty)?;
+        if !moved.places.is_empty() {
+            document.mean(items, path, Meant::Moved(moved));
+        }
+    } else if !items.is_corrected() {
+        document.leave_out(items, path);
+    }
     Ok(())
+}
+
+/// Where a member belongs that stands beside the constraints of a call.
+fn in_constraints(alloc: Global, faulty: Faulty<'_, '_>) -> Result<Moved, AllocError> {
+    let into = Owner::Constraints;
+    let member = [
+        Step::Key("calls"),
+        Step::Item(faulty.index),
+        Step::Key(into.key()),
+    ];
+    let place = faulty.document.first_place(alloc, &member)?;
+    let outer = faulty.document.first_place(alloc, &faulty.path())?;
+    let mut places = Vec::new(alloc);
+    if let Some(place) = place.or(outer) {
+        places.push(place)?;
+    }
+    Ok(Moved {
+        into,
+        is_new: place.is_none(),
+        places,
+    })
 }
 
 /// What helps with such a key of a call that has a name.
@@ -322,14 +382,15 @@ fn add_name(items: &mut Items, faulty: Faulty<'_, '_>) -> Result<(), AllocError>
             "a name is 1 to 32 ASCII letters, digits, _ or -",
         );
         faulty.point(items, key, "a bad name", help);
+        let name = good_name(items.alloc(), faulty.text(key).unwrap_or(""))?;
+        faulty.mean_name(items, key, Meant::Node(name));
         return Ok(());
     }
     let on = faulty.text("on").unwrap_or("");
     if on != "root" && maker_of(faulty, on).is_none() {
         return add_unmade(items, faulty, on);
     }
-    add_made(items, faulty);
-    Ok(())
+    add_made(items, faulty)
 }
 
 /// The first member that is to be a name, and has a wrong length or character.
@@ -343,8 +404,24 @@ fn bad_name(faulty: Faulty<'_, '_>) -> Option<&'static str> {
     None
 }
 
+/// A name that is like a bad one: `_` stands for each character that it can't have, and it is cut.
+fn good_name(alloc: Global, bad: &str) -> Result<String, AllocError> {
+    let mut name = String::new(alloc);
+    for c in bad.chars().take(32) {
+        name.push(if c.is_ascii_alphanumeric() || c == '-' {
+            c
+        } else {
+            '_'
+        })?;
+    }
+    if name.is_empty() {
+        name.push('_')?;
+    }
+    Ok(name)
+}
+
 /// Tells a name that is made again.
-fn add_made(items: &mut Items, faulty: Faulty<'_, '_>) {
+fn add_made(items: &mut Items, faulty: Faulty<'_, '_>) -> Result<(), AllocError> {
     let alloc = items.alloc();
     let made = faulty.text("as").unwrap_or("");
     let help = match maker_of(faulty, made) {
@@ -355,15 +432,21 @@ fn add_made(items: &mut Items, faulty: Faulty<'_, '_>) {
         }
         None => TextBuilder::of(alloc, "the program makes root"),
     };
-    faulty.point(items, "as", "made before", Help::of(help))
+    faulty.point(items, "as", "made before", Help::of(help));
+    if let Some(name) = only_unmade(faulty.calls, faulty.index) {
+        let name = String::from_str(alloc, name)?;
+        faulty.mean_name(items, "as", Meant::Word(name));
+    }
+    Ok(())
 }
 
 /// Tells a name on which another actor made a call.
-fn add_shared(items: &mut Items, faulty: Faulty<'_, '_>) {
+fn add_shared(items: &mut Items, faulty: Faulty<'_, '_>) -> Result<(), AllocError> {
     let alloc = items.alloc();
     let on = faulty.text("on").unwrap_or("");
     let actor = actor_of(faulty.call);
-    let help = match another_on(faulty, on, actor) {
+    let another = another_on(faulty, on, actor);
+    let help = match another {
         Some(index) => {
             let number = index.saturating_add(1);
             let mut words = TextBuilder::of(alloc, "call ");
@@ -374,7 +457,24 @@ fn add_shared(items: &mut Items, faulty: Faulty<'_, '_>) {
         }
         None => TextBuilder::of(alloc, "an earlier call on it is another actor's"),
     };
-    faulty.point(items, "on", "another actor's name", Help::of(help))
+    faulty.point(items, "on", "another actor's name", Help::of(help));
+    match another.and_then(|index| faulty.calls.get(index)) {
+        Some(call) => mean_actor(items, faulty, actor_of(call)),
+        None => Ok(()),
+    }
+}
+
+/// Keeps that a call is likely meant to be made by this actor.
+fn mean_actor(items: &mut Items, faulty: Faulty<'_, '_>, actor: &str) -> Result<(), AllocError> {
+    if faulty.call.get("actor").is_none() {
+        faulty
+            .document
+            .add_member(items, &faulty.path(), "actor", actor);
+        return Ok(());
+    }
+    let name = String::from_str(items.alloc(), actor)?;
+    faulty.mean_name(items, "actor", Meant::Word(name));
+    Ok(())
 }
 
 /// The index of the earlier call that is made on a name by another actor.
@@ -433,6 +533,26 @@ fn add_unmade(items: &mut Items, faulty: Faulty<'_, '_>, on: &str) -> Result<(),
         None => hint_of_made(alloc, faulty, on)?,
     };
     faulty.point(items, "on", note, help);
+    match first_maker(faulty.calls, on) {
+        Some(maker) if maker > faulty.index => mean_later(items, faulty, maker),
+        _ => Ok(()),
+    }
+}
+
+/// Keeps that the call is likely meant right after a later one, which makes its node.
+fn mean_later(items: &mut Items, faulty: Faulty<'_, '_>, maker: usize) -> Result<(), AllocError> {
+    let path = [Step::Key("calls"), Step::Item(maker)];
+    let span = faulty
+        .document
+        .span(items.alloc(), &path, RecordPart::Value)?;
+    if let Some(span) = span {
+        let meant = Meant::Later {
+            call: faulty.index.saturating_add(1),
+            after: maker.saturating_add(1),
+            end: span.end,
+        };
+        faulty.document.mean(items, &faulty.path(), meant);
+    }
     Ok(())
 }
 
@@ -465,6 +585,25 @@ fn only_idle<'a>(calls: &[Value], names: &[&'a str]) -> Option<&'a str> {
             return None;
         }
         only = Some(*name);
+    }
+    only
+}
+
+/// The only name on which calls after that of an index are made and that no call makes; `None` where
+/// there are more, or none.
+fn only_unmade(calls: &[Value], index: usize) -> Option<&str> {
+    let mut only = None;
+    for call in calls.iter().skip(index.saturating_add(1)) {
+        let Some(name) = call.get("on").and_then(Value::as_str) else {
+            continue;
+        };
+        if name == "root" || first_maker(calls, name).is_some() || only == Some(name) {
+            continue;
+        }
+        if only.is_some() {
+            return None;
+        }
+        only = Some(name);
     }
     only
 }

@@ -1,8 +1,6 @@
 //! Where a text stops being JSON, in words.
 
-use explanation_text::{
-    Correction, Items, JsonStop, Mark, Meant, Span, TextBuilder, show, stop_of,
-};
+use explanation_text::{Items, JsonStop, Mark, Span, TextBuilder, show, stop_of};
 use std::alloc::{AllocError, Global};
 
 /// A text that is no JSON, or may be none.
@@ -60,7 +58,12 @@ pub(crate) fn add_break(items: &mut Items, broken: Broken<'_>) -> Result<(), All
 
 /// Tells where a text can't be continued to JSON.
 fn add_stop(items: &mut Items, broken: Broken<'_>, stop: JsonStop) -> Result<(), AllocError> {
-    let JsonStop { at, expected, help } = stop;
+    let JsonStop {
+        at,
+        expected,
+        help,
+        meant,
+    } = stop;
     let helps = helps_of(items.alloc(), help)?;
     let end = if at >= broken.bytes.len() {
         ", found the end"
@@ -71,32 +74,10 @@ fn add_stop(items: &mut Items, broken: Broken<'_>, stop: JsonStop) -> Result<(),
     words.put(expected.words()).put(end);
     let note = words.done()?;
     broken.show(items, at, &note, &helps);
-    if let Some(correction) = hexadecimal_at(broken.bytes, at) {
+    if let Some(correction) = meant {
         items.correct(correction);
     }
     Ok(())
-}
-
-/// The hexadecimal number whose `x` stands at a byte, and what it is.
-fn hexadecimal_at(bytes: &[u8], at: usize) -> Option<Correction> {
-    let start = at.checked_sub(1)?;
-    let b"0x" = bytes.get(start..at.saturating_add(1))? else {
-        return None;
-    };
-    let digits = bytes.get(at.saturating_add(1)..).unwrap_or(&[]);
-    let mut number = 0u64;
-    let mut end = at.saturating_add(1);
-    for byte in digits {
-        let Some(digit) = (*byte as char).to_digit(16) else {
-            break;
-        };
-        number = number.checked_mul(16)?.checked_add(u64::from(digit))?;
-        end = end.saturating_add(1);
-    }
-    Some(Correction {
-        span: Span { start, end },
-        meant: Meant::Number(number),
-    })
 }
 
 /// A list of what helps, where something does.

@@ -7,6 +7,7 @@ mod firsts;
 mod keys;
 mod kinds;
 mod names;
+mod owners;
 mod paths;
 mod record_fault;
 mod record_place;

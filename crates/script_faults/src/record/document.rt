@@ -173,14 +173,57 @@ impl<'a> Document<'a> {
 
     /// Keeps with the last item that the member or the item of a list at a path may be left out.
     pub fn leave_out(&self, items: &mut Items, path: &[Step<'_>]) {
+        self.mean(items, path, Meant::Nothing)
+    }
+
+    /// Keeps with the last item what may be meant by the member or the item of a list at a path.
+    pub(crate) fn mean(&self, items: &mut Items, path: &[Step<'_>], meant: Meant) {
         match self.whole_span(items.alloc(), path) {
-            Ok(Some(span)) => items.correct(Correction {
-                span,
-                meant: Meant::Nothing,
-            }),
+            Ok(Some(span)) => items.correct(Correction { span, meant }),
             Ok(None) => {}
             Err(AllocError) => items.refuse(),
         }
+    }
+
+    /// Keeps with the last item that the object at a path may lack a member with this text.
+    pub(crate) fn add_member(&self, items: &mut Items, path: &[Step<'_>], key: &str, text: &str) {
+        match self.member_of(items.alloc(), path, key, text) {
+            Ok(Some(correction)) => items.correct(correction),
+            Ok(None) => {}
+            Err(AllocError) => items.refuse(),
+        }
+    }
+
+    /// A member with this text, before the others of the object at a path.
+    fn member_of(
+        &self,
+        alloc: Global,
+        path: &[Step<'_>],
+        key: &str,
+        text: &str,
+    ) -> Result<Option<Correction>, AllocError> {
+        let Some(at) = self.first_place(alloc, path)? else {
+            return Ok(None);
+        };
+        let member = format!(in alloc; "\"{key}\": \"{text}\", ")?;
+        Ok(Some(Correction {
+            span: Span { start: at, end: at },
+            meant: Meant::Written(member),
+        }))
+    }
+
+    /// The byte behind the bracket of the object at a path, if that has members.
+    pub(crate) fn first_place(
+        &self,
+        alloc: Global,
+        path: &[Step<'_>],
+    ) -> Result<Option<usize>, AllocError> {
+        match self.at(path).and_then(Value::as_object) {
+            Some(members) if !members.is_empty() => {}
+            _ => return Ok(None),
+        }
+        let span = self.span(alloc, path, RecordPart::Value)?;
+        Ok(span.map(|span| span.start.saturating_add(1)))
     }
 
     /// Where the member at a path stands, its key among it; or an item of a list.

@@ -9,10 +9,11 @@ use crate::record::kinds::{
     is_number_within, nearest_within, wrong_kind, wrong_number, wrong_value,
 };
 use crate::record::names::{hint_of_name, listed, names_for};
+use crate::record::owners::{OWNERS, fields_of, owner_of, places_in};
 use crate::record::paths::{Path, joined, with};
 use crate::record::record_place::place_of;
 use crate::record::unknown::{first_unknown, key_of};
-use explanation_text::{Items, ListBuilder, Meant, Step, TextBuilder, nearest};
+use explanation_text::{Items, ListBuilder, Meant, Owner, Step, TextBuilder, nearest};
 use record_reading::{
     Code, ENTRY_FIELDS, Fault, FaultPlace, HEAP_FIELDS, HEAP_NAME_FIELDS, MEMORY_FIELDS,
     PAIR_FIELDS, PLATFORM_FIELDS,
@@ -29,7 +30,9 @@ struct Faulty<'a, 'b> {
     document: &'b Document<'a>,
     /// Below how many items it is told.
     depth: usize,
-    /// Its path in the text.
+    /// The record's path in the text.
+    base: &'b [Step<'a>],
+    /// The fault's.
     path: &'b [Step<'a>],
     fault: Fault,
     is_platform: bool,
@@ -51,6 +54,7 @@ pub fn add_record_fault<'a>(
     let faulty = Faulty {
         document,
         depth,
+        base,
         path: &path,
         fault,
         is_platform,
@@ -125,7 +129,10 @@ fn add_missing(items: &mut Items, faulty: Faulty<'_, '_>) {
         RecordPart::Begin,
         note,
         Help::of(help),
-    )
+    );
+    if let Some(Step::Item(_)) = object.last() {
+        leave_out(items, faulty, object)
+    }
 }
 
 /// The keys that an object at a place may have.
@@ -178,21 +185,46 @@ fn add_key(
     path: &[Step<'_>],
     keys: &[&'static str],
 ) -> Result<(), AllocError> {
+    let alloc = items.alloc();
     let document = faulty.document;
     let note = "unknown key";
-    match help_of_key(items.alloc(), key_of(path), keys, faulty.is_platform)? {
-        Some(help) => document.advise(items, faulty.depth, path, RecordPart::Key, note, help),
-        None => document.point(items, faulty.depth, path, RecordPart::Key, note, &[]),
+    let key = key_of(path);
+    match owner_of(key, keys) {
+        Some(owner) if !faulty.is_platform => {
+            let mut words = TextBuilder::of(alloc, key);
+            words.put(" belongs in ").put(owner.words());
+            let help = Help::of(words);
+            document.advise(items, faulty.depth, path, RecordPart::Key, note, help);
+            move_to(items, faulty, path, owner)?;
+        }
+        _ => match help_of_key(alloc, key, keys, faulty.is_platform)? {
+            Some(help) => document.advise(items, faulty.depth, path, RecordPart::Key, note, help),
+            None => document.point(items, faulty.depth, path, RecordPart::Key, note, &[]),
+        },
     }
     leave_out(items, faulty, path);
     Ok(())
 }
 
-/// Keeps that what stands at a path of constraints may be left out, where nothing else is known of
+/// Keeps that the member at a path is meant in the object into which it belongs.
+fn move_to(
+    items: &mut Items,
+    faulty: Faulty<'_, '_>,
+    path: &[Step<'_>],
+    owner: Owner,
+) -> Result<(), AllocError> {
+    let document = faulty.document;
+    let moved = places_in(items.alloc(), document, faulty.base, faulty.path, owner)?;
+    if !moved.places.is_empty() {
+        document.mean(items, path, Meant::Moved(moved))
+    }
+    Ok(())
+}
+
+/// Keeps that what stands at a path of a record may be left out, where nothing else is known of
 /// what may be meant.
 fn leave_out(items: &mut Items, faulty: Faulty<'_, '_>, path: &[Step<'_>]) {
-    let is_whole = key_of(path) == "constraints";
-    if !faulty.is_platform && !is_whole && !items.is_corrected() {
+    if faulty.base.len() < path.len() && !items.is_corrected() {
         faulty.document.leave_out(items, path)
     }
 }
@@ -394,7 +426,21 @@ fn add_list(items: &mut Items, faulty: Faulty<'_, '_>, value: &Value) -> Result<
         &note,
         &helps,
     );
+    if faulty.fault.code == Code::TiledMisfit {
+        leave_out_modifier(items, faulty)?;
+    }
     leave_out(items, faulty, faulty.path);
+    Ok(())
+}
+
+/// Keeps that the modifier beside a format may be left out.
+fn leave_out_modifier(items: &mut Items, faulty: Faulty<'_, '_>) -> Result<(), AllocError> {
+    let Some((_, object)) = faulty.path.split_last() else {
+        return Ok(());
+    };
+    let name = Field::PixelFormatModifier.name();
+    let path = with(items.alloc(), object, Step::Key(name))?;
+    faulty.document.leave_out(items, &path);
     Ok(())
 }
 
@@ -469,24 +515,17 @@ fn first_words(
     Ok(if is_found { Some(first) } else { None })
 }
 
-/// What an unknown key may be: one of another object, or a known one that is misspelt.
+/// What an unknown key may be that isn't one of another object.
 fn help_of_key(
     alloc: Global,
     key: &str,
     keys: &[&'static str],
     is_platform: bool,
 ) -> Result<Option<Help>, AllocError> {
-    match owner_of(key, keys) {
-        Some(owner) if !is_platform => {
-            let mut words = TextBuilder::of(alloc, key);
-            words.put(" belongs in ").put(owner);
-            Ok(Some(Help::of(words)))
-        }
-        _ => match nearest(alloc, key, keys)? {
-            Some(near) => Ok(Some(Help::near(alloc, near))),
-            None if is_platform => Ok(keys_here(alloc, keys)),
-            None => help_elsewhere(alloc, key, keys),
-        },
+    match nearest(alloc, key, keys)? {
+        Some(near) => Ok(Some(Help::near(alloc, near))),
+        None if is_platform => Ok(keys_here(alloc, keys)),
+        None => help_elsewhere(alloc, key, keys),
     }
 }
 
@@ -498,26 +537,6 @@ fn keys_here(alloc: Global, keys: &[&str]) -> Option<Help> {
     Some(Help::of(listed(alloc, "keys here: ", keys, "and")))
 }
 
-/// The objects of constraints, with their keys.
-const OBJECTS: &[(&str, &[Field])] = &[
-    ("the constraints themselves", &CONSTRAINTS_FIELDS),
-    ("buffer_memory_constraints", &MEMORY_FIELDS),
-    ("an entry of image_format_constraints", &ENTRY_FIELDS),
-];
-
-/// The object into which a key belongs, if it isn't one of these.
-fn owner_of(key: &str, keys: &[&str]) -> Option<&'static str> {
-    if is_one_of(key, keys) {
-        return None;
-    }
-    for (name, others) in OBJECTS {
-        if is_field_of(key, others) {
-            return Some(*name);
-        }
-    }
-    None
-}
-
 /// A key of another object that is near, or one of these that begins alike; or else these.
 fn help_elsewhere(
     alloc: Global,
@@ -526,7 +545,7 @@ fn help_elsewhere(
 ) -> Result<Option<Help>, AllocError> {
     if let Some((near, name)) = near_elsewhere(alloc, key, keys)? {
         let mut words = did_you_mean(alloc, near);
-        words.put(" It belongs in ").put(name);
+        words.put(" It belongs in ").put(name.words());
         return Ok(Some(Help::of(words)));
     }
     Ok(match begins_alike(key, keys) {
@@ -540,14 +559,14 @@ fn near_elsewhere(
     alloc: Global,
     key: &str,
     keys: &[&str],
-) -> Result<Option<(&'static str, &'static str)>, AllocError> {
-    for (name, others) in OBJECTS {
-        let others = names_of(alloc, others)?;
+) -> Result<Option<(&'static str, Owner)>, AllocError> {
+    for owner in OWNERS {
+        let others = names_of(alloc, fields_of(owner))?;
         if others.first() == keys.first() {
             continue;
         }
         if let Some(near) = nearest(alloc, key, &others)? {
-            return Ok(Some((near, *name)));
+            return Ok(Some((near, owner)));
         }
     }
     Ok(None)
