@@ -1,5 +1,5 @@
 //! What a script means once each part of it is corrected of which it is known what may be meant; and
-//! once its calls are moved that stand too early.
+//! once calls of it are made on other nodes, made that are missing, or moved that stand too early.
 
 use crate::helping::{LEVELS, add_help_then};
 use crate::mended::{mended, put_corrections};
@@ -7,7 +7,7 @@ use crate::not_chosen::add_not_chosen;
 use constraint_changes::put_choice;
 use domain_reasons::{add_in_short, add_shortly, choices_in};
 use explanation_text::{Correction, Item, Items, Kind, Label, TextBuilder};
-use other_outcomes::{list_meant, list_moved};
+use other_outcomes::{list_added, list_meant, list_moved};
 use script_faults::{Document, add_fault};
 use script_reading::{ParseFault, Script, ScriptFault, parse_script, read_script};
 use script_story::{Became, Effort, Scenario, Story, story_of};
@@ -107,7 +107,7 @@ fn add_meant(
 }
 
 /// Tells what the script has once refused calls are made on the nodes that they may mean, if some
-/// do; else once the calls are moved that stand too early.
+/// do; else once calls are made that are missing; else once the calls are moved that stand too early.
 pub(crate) fn add_called_otherwise(
     items: &mut Items,
     document: &Document<'_>,
@@ -115,11 +115,31 @@ pub(crate) fn add_called_otherwise(
     story: &Story<'_>,
 ) -> Result<(), AllocError> {
     let Some(value) = list_meant(items, document.value, story)? else {
-        return add_moved(items, document, scenario, story);
+        return add_added(items, document, scenario, story);
     };
     let other = Document {
         file: document.file,
         bytes: document.bytes,
+        value: &value,
+        whole: document.whole,
+    };
+    add_answer(items, &other, Some(scenario.effort), Some(said_in(story)))
+}
+
+/// Tells what the script has once calls are made that are missing, if some are; else once the calls
+/// are moved that stand too early.
+fn add_added(
+    items: &mut Items,
+    document: &Document<'_>,
+    scenario: &Scenario<'_>,
+    story: &Story<'_>,
+) -> Result<(), AllocError> {
+    let Some(value) = list_added(items, document.value, story)? else {
+        return add_moved(items, document, scenario, story);
+    };
+    let other = Document {
+        file: document.file,
+        bytes: &[],
         value: &value,
         whole: document.whole,
     };
