@@ -27,8 +27,8 @@ pub(crate) fn add_pending(
 ) -> Result<(), AllocError> {
     let awaited = all_awaited(items.alloc(), story, index)?;
     add_awaited(items, story, &awaited);
-    if let Some(above) = awaited_host(story, domain) {
-        add_host(items, story, domain, above);
+    if let Some(above) = undecided_above(story, index) {
+        add_host(items, story, domain, story.root_of(above));
     }
     Ok(())
 }
@@ -57,32 +57,53 @@ fn add_host(items: &mut Items, story: &Story<'_>, domain: &Domain, above: usize)
     items.say(1, Label::Awaits, words)
 }
 
-/// The root of the domain to which this one was attached, where that has no verdict.
-fn awaited_host(story: &Story<'_>, domain: &Domain) -> Option<usize> {
-    let above = story.domain_of(domain.host?)?;
-    match above.ended {
-        Some(_) => None,
-        None => Some(above.root),
-    }
-}
-
-/// Those whose end would let the domain of an index be decided: whom it waits for. Empty where a
-/// call on one of them was refused that would have helped, and where the domain to which it was
-/// attached has no verdict.
+/// Those whose end would let the domain of an index be decided: whom it waits for, and whom those
+/// above it wait for, to which it was attached. Empty where a call on one of them was refused that
+/// would have helped.
 pub fn who_holds_up(
     alloc: Global,
     story: &Story<'_>,
     index: usize,
 ) -> Result<Vec<usize>, AllocError> {
-    let waits_for_host = match story.domains.get(index) {
-        Some(domain) => awaited_host(story, domain).is_some(),
-        None => true,
-    };
-    let awaited = story.awaited(alloc, index, usize::MAX)?;
-    if waits_for_host || is_one_refused(story, &awaited) {
+    let domains = undecided_from(alloc, story, index)?;
+    let mut awaited = Vec::new(alloc);
+    for (node, known) in story.nodes.iter().enumerate() {
+        if domains.contains(&known.domain) && story.is_awaited(node, usize::MAX) {
+            awaited.push(node)?;
+        }
+    }
+    if is_one_refused(story, &awaited) {
         return Ok(Vec::new(alloc));
     }
     Ok(awaited)
+}
+
+/// The domain of an index, and those above it that have no verdict, by index.
+fn undecided_from(
+    alloc: Global,
+    story: &Story<'_>,
+    index: usize,
+) -> Result<Vec<usize>, AllocError> {
+    let mut domains = Vec::new(alloc);
+    let mut next = Some(index);
+    for _level in 0..story.domains.len() {
+        let Some(index) = next else {
+            break;
+        };
+        domains.push(index)?;
+        next = undecided_above(story, index);
+    }
+    Ok(domains)
+}
+
+/// The domain to which that of an index was attached, by index, where it has no verdict.
+fn undecided_above(story: &Story<'_>, index: usize) -> Option<usize> {
+    let host = story.domains.get(index)?.host?;
+    let above = story.nodes.get(host)?.domain;
+    match story.domains.get(above)?.ended {
+        Some(_) => None,
+        None => Some(above),
+    }
 }
 
 /// Whether a call on one of some nodes was refused that would have helped.

@@ -10,7 +10,7 @@ use crate::not_chosen::add_not_chosen;
 use constraint_changes::put_choice;
 use domain_reasons::{add_in_short, add_shortly, answer_of, choices_in};
 use explanation_text::{Correction, Item, Items, Kind, Label, TextBuilder};
-use other_outcomes::{list_meant, list_moved};
+use other_outcomes::{list_added, list_meant, list_moved};
 use script_faults::{Document, add_fault};
 use script_reading::{ParseFault, Script, ScriptFault, parse_script, read_script};
 use script_story::{Became, Effort, Scenario, Story, list_refused, story_of};
@@ -127,7 +127,7 @@ struct Recalled {
 }
 
 /// Tells what the script has once refused calls are made on the nodes that they may mean, if some
-/// do; else once the calls are moved that stand too early. Whether something is told; the story goes
+/// do; else once calls are made that are missing; else once those are moved that stand too early. Whether something is told; the story goes
 /// on so often at most.
 #[cycle(add_answer)]
 pub(crate) fn add_called_otherwise(
@@ -174,13 +174,14 @@ fn called_otherwise(
             is_in_place: true,
         }));
     }
-    match list_moved(items, document.value, story)? {
-        Some(value) => Ok(Some(Recalled {
-            value,
-            is_in_place: false,
-        })),
-        None => Ok(None),
-    }
+    let other = match list_added(items, document.value, story)? {
+        Some(value) => Some(value),
+        None => list_moved(items, document.value, story)?,
+    };
+    Ok(other.map(|value| Recalled {
+        value,
+        is_in_place: false,
+    }))
 }
 
 /// Whether a domain waits: what is chosen by calls that are moved stands there.

@@ -9,8 +9,8 @@ use constraint_changes::put_choice;
 use domain_reasons::{add_domain, choices_in};
 use explanation_text::{Items, Kind, Label};
 use other_outcomes::{
-    Otherwise, add_ended_earlier, add_groups_exchanged, add_later_children, add_later_pairs,
-    add_released, add_then, add_without, reordered,
+    Otherwise, add_ended_earlier, add_groups_exchanged, add_later_children, add_released,
+    add_taken_pairs, add_then, add_without, reordered,
 };
 use script_faults::Document;
 use script_story::{Became, Domain, Scenario, Story, story_of};
@@ -86,7 +86,7 @@ fn add_later(
     path: &str,
 ) -> Result<(), AllocError> {
     add_later_children(items, scenario, story, index, path)?;
-    add_later_pairs(items, scenario, story, index, path)
+    add_taken_pairs(items, scenario, story, index, path)
 }
 
 /// The domain at a path of a story, of which this became, and which goes on so often at most.

@@ -1,4 +1,5 @@
-//! A platform that has another pair first, where participants list that before the chosen one.
+//! A platform that has another pair first, where participants list that before the chosen one, or
+//! all take it.
 
 use crate::platforms::{heaps_of, outcome_on};
 use explanation_text::{Items, Label, ListBuilder, TextBuilder};
@@ -13,25 +14,9 @@ use value_sources::NamedParticipant;
 /// How many pairs are tried.
 const MOST: usize = 3;
 
-/// Tells of pairs that participants of a chosen domain list before the chosen one, and that stand
-/// after it on the platform, what would be decided if they stood first there.
-pub fn add_later_pairs(
-    items: &mut Items,
-    scenario: &Scenario<'_>,
-    story: &Story<'_>,
-    index: usize,
-    path: &str,
-) -> Result<(), AllocError> {
-    let alloc = items.alloc();
-    let Some(chosen) = pair_of(story, index) else {
-        return Ok(());
-    };
-    let listed = listed_in(alloc, scenario, story, index, chosen)?;
-    try_each(items, scenario, path, &listed, chosen)
-}
-
-/// Tells the same, and also of pairs that stand after the chosen one on the platform and that a
-/// participant names and all take, wherever they list them.
+/// Tells of pairs that stand after the chosen one on the platform what would be decided if they
+/// stood first there: of those that participants of a chosen domain list before the chosen one, and
+/// of those that a participant names and all take, wherever they list them.
 pub fn add_taken_pairs(
     items: &mut Items,
     scenario: &Scenario<'_>,

@@ -1,7 +1,7 @@
 //! What would become of a script's domains otherwise: with calls moved that stand too early or too
-//! late, or made on the nodes that they may mean, with a release in the place of a close, without
-//! those who are awaited, with a later child in the place of the chosen one, with another group made
-//! first, and on a platform that has a pair more, a pair first, or a heap that is
+//! late, made on the nodes that they may mean, or made that are missing, with a release in the place
+//! of a close, without those who are awaited, with a later child in the place of the chosen one, with
+//! another group made first, and on a platform that has a pair more, a pair first, or a heap that is
 //! contiguous or secure.
 //!
 //! ```
@@ -10,6 +10,7 @@
 //! ```
 #![tactic(auto)]
 
+mod added;
 mod children;
 mod closed;
 mod ended_earlier;
@@ -23,13 +24,14 @@ mod otherwise;
 mod pending;
 mod platforms;
 
+pub use added::list_added;
 pub use children::add_later_children;
 pub use closed::add_released;
 pub use ended_earlier::add_ended_earlier;
 pub use ended_later::add_ended_later;
 pub use groups::add_groups_exchanged;
 pub use heaps::add_heaps;
-pub use later_pairs::{add_later_pairs, add_taken_pairs};
+pub use later_pairs::add_taken_pairs;
 pub use meant::list_meant;
 pub use moved::{add_then, list_moved};
 pub use otherwise::{Otherwise, reordered};

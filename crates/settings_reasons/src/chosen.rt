@@ -3,14 +3,17 @@
 use crate::listed::listed_before;
 use crate::offer_words::{least_side, offer_name};
 use crate::offering::{are_refused, offers_of};
+use crate::place_reason::place_reasons;
 use crate::placing::{place_name, places_of};
 use crate::refusing::{add_no_image, add_offers, place_rows};
 use crate::rows::add_rows;
-use explanation_text::{Fact, Items, Label, Said, TextBuilder};
+use explanation_text::wording::{MOST_NAMES, put_few};
+use explanation_text::{Fact, Items, Label, ListBuilder, Said, Text, TextBuilder};
 use negotiation_inputs::Platform;
 use std::alloc::{AllocError, Global};
 use sysmem_counts::Field;
 use sysmem_formats::{Offer, Pair, bytes_per_pixel};
+use sysmem_memory::Place;
 use sysmem_merge::Settings;
 use value_sources::{DerivedNumber, NamedParticipant, Side, Wishes, why_needed};
 
@@ -111,7 +114,7 @@ fn note_row(items: &mut Items, wishes: Wishes<'_, '_>) -> Result<(), AllocError>
     Ok(())
 }
 
-/// Tells the place, and who refused each of those before it.
+/// Tells the place, who refused each of those before it, and which of those after it nobody refuses.
 fn add_chosen_place(
     items: &mut Items,
     platform: &Platform,
@@ -124,7 +127,64 @@ fn add_chosen_place(
     let earlier = before(&places, &settings.place);
     let rows = place_rows(alloc, platform, earlier, participants, false)?;
     add_rows(items, 2, "not ", &rows, usize::MAX, "places before it");
+    add_later_places(
+        items,
+        platform,
+        participants,
+        after(&places, &settings.place),
+    )
+}
+
+/// Tells which of the places after the chosen one nobody refuses. On one of them all else would be
+/// the same: no offer, count or size depends on the place.
+fn add_later_places(
+    items: &mut Items,
+    platform: &Platform,
+    participants: &[NamedParticipant<'_>],
+    later: &[Place],
+) -> Result<(), AllocError> {
+    let alloc = items.alloc();
+    let names = unrefused(alloc, platform, participants, later)?;
+    let end = match names.len() {
+        0 => return Ok(()),
+        1 => " would do too, but stands after it",
+        _ => " would do too, but stand after it",
+    };
+    let mut words = TextBuilder::new(alloc);
+    put_few(&mut words, &names, MOST_NAMES);
+    words.put(end);
+    items.say(2, Label::Plain, words);
     Ok(())
+}
+
+/// The names of those of some places that nobody refuses.
+fn unrefused(
+    alloc: Global,
+    platform: &Platform,
+    participants: &[NamedParticipant<'_>],
+    places: &[Place],
+) -> Result<Vec<Text>, AllocError> {
+    let mut names = ListBuilder::new(alloc);
+    for place in places {
+        if !is_refused_place(alloc, platform, participants, *place)? {
+            names.add_text(place_name(alloc, platform, *place));
+        }
+    }
+    names.done()
+}
+
+/// Whether somebody refuses a place.
+fn is_refused_place(
+    alloc: Global,
+    platform: &Platform,
+    participants: &[NamedParticipant<'_>],
+    place: Place,
+) -> Result<bool, AllocError> {
+    let Some(heap) = platform.heaps().get(place.heap) else {
+        return Ok(true);
+    };
+    let reasons = place_reasons(alloc, heap, place.coherency, participants)?;
+    Ok(!reasons.is_empty())
 }
 
 /// Tells the offer, and who refused each of those before it.
@@ -226,6 +286,16 @@ fn before<'a, T: PartialEq>(list: &'a [T], one: &T) -> &'a [T] {
         }
     }
     list
+}
+
+/// The items of a list after the first that is equal to one; none where none is.
+fn after<'a, T: PartialEq>(list: &'a [T], one: &T) -> &'a [T] {
+    for (k, other) in list.iter().enumerate() {
+        if *other == *one {
+            return list.get(k.saturating_add(1)..).unwrap_or(&[]);
+        }
+    }
+    &[]
 }
 
 /// Tells where an image's width, height and row come from.

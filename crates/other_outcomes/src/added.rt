@@ -1,0 +1,227 @@
+//! What a script has once calls are made that it lacks: a bind before what wants a collection, and
+//! all_children_present before a group is released.
+
+use crate::moved::is_read;
+use explanation_text::{Items, Label, ListBuilder, TextBuilder};
+use script_reading::Act;
+use script_story::{MadeCall, Milestone, Story};
+use serde_json::{Map, Value, put};
+use std::alloc::{AllocError, Global};
+use sysmem_tree::{ActionKind, NodeKind, Refusal};
+
+/// How many calls may be missing.
+const MOST: usize = 4;
+
+/// A call that is missing on a node right before the call of a number.
+#[derive(Clone, Copy)]
+struct MissingCall {
+    kind: ActionKind,
+    node: usize,
+    before: usize,
+}
+
+/// Tells which calls are missing since later ones were refused, if some are, and gives the script in
+/// which they are made, if that isn't refused.
+pub fn list_added(
+    items: &mut Items,
+    value: &Value,
+    story: &Story<'_>,
+) -> Result<Option<Value>, AllocError> {
+    let alloc = items.alloc();
+    let missing = missing_in(alloc, story)?;
+    if missing.is_empty() || missing.len() > MOST {
+        return Ok(None);
+    }
+    let other = with_missing(alloc, value, story, &missing)?;
+    if !is_read(alloc, &other)? {
+        return Ok(None);
+    }
+    add_missing(items, story, &missing);
+    Ok(Some(other))
+}
+
+/// The calls that are missing, one on each node.
+fn missing_in(alloc: Global, story: &Story<'_>) -> Result<Vec<MissingCall>, AllocError> {
+    let mut missing: Vec<MissingCall> = Vec::new(alloc);
+    for (index, call) in story.calls.iter().enumerate() {
+        let number = index.saturating_add(1);
+        if let Some(one) = missing_for(alloc, story, call, number)?
+            && !is_on_one(&missing, one.node)
+        {
+            missing.push(one)?;
+        }
+    }
+    Ok(missing)
+}
+
+/// Whether one of some calls is missing on a node.
+fn is_on_one(missing: &[MissingCall], node: usize) -> bool {
+    missing.iter().any(|one| one.node == node)
+}
+
+/// The call without which the call of a number was refused, if no call of the script makes it.
+fn missing_for(
+    alloc: Global,
+    story: &Story<'_>,
+    call: &MadeCall<'_>,
+    number: usize,
+) -> Result<Option<MissingCall>, AllocError> {
+    let Some(node) = call.node else {
+        return Ok(None);
+    };
+    if !call.is_refused_as(Refusal::WrongState) || is_over(story, node, number) {
+        return Ok(None);
+    }
+    let (kind, before) = match (call.act, story.kind_before(node, usize::MAX)) {
+        (Act::SetConstraints(_) | Act::AttachToken(_), NodeKind::Token) => {
+            (ActionKind::Bind, first_early(story, node))
+        }
+        (Act::Release, NodeKind::Group) if is_grown(alloc, story, node, number)? => {
+            (ActionKind::AllChildrenPresent, number)
+        }
+        _ => return Ok(None),
+    };
+    if is_called(story, node, kind) {
+        return Ok(None);
+    }
+    Ok(Some(MissingCall { kind, node, before }))
+}
+
+/// Whether a node is gone before the call of a number, or its domain has its end by then.
+fn is_over(story: &Story<'_>, node: usize, number: usize) -> bool {
+    let is_gone = story
+        .milestone_before(node, Milestone::End, number)
+        .is_some();
+    let ended = match story.domain_of(node) {
+        Some(domain) => domain.ended,
+        None => None,
+    };
+    is_gone || matches!(ended, Some(ended) if ended < number)
+}
+
+/// The first call on a token that was refused since it wants a collection, by number.
+fn first_early(story: &Story<'_>, node: usize) -> usize {
+    for (index, call) in story.calls.iter().enumerate() {
+        let wants_collection = matches!(
+            call.act,
+            Act::SetConstraints(_) | Act::AttachToken(_) | Act::Check | Act::Wait
+        );
+        if call.node == Some(node) && wants_collection && call.is_refused_as(Refusal::WrongState) {
+            return index.saturating_add(1);
+        }
+    }
+    usize::MAX
+}
+
+/// Whether a group has children, and all of them before the call of a number.
+fn is_grown(
+    alloc: Global,
+    story: &Story<'_>,
+    group: usize,
+    number: usize,
+) -> Result<bool, AllocError> {
+    let children = story.children(alloc, group)?;
+    for child in &children {
+        if matches!(story.maker(*child), Some(made) if made > number) {
+            return Ok(false);
+        }
+    }
+    Ok(!children.is_empty())
+}
+
+/// Whether such a call is made on a node anywhere, and be it refused.
+fn is_called(story: &Story<'_>, node: usize, kind: ActionKind) -> bool {
+    for call in &story.calls {
+        if call.node == Some(node) && kind_of(&call.act) == Some(kind) {
+            return true;
+        }
+    }
+    false
+}
+
+/// Which of the calls that may be missing this is, if it is one.
+fn kind_of(act: &Act<'_>) -> Option<ActionKind> {
+    match act {
+        Act::Bind => Some(ActionKind::Bind),
+        Act::AllChildrenPresent => Some(ActionKind::AllChildrenPresent),
+        _ => None,
+    }
+}
+
+/// The script with calls that were missing.
+fn with_missing(
+    alloc: Global,
+    value: &Value,
+    story: &Story<'_>,
+    missing: &[MissingCall],
+) -> Result<Value, AllocError> {
+    let mut copy = value.clone()?;
+    if let Some(Value::Array(calls)) = copy.get_mut("calls") {
+        let list = all_made(alloc, calls, story, missing)?;
+        *calls = list;
+    }
+    Ok(copy)
+}
+
+/// Calls, with those among them that were missing.
+fn all_made(
+    alloc: Global,
+    calls: &[Value],
+    story: &Story<'_>,
+    missing: &[MissingCall],
+) -> Result<Vec<Value>, AllocError> {
+    let mut list = ListBuilder::new(alloc);
+    for (index, call) in calls.iter().enumerate() {
+        make_before(&mut list, story, missing, call, index.saturating_add(1))?;
+        list.add(call.clone()?);
+    }
+    list.done()
+}
+
+/// Adds those of the missing calls that come before this call, which has this number.
+fn make_before(
+    list: &mut ListBuilder<Value>,
+    story: &Story<'_>,
+    missing: &[MissingCall],
+    call: &Value,
+    number: usize,
+) -> Result<(), AllocError> {
+    for one in missing {
+        if one.before == number {
+            let made = made_by(list.alloc(), story, *one, call.get("actor"))?;
+            list.add(made);
+        }
+    }
+    Ok(())
+}
+
+/// A missing call, made by this actor if one is named.
+fn made_by(
+    alloc: Global,
+    story: &Story<'_>,
+    one: MissingCall,
+    actor: Option<&Value>,
+) -> Result<Value, AllocError> {
+    let mut members = Map::new(alloc);
+    let kind = Value::try_from_str(alloc, one.kind.name())?;
+    put(&mut members, alloc, "call", kind)?;
+    let name = Value::try_from_str(alloc, story.name(one.node))?;
+    put(&mut members, alloc, "on", name)?;
+    if let Some(actor) = actor {
+        put(&mut members, alloc, "actor", actor.clone()?)?;
+    }
+    Ok(Value::Object(members))
+}
+
+/// Tells which calls are made before which.
+fn add_missing(items: &mut Items, story: &Story<'_>, missing: &[MissingCall]) {
+    let mut words = TextBuilder::of(items.alloc(), "with ");
+    for (k, one) in missing.iter().enumerate() {
+        words.put(if k > 0 { " and " } else { "" });
+        words.put(one.kind.name()).put(" ");
+        words.name(story.called(one.node));
+        words.put(" before call ").call(one.before);
+    }
+    words.put(" the script has, its calls numbered anew:");
+    items.say(1, Label::Then, words)
+}
