@@ -124,6 +124,8 @@ struct Recalled {
     value: Value,
     /// Whether its calls stand where the text has them.
     is_in_place: bool,
+    /// Whether what is chosen then stands with a domain that waits.
+    is_told_there: bool,
 }
 
 /// Tells what the script has once refused calls are made on the nodes that they may mean, if some
@@ -153,10 +155,10 @@ pub(crate) fn add_called_otherwise(
         value: &made.value,
         whole: document.whole,
     };
-    let now = if made.is_in_place || !is_one_pending(story) {
-        Some(said_in(story))
-    } else {
+    let now = if made.is_told_there {
         None
+    } else {
+        Some(said_in(story))
     };
     add_answer(items, &other, Some(scenario.effort), now, levels)?;
     Ok(true)
@@ -172,19 +174,25 @@ fn called_otherwise(
         return Ok(Some(Recalled {
             value,
             is_in_place: true,
+            is_told_there: false,
         }));
     }
-    let other = match list_added(items, document.value, story)? {
-        Some(value) => Some(value),
-        None => list_moved(items, document.value, story)?,
-    };
-    Ok(other.map(|value| Recalled {
+    if let Some(value) = list_added(items, document.value, story)? {
+        return Ok(Some(Recalled {
+            value,
+            is_in_place: false,
+            is_told_there: false,
+        }));
+    }
+    let moved = list_moved(items, document.value, story)?;
+    Ok(moved.map(|value| Recalled {
         value,
         is_in_place: false,
+        is_told_there: is_one_pending(story),
     }))
 }
 
-/// Whether a domain waits: what is chosen by calls that are moved stands there.
+/// Whether a domain waits.
 fn is_one_pending(story: &Story<'_>) -> bool {
     story
         .domains

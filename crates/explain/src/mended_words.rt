@@ -2,7 +2,7 @@
 
 use crate::mended::{flag_text, spans_of, unquoted};
 use explanation_text::wording::{mark_after, put_visible};
-use explanation_text::{Correction, Meant, Span, TextBuilder, line_of};
+use explanation_text::{Correction, Meant, Owner, Span, TextBuilder, line_of};
 use script_faults::Document;
 use std::alloc::AllocError;
 use sysmem_counts::Field;
@@ -40,7 +40,8 @@ fn put_correction(text: &mut TextBuilder, bytes: &[u8], one: &Correction) {
         }
         Meant::Moved(moved) => {
             put_part(text, was);
-            text.put(" moved into ").put(moved.into.words());
+            text.put(" moved into ");
+            put_owner(text, moved.into)
         }
         Meant::Later { call, after, .. } => {
             text.put("call ").call(*call);
@@ -53,6 +54,17 @@ fn put_correction(text: &mut TextBuilder, bytes: &[u8], one: &Correction) {
         Meant::Node(_) | Meant::Word(_) => put_replaced(text, &one.meant, unquoted(was)),
         _ => put_replaced(text, &one.meant, was),
     }
+}
+
+/// Puts an object of constraints after a text.
+fn put_owner(text: &mut TextBuilder, owner: Owner) {
+    match owner {
+        Owner::Constraints => text.put(owner.words()),
+        Owner::Memory => text.field(Field::BufferMemoryConstraints),
+        Owner::Entry => text
+            .put("an entry of ")
+            .field(Field::ImageFormatConstraints),
+    };
 }
 
 /// Puts a part that goes, in a few words, after a text.

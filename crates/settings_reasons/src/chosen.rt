@@ -145,16 +145,21 @@ fn add_later_places(
 ) -> Result<(), AllocError> {
     let alloc = items.alloc();
     let names = unrefused(alloc, platform, participants, later)?;
+    add_later(items, &names);
+    Ok(())
+}
+
+/// Tells what would do too, but stands after what was chosen, if something does.
+fn add_later(items: &mut Items, names: &[Text]) {
     let end = match names.len() {
-        0 => return Ok(()),
+        0 => return,
         1 => " would do too, but stands after it",
         _ => " would do too, but stand after it",
     };
-    let mut words = TextBuilder::new(alloc);
-    put_few(&mut words, &names, MOST_NAMES);
+    let mut words = TextBuilder::new(items.alloc());
+    put_few(&mut words, names, MOST_NAMES);
     words.put(end);
-    items.say(2, Label::Plain, words);
-    Ok(())
+    items.say(2, Label::Plain, words)
 }
 
 /// The names of those of some places that nobody refuses.
@@ -211,7 +216,30 @@ fn add_offer(
         "not ",
         "offers before it",
     )?;
-    add_listed(items, platform, participants, settings)
+    add_listed(items, platform, participants, settings)?;
+    add_later_colours(items, platform, participants, settings)
+}
+
+/// Tells in which colour spaces after the chosen one nobody refuses the chosen pair.
+fn add_later_colours(
+    items: &mut Items,
+    platform: &Platform,
+    participants: &[NamedParticipant<'_>],
+    settings: &Settings,
+) -> Result<(), AllocError> {
+    let Offer::Image(pair, chosen) = settings.offer else {
+        return Ok(());
+    };
+    let alloc = items.alloc();
+    let mut names = ListBuilder::new(alloc);
+    for colour in after(platform.colours(), &chosen) {
+        let offer = Offer::Image(pair, *colour);
+        if !are_refused(&[offer], participants, true) {
+            names.add_text(offer_name(alloc, &offer));
+        }
+    }
+    add_later(items, &names.done()?);
+    Ok(())
 }
 
 /// Tells why there has to be an image, if these offers were refused of which the first is none; says

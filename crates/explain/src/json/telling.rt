@@ -50,7 +50,8 @@ impl<'a, 'b> Telling<'a, 'b> {
     fn object(&mut self, item: &Item) -> Result<Object, AllocError> {
         let alloc = *item.text.allocator();
         let mut object = Object::new(alloc);
-        let is_of_other = self.is_below_then(item) && item.kind == Kind::Words;
+        let has_words = matches!(item.kind, Kind::Words | Kind::Source);
+        let is_of_other = self.is_below_then(item) && has_words;
         if is_of_other {
             put_form(&mut object, item)?;
         } else {
