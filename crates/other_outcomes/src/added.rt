@@ -88,7 +88,8 @@ fn missing_for(
         }
         _ => return Ok(None),
     };
-    if is_called(story, node, kind) || before > story.calls.len() {
+    let is_other = is_called(story, node, kind) || is_for_others(story, node, before);
+    if is_other || before > story.calls.len() {
         return Ok(None);
     }
     Ok(Some(MissingCall {
@@ -137,6 +138,20 @@ fn last_child(alloc: Global, story: &Story<'_>, group: usize) -> Result<usize, A
 fn is_called(story: &Story<'_>, node: usize, kind: ActionKind) -> bool {
     for call in &story.calls {
         if call.node == Some(node) && kind_of(&call.act) == Some(kind) {
+            return true;
+        }
+    }
+    false
+}
+
+/// Whether a node is a token that is there to make others: some later than the call of a number, or
+/// some at all where it is released then. It isn't meant to be bound.
+fn is_for_others(story: &Story<'_>, node: usize, number: usize) -> bool {
+    let ends = story.milestone(node, Milestone::End).is_some();
+    for (index, call) in story.calls.iter().enumerate() {
+        let is_later = index.saturating_add(1) > number;
+        let makes = matches!(call.act, Act::Duplicate(_) | Act::CreateGroup(_));
+        if makes && call.node == Some(node) && call.is_accepted() && (ends || is_later) {
             return true;
         }
     }
