@@ -72,14 +72,16 @@ fn missing_for(
     let Some(node) = call.node else {
         return Ok(None);
     };
-    if !call.is_refused_as(Refusal::WrongState) || is_over(story, node, number) {
+    let is_refused = call.is_refused_as(Refusal::WrongState)
+        || call.is_refused_as(Refusal::NoChildren);
+    if !is_refused || is_over(story, node, number) {
         return Ok(None);
     }
     let (kind, before) = match (call.act, story.kind_before(node, usize::MAX)) {
         (Act::SetConstraints(_) | Act::AttachToken(_), NodeKind::Token) => {
             (ActionKind::Bind, first_early(story, node))
         }
-        (Act::Release, NodeKind::Group) => {
+        (Act::Release | Act::AllChildrenPresent, NodeKind::Group) => {
             let last = last_child(alloc, story, node)?;
             (
                 ActionKind::AllChildrenPresent,
@@ -134,10 +136,12 @@ fn last_child(alloc: Global, story: &Story<'_>, group: usize) -> Result<usize, A
     }
 }
 
-/// Whether such a call is made on a node anywhere, and be it refused.
+/// Whether such a call is made on a node anywhere, and be it refused, but for one on a group that has
+/// no child yet.
 fn is_called(story: &Story<'_>, node: usize, kind: ActionKind) -> bool {
     for call in &story.calls {
-        if call.node == Some(node) && kind_of(&call.act) == Some(kind) {
+        let is_early = call.is_refused_as(Refusal::NoChildren);
+        if call.node == Some(node) && kind_of(&call.act) == Some(kind) && !is_early {
             return true;
         }
     }
