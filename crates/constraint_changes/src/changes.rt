@@ -132,30 +132,52 @@ fn try_room(
         None => 0,
     };
     let participants = asked_in(alloc, story, above, true)?;
-    let before = search.count;
-    try_count(search, group, &participants, host, true, count)?;
-    if search.count == before {
-        try_count(search, group, &participants, host, false, count)?;
+    for whom in [Whom::Host, Whom::Stating, Whom::Others] {
+        if try_count(search, group, &participants, whom, host, count)? {
+            break;
+        }
     }
     Ok(())
 }
 
-/// Tries that the participant at a node, or another one, asks for so many buffers, until one helps.
+/// Those who may ask for more buffers.
+#[derive(Clone, Copy)]
+enum Whom {
+    /// Whom a domain was attached to.
+    Host,
+    /// Others who state a least count.
+    Stating,
+    Others,
+}
+
+impl Whom {
+    /// Whether a participant is one of them, where the domain was attached to this node.
+    fn is(self, participant: &NamedParticipant<'_>, host: usize) -> bool {
+        let is_stating = participant.asked.counts().min_buffer_count > 0;
+        match self {
+            Whom::Host => participant.node == host,
+            Whom::Stating => participant.node != host && is_stating,
+            Whom::Others => participant.node != host && !is_stating,
+        }
+    }
+}
+
+/// Tries that one of these participants asks for so many buffers, until one helps; whether one does.
 fn try_count(
     search: &mut Search<'_, '_>,
     group: Group<'_, '_>,
     participants: &[NamedParticipant<'_>],
-    node: usize,
-    is_there: bool,
+    whom: Whom,
+    host: usize,
     count: u32,
-) -> Result<(), AllocError> {
+) -> Result<bool, AllocError> {
     let before = search.count;
     for participant in participants {
-        if search.count == before && (participant.node == node) == is_there {
+        if search.count == before && whom.is(participant, host) {
             try_one(search, group, participant, Edit::LeastCount(count))?;
         }
     }
-    Ok(())
+    Ok(search.count > before)
 }
 
 /// The node to which the domain of an index was attached.

@@ -59,11 +59,12 @@ fn add_host(items: &mut Items, story: &Story<'_>, domain: &Domain, above: usize)
 
 /// Those whose end would let the domain of an index be decided: whom it waits for, and whom those
 /// above it wait for, to which it was attached. Empty where a call on one of them was refused that
-/// would have helped.
+/// would have helped; on a group this counts only if it is said so.
 pub fn who_holds_up(
     alloc: Global,
     story: &Story<'_>,
     index: usize,
+    counts_groups: bool,
 ) -> Result<Vec<usize>, AllocError> {
     let domains = undecided_from(alloc, story, index)?;
     let mut awaited = Vec::new(alloc);
@@ -72,7 +73,7 @@ pub fn who_holds_up(
             awaited.push(node)?;
         }
     }
-    if is_one_refused(story, &awaited) {
+    if is_one_refused(story, &awaited, counts_groups) {
         return Ok(Vec::new(alloc));
     }
     Ok(awaited)
@@ -106,10 +107,11 @@ fn undecided_above(story: &Story<'_>, index: usize) -> Option<usize> {
     }
 }
 
-/// Whether a call on one of some nodes was refused that would have helped.
-fn is_one_refused(story: &Story<'_>, nodes: &[usize]) -> bool {
+/// Whether a call on one of some nodes was refused that would have helped, groups counted or not.
+fn is_one_refused(story: &Story<'_>, nodes: &[usize], counts_groups: bool) -> bool {
     for node in nodes {
-        if refused_on(story, *node).is_some() {
+        let counts = counts_groups || !story.is_group(*node);
+        if counts && refused_on(story, *node).is_some() {
             return true;
         }
     }

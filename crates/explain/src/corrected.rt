@@ -129,8 +129,8 @@ struct Recalled {
 }
 
 /// Tells what the script has once refused calls are made on the nodes that they may mean, if some
-/// do; else once calls are made that are missing; else once those are moved that stand too early. Whether something is told; the story goes
-/// on so often at most.
+/// do; else once calls are made that are missing; else once those are moved that stand too early.
+/// Whether something is told; the story goes on so often at most.
 #[cycle(add_answer)]
 pub(crate) fn add_called_otherwise(
     items: &mut Items,
@@ -155,7 +155,8 @@ pub(crate) fn add_called_otherwise(
         value: &made.value,
         whole: document.whole,
     };
-    let now = if made.is_told_there {
+    let is_first = levels.saturating_add(1) == LEVELS;
+    let now = if made.is_told_there && is_first {
         None
     } else {
         Some(said_in(story))

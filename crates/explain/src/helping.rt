@@ -57,7 +57,8 @@ pub(crate) fn list_help(
             } else {
                 add_above(items, &then);
             }
-            let then = add_without(items, scenario, story, index, path)?;
+            let is_first = levels == LEVELS;
+            let then = add_without(items, scenario, story, index, path, is_first)?;
             add_further(items, document, scenario, then, place)
         }
         Became::Empty => add_edits(items, document, scenario, story, index),

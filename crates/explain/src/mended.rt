@@ -1,8 +1,7 @@
 //! The text of a script in which parts are corrected.
 
-use explanation_text::{Correction, Meant, Moved, Span, Step};
-use script_faults::{Document, RecordPart};
-use serde_json::Value;
+use explanation_text::{Correction, Meant, Moved, Span};
+use script_faults::Document;
 use std::alloc::{AllocError, Global};
 
 /// A part of a text, and what stands there instead.
@@ -66,7 +65,7 @@ fn add_parts(
     let was = one.span.within(bytes);
     match &one.meant {
         Meant::Node(_) => {
-            for span in &nodes_alike(alloc, document, one.span)? {
+            for span in &nodes_alike(alloc, bytes, one.span)? {
                 add_part(parts, *span, instead(alloc, was, &one.meant)?)?;
             }
             Ok(())
@@ -161,7 +160,7 @@ pub(crate) fn spans_of(
     correction: &Correction,
 ) -> Result<Vec<Span>, AllocError> {
     match &correction.meant {
-        Meant::Node(_) => nodes_alike(alloc, document, correction.span),
+        Meant::Node(_) => nodes_alike(alloc, document.bytes, correction.span),
         _ => Vec::from_slice(alloc, &[correction.span]),
     }
 }
@@ -209,40 +208,28 @@ fn blanks_last(bytes: &[u8]) -> usize {
 }
 
 /// Where calls are made on a node of the name that stands there, or make it, from there on.
-fn nodes_alike(
-    alloc: Global,
-    document: &Document<'_>,
-    first: Span,
-) -> Result<Vec<Span>, AllocError> {
+fn nodes_alike(alloc: Global, bytes: &[u8], first: Span) -> Result<Vec<Span>, AllocError> {
     let mut spans = Vec::new(alloc);
-    let calls = document.at(&[Step::Key("calls")]).and_then(Value::as_array);
-    let Some(calls) = calls else {
-        return Ok(spans);
-    };
-    for index in 0..calls.len() {
-        add_alike(&mut spans, document, index, "on", first)?;
-        add_alike(&mut spans, document, index, "as", first)?;
+    let name = first.within(bytes);
+    for start in first.start..bytes.len() {
+        let end = start.saturating_add(name.len());
+        if bytes.get(start..end) == Some(name) && names_node(bytes, start) {
+            spans.push(Span { start, end })?;
+        }
     }
     Ok(spans)
 }
 
-/// Adds where a member of the call of an index stands, if it is written like a part of the text
-/// and comes not before it.
-fn add_alike(
-    spans: &mut Vec<Span>,
-    document: &Document<'_>,
-    index: usize,
-    key: &str,
-    first: Span,
-) -> Result<(), AllocError> {
-    let path = [Step::Key("calls"), Step::Item(index), Step::Key(key)];
-    if let Some(span) = document.span(*spans.allocator(), &path, RecordPart::Value)?
-        && span.start >= first.start
-        && span.within(document.bytes) == first.within(document.bytes)
-    {
-        spans.push(span)?;
+/// Whether the value at a place of a text is that of a key `on` or `as`.
+fn names_node(bytes: &[u8], at: usize) -> bool {
+    let before = bytes.get(..at).unwrap_or(&[]).trim_ascii_end();
+    match before.strip_suffix(b":") {
+        Some(key) => {
+            let key = key.trim_ascii_end();
+            key.ends_with(b"\"on\"") || key.ends_with(b"\"as\"")
+        }
+        None => false,
     }
-    Ok(())
 }
 
 /// What stands between quotes, or all where none do.

@@ -1,5 +1,5 @@
-//! What isn't chosen in a decision that would come: who refuses what stands before it, and what
-//! would do too but stands after it.
+//! What is told of a decision that would come: how many buffers there are, who refuses what stands
+//! before it, and what would do too but stands after it.
 
 use domain_reasons::add_domain;
 use explanation_text::{Item, Items, Label};
@@ -10,9 +10,9 @@ use std::alloc::{AllocError, Global};
 /// How many lines are told.
 const MOST: usize = 12;
 
-/// Tells of the domain of an index, which is chosen, why children, places and offers before those
-/// that are chosen aren't, and which later ones would do too. It stands as deep as the decision,
-/// and right after the choice of children if there is one.
+/// Tells of the domain of an index, which is chosen, why there are so many buffers, why children,
+/// places and offers before those that are chosen aren't, and which later ones would do too. It
+/// stands as deep as the decision, and right after the choice of children if there is one.
 pub(crate) fn add_not_chosen(
     items: &mut Items,
     scenario: &Scenario<'_>,
@@ -60,8 +60,12 @@ impl Kept {
         self.items.add(item)
     }
 
-    /// Begins with an item that others may stand below.
+    /// Begins with an item that others may stand below; keeps how many buffers there are, and why.
     fn begin(&mut self, item: Item) {
+        if item.label == Label::Count {
+            self.is_open = false;
+            return self.items.add(item);
+        }
         let has_head = item.label == Label::Place || item.label == Label::Image;
         self.is_open = has_head || item.label == Label::Choice;
         self.is_on_image = item.label == Label::Image;

@@ -12,12 +12,15 @@ use sysmem_tree::{ActionKind, NodeKind, Refusal};
 /// How many calls may be missing.
 const MOST: usize = 4;
 
-/// A call that is missing on a node right before the call of a number.
+/// A call that is missing on a node.
 #[derive(Clone, Copy)]
 struct MissingCall {
     kind: ActionKind,
     node: usize,
+    /// The call that it is to stand right before, by number.
     before: usize,
+    /// The call that was refused since it is missing, by number.
+    refused: usize,
 }
 
 /// Tells which calls are missing since later ones were refused, if some are, and gives the script in
@@ -69,22 +72,34 @@ fn missing_for(
     let Some(node) = call.node else {
         return Ok(None);
     };
-    if !call.is_refused_as(Refusal::WrongState) || is_over(story, node, number) {
+    let is_refused = call.is_refused_as(Refusal::WrongState)
+        || call.is_refused_as(Refusal::NoChildren);
+    if !is_refused || is_over(story, node, number) {
         return Ok(None);
     }
     let (kind, before) = match (call.act, story.kind_before(node, usize::MAX)) {
         (Act::SetConstraints(_) | Act::AttachToken(_), NodeKind::Token) => {
             (ActionKind::Bind, first_early(story, node))
         }
-        (Act::Release, NodeKind::Group) if is_grown(alloc, story, node, number)? => {
-            (ActionKind::AllChildrenPresent, number)
+        (Act::Release | Act::AllChildrenPresent, NodeKind::Group) => {
+            let last = last_child(alloc, story, node)?;
+            (
+                ActionKind::AllChildrenPresent,
+                last.saturating_add(1).max(number),
+            )
         }
         _ => return Ok(None),
     };
-    if is_called(story, node, kind) {
+    let is_other = is_called(story, node, kind) || is_for_others(story, node, before);
+    if is_other || before > story.calls.len() {
         return Ok(None);
     }
-    Ok(Some(MissingCall { kind, node, before }))
+    Ok(Some(MissingCall {
+        kind,
+        node,
+        before,
+        refused: number,
+    }))
 }
 
 /// Whether a node is gone before the call of a number, or its domain has its end by then.
@@ -113,26 +128,34 @@ fn first_early(story: &Story<'_>, node: usize) -> usize {
     usize::MAX
 }
 
-/// Whether a group has children, and all of them before the call of a number.
-fn is_grown(
-    alloc: Global,
-    story: &Story<'_>,
-    group: usize,
-    number: usize,
-) -> Result<bool, AllocError> {
-    let children = story.children(alloc, group)?;
-    for child in &children {
-        if matches!(story.maker(*child), Some(made) if made > number) {
-            return Ok(false);
-        }
+/// The call that makes the last child of a group, by number; beyond all where it has none.
+fn last_child(alloc: Global, story: &Story<'_>, group: usize) -> Result<usize, AllocError> {
+    match story.children(alloc, group)?.last() {
+        Some(child) => Ok(story.maker(*child).unwrap_or(usize::MAX)),
+        None => Ok(usize::MAX),
     }
-    Ok(!children.is_empty())
 }
 
-/// Whether such a call is made on a node anywhere, and be it refused.
+/// Whether such a call is made on a node anywhere, and be it refused, but for one on a group that has
+/// no child yet.
 fn is_called(story: &Story<'_>, node: usize, kind: ActionKind) -> bool {
     for call in &story.calls {
-        if call.node == Some(node) && kind_of(&call.act) == Some(kind) {
+        let is_early = call.is_refused_as(Refusal::NoChildren);
+        if call.node == Some(node) && kind_of(&call.act) == Some(kind) && !is_early {
+            return true;
+        }
+    }
+    false
+}
+
+/// Whether a node is a token that is there to make others: some later than the call of a number, or
+/// some at all where it is released then. It isn't meant to be bound.
+fn is_for_others(story: &Story<'_>, node: usize, number: usize) -> bool {
+    let ends = story.milestone(node, Milestone::End).is_some();
+    for (index, call) in story.calls.iter().enumerate() {
+        let is_later = index.saturating_add(1) > number;
+        let makes = matches!(call.act, Act::Duplicate(_) | Act::CreateGroup(_));
+        if makes && call.node == Some(node) && call.is_accepted() && (ends || is_later) {
             return true;
         }
     }
@@ -172,45 +195,51 @@ fn all_made(
 ) -> Result<Vec<Value>, AllocError> {
     let mut list = ListBuilder::new(alloc);
     for (index, call) in calls.iter().enumerate() {
-        make_before(&mut list, story, missing, call, index.saturating_add(1))?;
+        make_before(&mut list, calls, story, missing, index.saturating_add(1))?;
         list.add(call.clone()?);
     }
     list.done()
 }
 
-/// Adds those of the missing calls that come before this call, which has this number.
+/// Adds those of the missing calls that stand right before the call of a number.
 fn make_before(
     list: &mut ListBuilder<Value>,
+    calls: &[Value],
     story: &Story<'_>,
     missing: &[MissingCall],
-    call: &Value,
     number: usize,
 ) -> Result<(), AllocError> {
     for one in missing {
         if one.before == number {
-            let made = made_by(list.alloc(), story, *one, call.get("actor"))?;
+            let made = made_of(list.alloc(), calls, story, *one)?;
             list.add(made);
         }
     }
     Ok(())
 }
 
-/// A missing call, made by this actor if one is named.
-fn made_by(
+/// A missing call as JSON, by the actor that the refused one names, if it names one.
+fn made_of(
     alloc: Global,
+    calls: &[Value],
     story: &Story<'_>,
     one: MissingCall,
-    actor: Option<&Value>,
 ) -> Result<Value, AllocError> {
     let mut members = Map::new(alloc);
     let kind = Value::try_from_str(alloc, one.kind.name())?;
     put(&mut members, alloc, "call", kind)?;
     let name = Value::try_from_str(alloc, story.name(one.node))?;
     put(&mut members, alloc, "on", name)?;
-    if let Some(actor) = actor {
+    let refused = calls.get(one.refused.saturating_sub(1));
+    if let Some(actor) = refused.and_then(actor_in) {
         put(&mut members, alloc, "actor", actor.clone()?)?;
     }
     Ok(Value::Object(members))
+}
+
+/// The actor that a call names.
+fn actor_in(call: &Value) -> Option<&Value> {
+    call.get("actor")
 }
 
 /// Tells which calls are made before which.

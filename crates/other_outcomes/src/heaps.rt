@@ -1,77 +1,106 @@
-//! A platform one of whose heaps is contiguous or secure, where participants need that.
+//! A platform one of whose heaps is contiguous or secure, where participants need that, or has a
+//! coherency domain more.
 
 use crate::platforms::{heaps_of, outcome_on};
 use explanation_text::{Items, Label, TextBuilder};
 use script_story::{Outcome, Scenario};
 use std::alloc::{AllocError, Global};
-use sysmem_memory::Heap;
+use sysmem_memory::{CoherencyDomain, Heap, HeapInfo};
 use value_sources::NamedParticipant;
 
-/// What memory may be.
+/// How many heaps are told of which something is wanted.
+const MOST: usize = 2;
+
+/// What a heap may be, or have.
 #[derive(Clone, Copy)]
 enum Trait {
     Contiguous,
     Secure,
+    Domain(CoherencyDomain),
 }
 
 impl Trait {
-    fn name(self) -> &'static str {
-        match self {
-            Trait::Contiguous => "contiguous",
-            Trait::Secure => "secure",
-        }
-    }
+    const ALL: [Trait; 5] = [
+        Trait::Contiguous,
+        Trait::Secure,
+        Trait::Domain(CoherencyDomain::Cpu),
+        Trait::Domain(CoherencyDomain::Ram),
+        Trait::Domain(CoherencyDomain::Inaccessible),
+    ];
 
-    /// Whether a participant needs memory to be so.
-    fn is_needed(self, participant: &NamedParticipant<'_>) -> bool {
+    /// Whether a participant needs it, or of a domain accepts it.
+    fn is_wanted(self, participant: &NamedParticipant<'_>) -> bool {
         let memory = participant.asked.memory();
         match self {
             Trait::Contiguous => memory.physically_contiguous_required,
             Trait::Secure => memory.secure_required,
+            Trait::Domain(CoherencyDomain::Cpu) => memory.cpu_domain_supported,
+            Trait::Domain(CoherencyDomain::Ram) => memory.ram_domain_supported,
+            Trait::Domain(CoherencyDomain::Inaccessible) => memory.inaccessible_domain_supported,
         }
     }
 
-    /// Whether one of some participants needs memory to be so.
-    fn is_needed_by_one(self, participants: &[NamedParticipant<'_>]) -> bool {
+    /// Whether one of some participants needs it; of a domain, whether each accepts it.
+    fn is_wanted_of(self, participants: &[NamedParticipant<'_>]) -> bool {
+        let mut is_of_one = false;
+        let mut is_of_all = true;
         for participant in participants {
-            if self.is_needed(participant) {
-                return true;
-            }
+            let is_wanted = self.is_wanted(participant);
+            is_of_one = is_of_one || is_wanted;
+            is_of_all = is_of_all && is_wanted;
         }
-        false
+        match self {
+            Trait::Domain(_) => is_of_one && is_of_all,
+            _ => is_of_one,
+        }
+    }
+
+    /// What says of a heap whether it is so.
+    fn flag_in(self, info: &mut HeapInfo) -> &mut bool {
+        match self {
+            Trait::Contiguous => &mut info.contiguous,
+            Trait::Secure => &mut info.secure,
+            Trait::Domain(CoherencyDomain::Cpu) => &mut info.domains.cpu,
+            Trait::Domain(CoherencyDomain::Ram) => &mut info.domains.ram,
+            Trait::Domain(CoherencyDomain::Inaccessible) => &mut info.domains.inaccessible,
+        }
     }
 }
 
-/// Tells the first heap with which the domain at a path would have settings if it were contiguous,
-/// or secure, where participants need that and the platform doesn't say it; and what would be
-/// decided then.
+/// Tells the first heaps with which the domain at a path would have settings if they were contiguous
+/// or secure, where participants need that, or had a coherency domain that all accept; and what
+/// would be decided then.
 pub fn add_heaps(
     items: &mut Items,
     scenario: &Scenario<'_>,
     path: &str,
     participants: &[NamedParticipant<'_>],
 ) -> Result<(), AllocError> {
-    for wanted in [Trait::Contiguous, Trait::Secure] {
-        if wanted.is_needed_by_one(participants) {
-            add_first(items, scenario, path, wanted)?;
+    for wanted in Trait::ALL {
+        if wanted.is_wanted_of(participants) {
+            add_firsts(items, scenario, path, wanted)?;
         }
     }
     Ok(())
 }
 
-/// Tells the first heap with which the domain at a path would have settings if it were so.
-fn add_first(
+/// Tells the first heaps with which the domain at a path would have settings if they were so.
+fn add_firsts(
     items: &mut Items,
     scenario: &Scenario<'_>,
     path: &str,
     wanted: Trait,
 ) -> Result<(), AllocError> {
     let alloc = items.alloc();
+    let mut count = 0usize;
     for (index, info) in scenario.platform.heaps().iter().enumerate() {
+        if count >= MOST || scenario.effort.is_spent() {
+            break;
+        }
         if let Some(outcome) = outcome_so(alloc, scenario, path, index, wanted)? {
             add_heap(items, &info.heap, wanted);
             outcome.promise(items, 2);
-            return Ok(());
+            count = count.saturating_add(1);
         }
     }
     Ok(())
@@ -80,8 +109,15 @@ fn add_first(
 fn add_heap(items: &mut Items, heap: &Heap, wanted: Trait) {
     let mut words = TextBuilder::of(items.alloc(), "with ");
     words.put(&heap.heap_type).put("#").put_number(heap.id);
-    words.put(" ").put(wanted.name());
-    words.put(" on the platform, which doesn't say so, it would be:");
+    match wanted {
+        Trait::Contiguous => words.put(" contiguous on the platform, which doesn't say so,"),
+        Trait::Secure => words.put(" secure on the platform, which doesn't say so,"),
+        Trait::Domain(domain) => words
+            .put(" ")
+            .put(domain.name())
+            .put(" on the platform, which doesn't have it,"),
+    };
+    words.put(" it would be:");
     items.say(1, Label::Then, words)
 }
 
@@ -98,10 +134,7 @@ fn outcome_so(
     let Some(info) = heaps.get_mut(index) else {
         return Ok(None);
     };
-    let has = match wanted {
-        Trait::Contiguous => &mut info.contiguous,
-        Trait::Secure => &mut info.secure,
-    };
+    let has = wanted.flag_in(info);
     if *has {
         return Ok(None);
     }

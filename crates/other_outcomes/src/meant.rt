@@ -43,7 +43,7 @@ fn meant_in(alloc: Global, story: &Story<'_>) -> Result<Vec<MeantCall>, AllocErr
     let mut meant = ListBuilder::new(alloc);
     for (index, call) in story.calls.iter().enumerate() {
         let number = index.saturating_add(1);
-        if !call.is_refused_as(Refusal::WrongState) {
+        if !call.is_refused_as(Refusal::WrongState) || is_too_early(story, call, number) {
             continue;
         }
         let nodes = suited(alloc, story, call, number)?;
@@ -55,6 +55,18 @@ fn meant_in(alloc: Global, story: &Story<'_>) -> Result<Vec<MeantCall>, AllocErr
         }
     }
     meant.done()
+}
+
+/// Whether its actor binds the node on which the call of a number is made later on: the call stands
+/// too early then.
+fn is_too_early(story: &Story<'_>, call: &MadeCall<'_>, number: usize) -> bool {
+    match call
+        .node
+        .and_then(|node| story.milestone(node, Milestone::Bind))
+    {
+        Some(bound) => number < bound && story.actor(bound) == call.actor,
+        None => false,
+    }
 }
 
 /// Whether a call is made on an open token, before the call of a number.

@@ -3,28 +3,31 @@
 use crate::otherwise::Otherwise;
 use domain_reasons::who_holds_up;
 use explanation_text::wording::{MOST_NAMES, put_few};
-use explanation_text::{Items, Label, Name, TextBuilder};
+use explanation_text::{Items, Label, ListBuilder, Text, TextBuilder};
 use script_reading::{Act, Call};
 use script_story::{Became, Scenario, Story};
 use std::alloc::{AllocError, Global};
 
+/// The name of a child that is made of a group without one.
+const CHILD: &str = "a_child";
+
 /// Tells what the domain of an index would be if nobody who is awaited stated anything, and says
-/// with which calls. Groups without a child are left out: a child would be made up.
+/// with which calls. It isn't told where a call on one of them is to be corrected first, which is
+/// told of groups elsewhere if it's said so.
 pub fn add_without<'a>(
     items: &mut Items,
     scenario: &Scenario<'a>,
     story: &Story<'a>,
     index: usize,
     path: &str,
+    are_groups_told: bool,
 ) -> Result<Option<Otherwise<'a>>, AllocError> {
-    let awaited = who_holds_up(items.alloc(), story, index)?;
+    let awaited = who_holds_up(items.alloc(), story, index, are_groups_told)?;
     if awaited.is_empty() || scenario.effort.is_spent() {
         return Ok(None);
     }
-    match without(items.alloc(), scenario, story, &awaited)? {
-        Some(calls) => add_with(items, scenario, story, &awaited, calls, path),
-        None => Ok(None),
-    }
+    let calls = without(items.alloc(), scenario, story, &awaited)?;
+    add_with(items, scenario, story, &awaited, calls, path)
 }
 
 /// Tells what the domain at a path would be with these calls, by which nobody is awaited.
@@ -81,79 +84,110 @@ fn put_ended(
     Ok(())
 }
 
-/// Puts those that are groups and would be complete, or the others, which would be released, after
-/// a text with a mark, and says whether there are some.
+/// Puts those that would be complete, or those that would be released, after a text with a mark, and
+/// says whether there are some.
 fn put_those(
     text: &mut TextBuilder,
     story: &Story<'_>,
     awaited: &[usize],
-    are_groups: bool,
+    are_complete: bool,
     mark: &str,
 ) -> Result<bool, AllocError> {
-    let names = names_of(text.alloc(), story, awaited, are_groups)?;
+    let names = names_of(text.alloc(), story, awaited, are_complete)?;
     if names.is_empty() {
         return Ok(false);
     }
     text.put(mark);
     put_few(text, &names, MOST_NAMES);
-    text.put(if are_groups { " complete" } else { " released" });
+    text.put(if are_complete {
+        " complete"
+    } else {
+        " released"
+    });
     Ok(true)
 }
 
-/// The names of those that are groups, or of the others.
-fn names_of<'a>(
+/// The names of those that are groups, or of the others and of the children of groups without one.
+fn names_of(
     alloc: Global,
-    story: &Story<'a>,
+    story: &Story<'_>,
     nodes: &[usize],
     are_groups: bool,
-) -> Result<Vec<Name<'a>>, AllocError> {
-    let mut names = Vec::new(alloc);
+) -> Result<Vec<Text>, AllocError> {
+    let mut names = ListBuilder::new(alloc);
     for node in nodes {
+        let called = story.called(*node);
         if story.is_group(*node) == are_groups {
-            names.push(story.called(*node))?;
+            names.add_text(TextBuilder::of_name(alloc, called));
+        } else if !are_groups && is_childless(story, *node) {
+            let mut words = TextBuilder::of(alloc, "a child of ");
+            words.name(called);
+            names.add_text(words);
         }
     }
-    Ok(names)
+    names.done()
+}
+
+/// Whether a group has no child.
+fn is_childless(story: &Story<'_>, group: usize) -> bool {
+    for node in &story.nodes {
+        if node.parent == Some(group) {
+            return false;
+        }
+    }
+    true
 }
 
 /// The script's calls with those after them that end what is awaited: tokens and collections are
-/// released, groups complete, the innermost first. `None` where a group has no child.
+/// released, groups complete, the innermost first. A group without a child gets one, which is
+/// released.
 fn without<'a>(
     alloc: Global,
     scenario: &Scenario<'a>,
     story: &Story<'a>,
     awaited: &[usize],
-) -> Result<Option<Vec<Call<'a>>>, AllocError> {
+) -> Result<Vec<Call<'a>>, AllocError> {
     let mut calls: Vec<Call<'a>> = Vec::from_slice(alloc, scenario.calls)?;
     for one in awaited {
         if !story.is_group(*one) {
             calls.push(call_on(story, *one, Act::Release))?;
+        } else if is_childless(story, *one) {
+            add_child(&mut calls, story, *one)?;
         }
     }
-    if complete(&mut calls, story, awaited)? {
-        Ok(Some(calls))
-    } else {
-        Ok(None)
-    }
+    complete(&mut calls, story, awaited)?;
+    Ok(calls)
 }
 
-/// Puts a call after the calls for each group that is awaited, and says whether each has a child.
+/// Puts calls after the calls that make a child of a group and release it.
+fn add_child<'a>(
+    calls: &mut Vec<Call<'a>>,
+    story: &Story<'a>,
+    group: usize,
+) -> Result<(), AllocError> {
+    calls.push(call_on(story, group, Act::CreateChild(CHILD)))?;
+    let place = last_place(calls);
+    calls.push(Call {
+        act: Act::Release,
+        on: CHILD,
+        place,
+        actor: 0,
+    })?;
+    Ok(())
+}
+
+/// Puts a call after the calls for each group that is awaited.
 fn complete<'a>(
     calls: &mut Vec<Call<'a>>,
     story: &Story<'a>,
     awaited: &[usize],
-) -> Result<bool, AllocError> {
-    let alloc = *calls.allocator();
+) -> Result<(), AllocError> {
     for one in awaited.iter().rev() {
-        if !story.is_group(*one) {
-            continue;
+        if story.is_group(*one) {
+            calls.push(call_on(story, *one, Act::AllChildrenPresent))?;
         }
-        if story.children(alloc, *one)?.is_empty() {
-            return Ok(false);
-        }
-        calls.push(call_on(story, *one, Act::AllChildrenPresent))?;
     }
-    Ok(true)
+    Ok(())
 }
 
 /// A call of this act on a node.
@@ -168,6 +202,17 @@ fn call_on<'a>(story: &Story<'a>, node: usize, act: Act<'a>) -> Call<'a> {
         place,
         actor: 0,
     }
+}
+
+/// The place of the last name that calls make; the root's where they make none.
+fn last_place(calls: &[Call<'_>]) -> usize {
+    let mut place = 0usize;
+    for call in calls {
+        if call.act.name_made().is_some() {
+            place = place.saturating_add(1);
+        }
+    }
+    place
 }
 
 /// The place of the name that the call of a number makes; the root's where there is none.

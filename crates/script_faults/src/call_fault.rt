@@ -92,7 +92,8 @@ impl<'a> Faulty<'a, '_> {
                 words.put(" is missing");
                 document.tell(items, 1, &path, RecordPart::Begin, words, Help::of(help));
                 if let Some(name) = self.meant_by(alloc, key)? {
-                    document.add_member(items, &path, key, name);
+                    let written = format!(in alloc; "\"{name}\"")?;
+                    document.add_member(items, &path, key, &written);
                 }
             }
         }
@@ -467,9 +468,10 @@ fn add_shared(items: &mut Items, faulty: Faulty<'_, '_>) -> Result<(), AllocErro
 /// Keeps that a call is likely meant to be made by this actor.
 fn mean_actor(items: &mut Items, faulty: Faulty<'_, '_>, actor: &str) -> Result<(), AllocError> {
     if faulty.call.get("actor").is_none() {
+        let written = format!(in items.alloc(); "\"{actor}\"")?;
         faulty
             .document
-            .add_member(items, &faulty.path(), "actor", actor);
+            .add_member(items, &faulty.path(), "actor", &written);
         return Ok(());
     }
     let name = String::from_str(items.alloc(), actor)?;

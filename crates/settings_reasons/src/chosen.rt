@@ -153,8 +153,8 @@ fn add_later_places(
 fn add_later(items: &mut Items, names: &[Text]) {
     let end = match names.len() {
         0 => return,
-        1 => " would do too, but stands after it",
-        _ => " would do too, but stand after it",
+        1 => " would do too, but stands after it on the platform",
+        _ => " would do too, but stand after it on the platform",
     };
     let mut words = TextBuilder::new(items.alloc());
     put_few(&mut words, names, MOST_NAMES);

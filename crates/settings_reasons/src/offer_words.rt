@@ -204,11 +204,11 @@ fn put_colour_names(text: &mut TextBuilder, colours: ColourSet) {
 
 /// Puts that nobody names a part of an image's name after a text.
 fn put_unnamed(text: &mut TextBuilder, participants: &[NamedParticipant<'_>], what: &str) {
-    put_has(text, participants, "takes", "take");
-    text.put(" any ")
-        .put(what)
-        .put(", but nobody names the ")
-        .put(what);
+    if !participants.is_empty() {
+        put_has(text, participants, "takes", "take");
+        text.put(" any ").put(what).put(", but ");
+    }
+    text.put("nobody names the ").put(what);
 }
 
 /// Puts that a least size is above what somebody will put after a text.

@@ -100,7 +100,9 @@ fn comment_at(bytes: &[u8], at: usize) -> Option<Span> {
             .position(|two| two == b"*/".as_slice())?
             .saturating_add(2)
     } else if text.starts_with(b"//") || text.starts_with(b"#") {
-        first_of(text, |byte| byte == b'\n')
+        text.iter()
+            .position(|byte| *byte == b'\n')
+            .unwrap_or(text.len())
     } else {
         return None;
     };
@@ -253,7 +255,9 @@ fn comma_before(bytes: &[u8], at: usize) -> Option<Correction> {
 fn single_quoted(bytes: &[u8], at: usize) -> Option<Correction> {
     let start = at.saturating_add(1);
     let text = bytes.get(start..).unwrap_or(&[]);
-    let length = first_of(text, |byte| matches!(byte, b'\'' | b'\n' | b'"'));
+    let length = text
+        .iter()
+        .position(|byte| matches!(*byte, b'\'' | b'\n' | b'"'))?;
     if text.get(length).copied() != Some(b'\'') {
         return None;
     }
@@ -296,17 +300,12 @@ fn word_at(bytes: &[u8], at: usize) -> Span {
         None => 0,
     };
     let behind = bytes.get(at..).unwrap_or(&[]);
-    let length = first_of(behind, |byte| !is_word_byte(byte));
+    let length = behind
+        .iter()
+        .position(|byte| !is_word_byte(*byte))
+        .unwrap_or(behind.len());
     Span {
         start,
         end: at.saturating_add(length),
     }
-}
-
-/// The index of the first byte of which something holds, or how many there are.
-fn first_of<P: Fn(u8) -> bool>(bytes: &[u8], holds: P) -> usize {
-    bytes
-        .iter()
-        .position(|byte| holds(*byte))
-        .unwrap_or(bytes.len())
 }

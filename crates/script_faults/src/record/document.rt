@@ -185,27 +185,34 @@ impl<'a> Document<'a> {
         }
     }
 
-    /// Keeps with the last item that the object at a path may lack a member with this text.
-    pub(crate) fn add_member(&self, items: &mut Items, path: &[Step<'_>], key: &str, text: &str) {
-        match self.member_of(items.alloc(), path, key, text) {
+    /// Keeps with the last item that the object at a path may lack a member with this value, which
+    /// is written as JSON.
+    pub(crate) fn add_member(
+        &self,
+        items: &mut Items,
+        path: &[Step<'_>],
+        key: &str,
+        written: &str,
+    ) {
+        match self.member_of(items.alloc(), path, key, written) {
             Ok(Some(correction)) => items.correct(correction),
             Ok(None) => {}
             Err(AllocError) => items.refuse(),
         }
     }
 
-    /// A member with this text, before the others of the object at a path.
+    /// A member with this value, before the others of the object at a path.
     fn member_of(
         &self,
         alloc: Global,
         path: &[Step<'_>],
         key: &str,
-        text: &str,
+        written: &str,
     ) -> Result<Option<Correction>, AllocError> {
         let Some(at) = self.first_place(alloc, path)? else {
             return Ok(None);
         };
-        let member = format!(in alloc; "\"{key}\": \"{text}\", ")?;
+        let member = format!(in alloc; "\"{key}\": {written}, ")?;
         Ok(Some(Correction {
             span: Span { start: at, end: at },
             meant: Meant::Written(member),

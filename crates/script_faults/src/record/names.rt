@@ -102,6 +102,20 @@ const COLOURS_OF_WORDS: Table = &[
     ("BT.601", "REC601_NTSC or REC601_PAL"),
 ];
 
+const DOMAINS_OF_WORDS: Table = &[
+    ("secure", "inaccessible"),
+    ("protected", "inaccessible"),
+    ("private", "inaccessible"),
+    ("none", "inaccessible"),
+    ("dma", "ram"),
+    ("device", "ram"),
+    ("uncached", "ram"),
+    ("RAM", "ram"),
+    ("cached", "cpu"),
+    ("host", "cpu"),
+    ("CPU", "cpu"),
+];
+
 /// Other people's names for those that a field takes, each with the name of the profile; of formats
 /// see `FORMATS_OF_DRM`.
 fn others_for(field: Field) -> Table {
@@ -109,6 +123,7 @@ fn others_for(field: Field) -> Table {
         Field::PixelFormatModifier => MODIFIERS_OF_DRM,
         Field::Usage => USAGES_OF_WORDS,
         Field::ColorSpaces => COLOURS_OF_WORDS,
+        Field::Domains => DOMAINS_OF_WORDS,
         _ => &[],
     }
 }

@@ -130,8 +130,25 @@ fn add_missing(items: &mut Items, faulty: Faulty<'_, '_>) {
         note,
         Help::of(help),
     );
+    if at == FaultPlace::At(Field::ColorSpaces) && !faulty.is_platform {
+        add_colours(items, faulty, object)
+    }
     if let Some(Step::Item(_)) = object.last() {
         leave_out(items, faulty, object)
+    }
+}
+
+/// Keeps that an entry may be meant to have the colour spaces of the platform.
+fn add_colours(items: &mut Items, faulty: Faulty<'_, '_>, entry: &[Step<'_>]) {
+    let key = Field::ColorSpaces.name();
+    let path = [Step::Key("platform"), Step::Key(key)];
+    let document = faulty.document;
+    match document.written(items.alloc(), &path) {
+        Ok(written) => match std::str::from_utf8(written) {
+            Ok(colours) if !colours.is_empty() => document.add_member(items, entry, key, colours),
+            _ => {}
+        },
+        Err(AllocError) => items.refuse(),
     }
 }
 
@@ -224,8 +241,24 @@ fn move_to(
 /// Keeps that what stands at a path of a record may be left out, where nothing else is known of
 /// what may be meant.
 fn leave_out(items: &mut Items, faulty: Faulty<'_, '_>, path: &[Step<'_>]) {
+    let path = if is_alone(faulty.document, path) {
+        path.get(..path.len().saturating_sub(1)).unwrap_or(path)
+    } else {
+        path
+    };
     if faulty.base.len() < path.len() && !items.is_corrected() {
         faulty.document.leave_out(items, path)
+    }
+}
+
+/// Whether what stands at a path is the only item of its list.
+fn is_alone(document: &Document<'_>, path: &[Step<'_>]) -> bool {
+    let Some((Step::Item(_), list)) = path.split_last() else {
+        return false;
+    };
+    match document.at(list).and_then(Value::as_array) {
+        Some(items) => items.len() == 1,
+        None => false,
     }
 }
 
