@@ -17,6 +17,9 @@ use script_story::{Became, Effort, Scenario, Story, list_refused, story_of};
 use serde_json::Value;
 use std::alloc::{AllocError, Global};
 
+/// How many lines are told of the answer and of calls that are refused.
+const MOST: usize = 13;
+
 /// What may be meant where faults are shown; nothing where of one of them that isn't known.
 fn corrections_in<'b>(alloc: Global, shown: &'b [Item]) -> Result<Vec<&'b Correction>, AllocError> {
     let mut all = Vec::new(alloc);
@@ -228,7 +231,7 @@ pub(crate) fn add_answer(
             let mut below = Items::new(alloc);
             let _is_told = add_corrected(&mut below, document, &shown, effort, now, levels)?;
             add_shown(items, shown);
-            add_deeper(items, below)
+            add_one_deeper(items, below)
         }
     }
 }
@@ -259,7 +262,7 @@ fn add_shown(items: &mut Items, shown: Vec<Item>) {
 }
 
 /// Puts items one deeper after others.
-fn add_deeper(items: &mut Items, below: Items) -> Result<(), AllocError> {
+fn add_one_deeper(items: &mut Items, below: Items) -> Result<(), AllocError> {
     for mut item in below.into_list()? {
         item.depth = item.depth.saturating_add(1);
         items.add(item);
@@ -291,21 +294,39 @@ fn add_script<'a>(
     }
     let story = story_of(alloc, document.value, &script.calls, &told)?;
     let mut below = Items::new(alloc);
-    let shown = refused_in(alloc, document, &story)?;
+    let shown = shown_calls(alloc, document, &story)?;
     if add_corrected(&mut below, document, &shown, Some(effort), now, levels)? {
         items.say(2, Label::Plain, answer_of(alloc, &story));
         add_shown(items, shown);
-        return add_deeper(items, below);
+        return add_one_deeper(items, below);
     }
-    add_in_short(items, &story)?;
+    add_few(items, &story)?;
     if add_called_otherwise(&mut below, document, &scenario, &story, levels)? {
-        return add_deeper(items, below);
+        return add_one_deeper(items, below);
     }
     add_domains_then(items, document, &scenario, &story, now)
 }
 
+/// Tells the answer of a story, and which calls are refused: the first of them where there are many.
+fn add_few(items: &mut Items, story: &Story<'_>) -> Result<(), AllocError> {
+    let mut short = Items::new(items.alloc());
+    add_in_short(&mut short, story)?;
+    let more = short.len().saturating_sub(MOST);
+    for (k, item) in short.into_list()?.into_iter().enumerate() {
+        if k < MOST {
+            items.add(item);
+        }
+    }
+    if more > 0 {
+        let mut words = TextBuilder::of(items.alloc(), "and ");
+        words.put_number(more).put(" more");
+        items.say(2, Label::Plain, words);
+    }
+    Ok(())
+}
+
 /// What is told of the calls that were refused.
-fn refused_in(
+fn shown_calls(
     alloc: Global,
     document: &Document<'_>,
     story: &Story<'_>,

@@ -1,7 +1,8 @@
 //! The text of a script in which parts are corrected.
 
-use explanation_text::{Correction, Meant, Moved, Span};
+use explanation_text::{Correction, Meant, Moved, Span, Step};
 use script_faults::Document;
+use serde_json::Value;
 use std::alloc::{AllocError, Global};
 
 /// A part of a text, and what stands there instead.
@@ -11,7 +12,8 @@ struct Replaced {
     by: Vec<u8>,
 }
 
-/// The script with what is meant; `None` where two corrections are of one part.
+/// The script with what is meant, whose lines stay where they are; `None` where two corrections are
+/// of one part, or one can't be meant.
 pub(crate) fn mended(
     alloc: Global,
     document: &Document<'_>,
@@ -19,9 +21,55 @@ pub(crate) fn mended(
 ) -> Result<Option<Vec<u8>>, AllocError> {
     let mut parts: Vec<Replaced> = Vec::new(alloc);
     for one in corrections {
+        if !may_be_meant(document, *one) {
+            return Ok(None);
+        }
+        let before = parts.len();
         add_parts(&mut parts, document, *one)?;
+        if parts.len() == before {
+            return Ok(None);
+        }
     }
     with_parts(alloc, document.bytes, &parts)
+}
+
+/// Whether a correction may be meant: a name is nobody else's, a number stands alone, and a member
+/// that is added is one.
+fn may_be_meant(document: &Document<'_>, one: &Correction) -> bool {
+    let was = one.span.within(document.bytes);
+    match &one.meant {
+        Meant::Node(name) => !is_no_name(unquoted(was)) || !is_made(document, name),
+        Meant::Number(_) if was.starts_with(b"0x") || was.starts_with(b"0X") => {
+            let before = document.bytes.get(..one.span.start).unwrap_or(&[]);
+            !matches!(before.last(), Some(last) if last.is_ascii_digit())
+        }
+        Meant::Written(text) => !text.contains('\\') && is_one_member(text),
+        _ => true,
+    }
+}
+
+/// Whether a text has what no name has, or nothing.
+fn is_no_name(bytes: &[u8]) -> bool {
+    bytes.is_empty()
+        || bytes.iter().any(|byte| !byte.is_ascii_alphanumeric() && *byte != b'_' && *byte != b'-')
+}
+
+/// Whether a call makes a name.
+fn is_made(document: &Document<'_>, name: &str) -> bool {
+    let calls = document.at(&[Step::Key("calls")]).and_then(Value::as_array);
+    match calls {
+        Some(calls) => calls.iter().any(|call| call.get("as").and_then(Value::as_str)
+            == Some(name)),
+        None => false,
+    }
+}
+
+/// Whether a text that is a member whose value is a name has the quotes of both, and no more.
+fn is_one_member(text: &str) -> bool {
+    !text.starts_with('"')
+        || text.contains('[')
+        || text.len() == 1
+        || text.bytes().filter(|byte| *byte == b'"').count() == 4
 }
 
 /// A text with parts replaced, which are in order; `None` where one begins before another ends.
@@ -44,11 +92,15 @@ fn with_parts(
     Ok(Some(made))
 }
 
-/// Adds a part to others, in the order of the text.
+/// Adds a part to others, in the order of the text; where two begin, first the one that is empty.
 fn add_part(parts: &mut Vec<Replaced>, span: Span, by: Vec<u8>) -> Result<(), AllocError> {
+    let is_empty = span.start == span.end;
     let place = parts
         .iter()
-        .position(|part| part.span.start > span.start)
+        .position(|part| {
+            part.span.start > span.start
+                || (is_empty && part.span.start == span.start && part.span.end > span.start)
+        })
         .unwrap_or(parts.len());
     parts.insert(place, Replaced { span, by })?;
     Ok(())
@@ -70,26 +122,57 @@ fn add_parts(
             }
             Ok(())
         }
-        Meant::Nothing => add_part(parts, with_comma(bytes, one.span), Vec::new(alloc)),
+        Meant::Nothing => cut(parts, bytes, with_comma(bytes, one.span)),
         Meant::Moved(moved) => {
-            add_part(parts, with_comma(bytes, one.span), Vec::new(alloc))?;
+            let gone = with_comma(bytes, one.span);
+            cut(parts, bytes, gone)?;
             for place in &moved.places {
-                add_part(
-                    parts,
-                    before(*place),
-                    member_at(bytes, *place, was, moved, alloc)?,
-                )?;
+                let is_last = ends_object(bytes, *place, gone);
+                let member = member_at(alloc, was, moved, is_last)?;
+                add_part(parts, before(*place), member)?;
             }
             Ok(())
         }
         Meant::Later { end, .. } => {
-            add_part(parts, with_comma(bytes, one.span), Vec::new(alloc))?;
-            let mut item = Vec::from_slice(alloc, b", ")?;
-            item.extend_from_slice(was)?;
-            add_part(parts, before(*end), item)
+            cut(parts, bytes, with_comma(bytes, one.span))?;
+            add_part(
+                parts,
+                before(*end),
+                between(alloc, b", ", &flat(alloc, was)?, b"")?,
+            )
         }
         _ => add_part(parts, one.span, instead(alloc, was, &one.meant)?),
     }
+}
+
+/// Adds a part that goes; its lines stay.
+fn cut(parts: &mut Vec<Replaced>, bytes: &[u8], span: Span) -> Result<(), AllocError> {
+    let ends = ends_of(*parts.allocator(), span.within(bytes))?;
+    add_part(parts, span, ends)
+}
+
+/// The ends of the lines of a text.
+fn ends_of(alloc: Global, bytes: &[u8]) -> Result<Vec<u8>, AllocError> {
+    let mut ends = Vec::new(alloc);
+    for byte in bytes {
+        if *byte == b'\n' {
+            ends.push(b'\n')?;
+        }
+    }
+    Ok(ends)
+}
+
+/// The same text of JSON in one line.
+fn flat(alloc: Global, bytes: &[u8]) -> Result<Vec<u8>, AllocError> {
+    let mut line = Vec::new(alloc);
+    for byte in bytes {
+        line.push(if *byte == b'\n' || *byte == b'\r' {
+            b' '
+        } else {
+            *byte
+        })?;
+    }
+    Ok(line)
 }
 
 /// Nothing, before a byte.
@@ -97,13 +180,28 @@ fn before(at: usize) -> Span {
     Span { start: at, end: at }
 }
 
-/// A member as it comes first at a place behind a bracket.
+/// Whether an object ends behind a place in it, once a part is gone.
+fn ends_object(bytes: &[u8], place: usize, gone: Span) -> bool {
+    let next = next_byte(bytes, place);
+    let next = if next == gone.start {
+        next_byte(bytes, gone.end)
+    } else {
+        next
+    };
+    bytes.get(next).copied() == Some(b'}')
+}
+
+/// The place of the first byte from one on that is no white space.
+fn next_byte(bytes: &[u8], place: usize) -> usize {
+    place.saturating_add(blanks_first(bytes.get(place..).unwrap_or(&[])))
+}
+
+/// A member as it comes first behind a bracket, and last or not.
 fn member_at(
-    bytes: &[u8],
-    place: usize,
+    alloc: Global,
     member: &[u8],
     moved: &Moved,
-    alloc: Global,
+    is_last: bool,
 ) -> Result<Vec<u8>, AllocError> {
     let mut made = Vec::new(alloc);
     if moved.is_new {
@@ -111,14 +209,12 @@ fn member_at(
         let front = format!(in alloc; "\"{key}\": {{")?;
         made.extend_from_slice(front.as_bytes())?;
     }
-    made.extend_from_slice(member)?;
+    made.extend_from_slice(&flat(alloc, member)?)?;
     if moved.is_new {
         made.push(b'}')?;
     }
-    let behind = bytes.get(place..).unwrap_or(&[]);
-    if behind.get(blanks_first(behind)).copied() != Some(b'}') {
-        made.push(b',')?;
-        made.push(b' ')?;
+    if !is_last {
+        made.extend_from_slice(b", ")?;
     }
     Ok(made)
 }
@@ -134,10 +230,12 @@ fn instead(alloc: Global, was: &[u8], meant: &Meant) -> Result<Vec<u8>, AllocErr
             Vec::from_slice(alloc, text.as_bytes())
         }
         Meant::Flag(_, is_set) => Vec::from_slice(alloc, flag_text(*is_set).as_bytes()),
-        Meant::Written(text) => Vec::from_slice(alloc, text.as_bytes()),
-        Meant::Moved(_) | Meant::Later { .. } | Meant::Nothing | Meant::Blank => {
-            Ok(Vec::new(alloc))
+        Meant::Written(text) => flat(alloc, text.as_bytes()),
+        Meant::Blank => {
+            let ends = ends_of(alloc, was)?;
+            between(alloc, b" ", &ends, b"")
         }
+        Meant::Moved(_) | Meant::Later { .. } | Meant::Nothing => Ok(Vec::new(alloc)),
     }
 }
 

@@ -2,11 +2,14 @@
 
 use crate::mended::{flag_text, spans_of, unquoted};
 use explanation_text::wording::{mark_after, put_visible};
-use explanation_text::{Correction, Meant, Owner, Span, TextBuilder, line_of};
+use explanation_text::{Correction, ListBuilder, Meant, Owner, Span, Text, TextBuilder, line_of};
 use script_faults::Document;
 use std::alloc::AllocError;
 use sysmem_counts::Field;
 use sysmem_formats::{Modifier, PixelFormat};
+
+/// How many lines of one correction are told: for each the text is gone through.
+const MOST_LINES: usize = 16;
 
 /// Puts what stands in the place of what after a text: `vulkan in the place of gpu (line 13)`.
 pub(crate) fn put_corrections(
@@ -74,6 +77,7 @@ fn put_part(text: &mut TextBuilder, was: &[u8]) {
         Some(b'{') => text.put("the object"),
         Some(b'[') => text.put("the list"),
         Some(b'/' | b'#') => text.put("the comment"),
+        Some(0xEF) => text.put("the byte order mark"),
         _ => return put_named(text, named_in(was)),
     };
 }
@@ -84,14 +88,25 @@ fn put_added(text: &mut TextBuilder, written: &str) {
         "," => text.put("a comma"),
         ":" => text.put("a colon"),
         "\"" => text.put("a double quote"),
-        _ => text.put(written.trim_end_matches(", ")),
+        _ => return put_flat(text, written.trim_end_matches(", ")),
     };
+}
+
+/// Puts a text of JSON in one line after a text.
+fn put_flat(text: &mut TextBuilder, written: &str) {
+    for (k, word) in written.split_ascii_whitespace().enumerate() {
+        text.put(if k > 0 { " " } else { "" });
+        put_visible(text, word);
+    }
 }
 
 /// Puts what is meant in the place of what after a text.
 fn put_replaced(text: &mut TextBuilder, meant: &Meant, was: &[u8]) {
     put_new(text, meant);
     text.put(" in the place of ");
+    if was.is_empty() {
+        text.put("an empty name");
+    }
     put_bytes(text, was)
 }
 
@@ -176,9 +191,17 @@ fn put_lines(text: &mut TextBuilder, bytes: &[u8], spans: &[Span]) {
     } else {
         " (line "
     });
-    for (k, span) in spans.iter().enumerate() {
+    let more = spans.len().saturating_sub(MOST_LINES);
+    let parts = spans
+        .len()
+        .min(MOST_LINES)
+        .saturating_add(usize::from(more > 0));
+    for (k, span) in spans.iter().take(MOST_LINES).enumerate() {
         let line = line_of(bytes, span.start.min(bytes.len()));
-        text.put_number(line).put(mark_after(k, spans.len()));
+        text.put_number(line).put(mark_after(k, parts));
+    }
+    if more > 0 {
+        text.put_number(more).put(" more");
     }
     text.put(")");
 }
