@@ -9,7 +9,7 @@ use crate::mended_words::put_corrections;
 use crate::not_chosen::add_not_chosen;
 use constraint_changes::put_choice;
 use domain_reasons::{add_in_short, add_shortly, answer_of, choices_in};
-use explanation_text::{Correction, Item, Items, Kind, Label, TextBuilder};
+use explanation_text::{Correction, Item, Items, Kind, Label, TextBuilder, repeated_keys};
 use other_outcomes::{list_added, list_meant, list_moved};
 use script_faults::{Document, add_fault};
 use script_reading::{ParseFault, Script, ScriptFault, parse_script, read_script};
@@ -79,7 +79,7 @@ fn add_corrected(
         value: &value,
         whole: document.whole,
     };
-    add_answer(items, &other, effort, now, levels)?;
+    add_answer(items, &other, effort, now, true, levels)?;
     Ok(true)
 }
 
@@ -100,12 +100,27 @@ fn meant_in(
     };
     match parse_script(alloc, &bytes) {
         Ok(value) => {
+            if has_more_repeats(alloc, document, &bytes, &value)? {
+                return Ok(None);
+            }
             add_meant(items, document, &corrections)?;
             Ok(Some((bytes, value)))
         }
         Err(ParseFault::NoMemory) => Err(AllocError),
         Err(ParseFault::Refused(_)) => Ok(None),
     }
+}
+
+/// Whether more keys are given twice than in the document, of the first ones.
+fn has_more_repeats(
+    alloc: Global,
+    document: &Document<'_>,
+    bytes: &[u8],
+    value: &Value,
+) -> Result<bool, AllocError> {
+    let before = repeated_keys(alloc, document.bytes, document.value, MOST)?;
+    let after = repeated_keys(alloc, bytes, value, MOST)?;
+    Ok(before.len() < after.len())
 }
 
 /// Tells what is corrected.
@@ -164,7 +179,7 @@ pub(crate) fn add_called_otherwise(
     } else {
         Some(said_in(story))
     };
-    add_answer(items, &other, Some(scenario.effort), now, levels)?;
+    add_answer(items, &other, Some(scenario.effort), now, false, levels)?;
     Ok(true)
 }
 
@@ -206,23 +221,24 @@ fn is_one_pending(story: &Story<'_>) -> bool {
 
 /// Tells the answer of a script, which of its calls are refused, what would help its domains, and
 /// what is chosen unless that is said now, or it isn't to be told as nothing is given for now; or
-/// that it is refused itself. What is tried costs of this, or as much as of a script by itself. The
-/// story goes on so often at most.
+/// that it is refused itself. What is tried costs of this, or as much as of a script by itself. Faults
+/// are corrected where the document's text spells the script. The story goes on so often at most.
 #[cycle(add_answer)]
 pub(crate) fn add_answer(
     items: &mut Items,
     document: &Document<'_>,
     effort: Option<&Effort>,
     now: Option<&str>,
+    is_spelled: bool,
     levels: usize,
 ) -> Result<(), AllocError> {
     let alloc = items.alloc();
     match read_script(alloc, document.value) {
         Ok(script) => match effort {
-            Some(effort) => add_script(items, document, &script, effort, now, levels),
+            Some(effort) => add_script(items, document, &script, effort, now, is_spelled, levels),
             None => {
                 let effort = Effort::new(alloc, &script.platform, &script.calls)?;
-                add_script(items, document, &script, &effort, now, levels)
+                add_script(items, document, &script, &effort, now, is_spelled, levels)
             }
         },
         Err(ParseFault::NoMemory) => Err(AllocError),
@@ -280,6 +296,7 @@ fn add_script<'a>(
     script: &Script<'a>,
     effort: &Effort,
     now: Option<&str>,
+    is_spelled: bool,
     levels: usize,
 ) -> Result<(), AllocError> {
     let alloc = items.alloc();
@@ -295,7 +312,7 @@ fn add_script<'a>(
     let story = story_of(alloc, document.value, &script.calls, &told)?;
     let mut below = Items::new(alloc);
     let shown = shown_calls(alloc, document, &story)?;
-    if add_corrected(&mut below, document, &shown, Some(effort), now, levels)? {
+    if is_spelled && add_corrected(&mut below, document, &shown, Some(effort), now, levels)? {
         items.say(2, Label::Plain, answer_of(alloc, &story));
         add_shown(items, shown);
         return add_one_deeper(items, below);

@@ -43,9 +43,16 @@ fn may_be_meant(document: &Document<'_>, one: &Correction) -> bool {
             let before = document.bytes.get(..one.span.start).unwrap_or(&[]);
             !matches!(before.last(), Some(last) if last.is_ascii_digit())
         }
-        Meant::Written(text) => !text.contains('\\') && is_one_member(text),
+        Meant::Written(text) if was.is_empty() => !text.contains('\\') && is_one_member(text),
+        Meant::Written(text) => is_like(was, text.as_bytes()),
         _ => true,
     }
+}
+
+/// Whether a word is another in capitals or not, or begins it; one mark stands for another.
+fn is_like(was: &[u8], text: &[u8]) -> bool {
+    let front = text.get(..was.len()).unwrap_or(text);
+    was.eq_ignore_ascii_case(front) || was.eq_ignore_ascii_case(b"none") || was.len() == 1
 }
 
 /// Whether a text has what no name has, or nothing.
