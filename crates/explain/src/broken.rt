@@ -58,7 +58,14 @@ fn add_whole(
         value,
         whole: document.whole,
     };
-    add_answer(items, &other, None, Some(""), LEVELS.saturating_sub(1))
+    add_answer(
+        items,
+        &other,
+        None,
+        Some(""),
+        true,
+        LEVELS.saturating_sub(1),
+    )
 }
 
 /// The text, corrected place by place until it is JSON; `None` where it isn't known what is meant at
