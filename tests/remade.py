@@ -1,0 +1,368 @@
+"""Makes a script's calls otherwise, as an explanation says."""
+import json
+import re
+
+from explained import ENTRIES, MEMORY, judge, report_of, verdicts_in
+
+
+def entry_like(other, pair):
+    """An entry for a format and modifier that is else like another."""
+    entry = {key: value for key, value in other.items() if key != "pixel_format_and_modifiers"}
+    entry["pixel_format"], entry["pixel_format_modifier"] = pair.split(" ")
+    return entry
+
+
+def heap_of(text):
+    name, number = text.split("#")
+    return {"heap_type": name, "id": int(number)}
+
+
+def exchanged(constraints, least, most):
+    """Exchanges two fields wherever the first is above the second."""
+    for place in [constraints, constraints.get(MEMORY, {}), *constraints.get(ENTRIES, [])]:
+        if least in place and most in place:
+            low, high = place[least], place[most]
+            sides = [(low, high)] if isinstance(low, int) else [(low[side], high[side]) for side in ("width", "height")]
+            if any(a > b for a, b in sides):
+                place[least], place[most] = high, low
+
+
+def with_heap(constraints, new, old):
+    """Permits a heap too, or in the place of another."""
+    heaps = constraints[MEMORY]["permitted_heaps"]
+    known = [{"heap_type": heap["heap_type"], "id": heap.get("id", 0)} for heap in heaps]
+    if old is None:
+        heaps.append(heap_of(new))
+    else:
+        heaps[known.index(heap_of(old))] = heap_of(new)
+
+
+def without_cpu(constraints):
+    """Takes the use by a CPU away; what uses nothing else has the usage none."""
+    constraints["usage"] = [usage for usage in constraints["usage"] if usage != "cpu"] or ["none"]
+
+
+def taken(constraints, what):
+    """Makes a change that takes more, and says whether the words are of such a one."""
+    exchange = re.fullmatch(r"(\w+) \S+ and (\w+) \S+ exchanged", what)
+    colour = re.fullmatch(r"color_spaces .*, with (\w+) too", what)
+    pair = re.fullmatch(
+        r"pixel_format (\w+ \w+) too, in an entry before the others that is else like (?:the first|entry (\d+)) \(.*\)",
+        what,
+    )
+    heap = re.fullmatch(r"permitted_heaps with (\S+) (?:too|in the place of (\S+))", what)
+    first = re.fullmatch(r"entry (\d+) \(.*\) put first", what)
+    if exchange:
+        exchanged(constraints, exchange[1], exchange[2])
+    elif colour:
+        for entry in constraints[ENTRIES]:
+            if colour[1] not in entry["color_spaces"]:
+                entry["color_spaces"].append(colour[1])
+    elif pair:
+        like = constraints[ENTRIES][int(pair[2] or 1) - 1]
+        constraints[ENTRIES].insert(0, entry_like(like, pair[1]))
+    elif heap:
+        with_heap(constraints, heap[1], heap[2])
+    elif first:
+        constraints[ENTRIES].insert(0, constraints[ENTRIES].pop(int(first[1]) - 1))
+    elif what in ("usage without cpu", "usage cpu becomes none"):
+        without_cpu(constraints)
+        return True
+    return bool(exchange or colour or pair or heap or first)
+
+
+def places_of(constraints, field):
+    """The objects in which a field stands: the counts, the memory, or each entry that has it."""
+    memory = constraints.get(MEMORY, {})
+    first = [constraints] if field in constraints else [memory] if field in memory else []
+    return first + [entry for entry in constraints.get(ENTRIES, []) if field in entry]
+
+
+def spelled(value):
+    """A field's value as a text has it."""
+    return f"{value['width']}x{value['height']}" if isinstance(value, dict) else json.dumps(value)
+
+
+def leave_idle_out(script, constraints, field, was):
+    """Leaves a field out of the entries whose value isn't told: it asks for nothing there, so the report stays."""
+    values = re.split(", | and ", was)
+    idle = [entry for entry in constraints.get(ENTRIES, []) if field in entry and spelled(entry[field]) not in values]
+    if idle and not was.endswith(" more"):
+        before = report_of(script)
+        for entry in idle:
+            del entry[field]
+        judge(report_of(script) == before, f"{field} asks for something where it isn't told to be {was}")
+
+
+def with_field(constraints, field, was, change):
+    """Makes a change wherever a field stands, which is told to be so before; a field that is told to be absent stands
+    nowhere."""
+    places = places_of(constraints, field)
+    values = list(dict.fromkeys(spelled(place[field]) for place in places)) or ["(absent)"]
+    told = (
+        " and ".join([", ".join(values[:-1])] * (len(values) > 1) + values[-1:])
+        if len(values) < 5
+        else f"{', '.join(values[:3])} and {len(values) - 3} more"
+    )
+    judge(told == was, f"{field} is told to be {was}, and is {told}")
+    for place in places or [constraints]:
+        change(place)
+
+
+def changed(script, words):
+    """A script with one participant's constraints changed as the words say."""
+    both = re.fullmatch(
+        r"\S+ \(call (\d+)(?:, line \d+)?\) and \S+ \(call (\d+)(?:, line \d+)?\): their constraints exchanged", words
+    )
+    if both:
+        one, other = (script["calls"][int(number) - 1] for number in both.groups())
+        one["constraints"], other["constraints"] = other["constraints"], one["constraints"]
+        return script
+    one = re.fullmatch(r"\S+ \(call (\d+)(?:, lines? [^)]*)?\): (.*)", words)
+    if not judge(one, f"{words!r} isn't known"):
+        return None
+    number, what = one.groups()
+    constraints = script["calls"][int(number) - 1]["constraints"]
+    if taken(constraints, what):
+        return script
+    lacks = re.fullmatch(r"(\w+) (.+) left out", what)
+    holds = re.fullmatch(r"(\w+) (false|\(absent, so false\)) becomes true", what)
+    if lacks:
+        with_field(constraints, lacks[1], lacks[2], lambda place: place.pop(lacks[1]))
+    elif holds:
+        memory = constraints.setdefault(MEMORY, {})
+        judge(
+            memory.get(holds[1]) is (False if holds[2] == "false" else None),
+            f"{holds[1]} is told to be {holds[2]}, and is {memory.get(holds[1])}",
+        )
+        memory[holds[1]] = True
+    else:
+        field, was, value = re.fullmatch(r"(\w+) (.+) becomes ([\dx]+)", what).groups()
+        sides = [int(side) for side in value.split("x")]
+        amount = sides[0] if len(sides) == 1 else {"width": sides[0], "height": sides[1]}
+        leave_idle_out(script, constraints, field, was)
+        with_field(constraints, field, was, lambda place: place.update({field: amount}))
+    return script
+
+
+def compare_lines(name, words, text):
+    """In each line that a change names stands what it changes: the field, or the object or list that is to have more;
+    of an entry its brace."""
+    lines = text.split("\n")
+    for told, what in re.findall(r"\S+ \(call \d+, lines? ([^)]*)\): (.*)", words):
+        if what.startswith("entry "):
+            keys = ["{"]
+        elif "(absent" in what:
+            keys = ['"constraints"', f'"{MEMORY}"']
+        elif what.startswith("pixel_format "):
+            keys = [f'"{ENTRIES}"']
+        else:
+            keys = [f'"{key}"' for key in re.findall(r"\w+", what)]
+        for number in re.findall(r"\d+", told):
+            judge(any(key in lines[int(number) - 1] for key in keys), f"{name}: {what} isn't in line {number}")
+
+
+def put_first(script, words):
+    """A script with an entry of a call's constraints before the others."""
+    entry, number = re.search(r"with entry (\d+) of \S+ \(call (\d+)\) put first ", words).groups()
+    entries = script["calls"][int(number) - 1]["constraints"][ENTRIES]
+    entries.insert(0, entries.pop(int(entry) - 1))
+    return script
+
+
+def keep_firsts(name, text, bytes_of):
+    """With an entry first that is told to change nothing, or to leave nothing chosen, that is so."""
+    for section in text.split("\n\n"):
+        title, flat = re.match(r"domain (\S+) \(", section), re.sub(r"\n {7,}(?! |-> |choice )", " ", section)
+        for words, same in re.findall(
+            r"(with entry \d+ of \S+ \(call \d+\) put first )(the decision would be the same|nothing would be chosen)",
+            flat,
+        ):
+            now, then = (
+                verdicts_in(report_of(script)).get(title[1])
+                for script in (json.loads(bytes_of), put_first(json.loads(bytes_of), words))
+            )
+            judge(
+                now == then if same.startswith("the") else not (then or "").startswith("chosen "),
+                f"{name}: {words}: {then!r}",
+            )
+
+
+def widened(script, words):
+    """A script on a platform with one pair more."""
+    pair = re.fullmatch(r"with (\w+) (\w+) on the platform it would be:", words)
+    script["platform"]["pairs"].append({"pixel_format": pair[1], "pixel_format_modifier": pair[2]})
+    return script
+
+
+def moved(script, words):
+    """A script with calls moved, each right after another."""
+    calls = list(enumerate(script["calls"], 1))
+    for call, after in reversed(re.findall(r"call (\d+) moved after call (\d+)", words)):
+        one = next(it for it in calls if it[0] == int(call))
+        calls.remove(one)
+        place = next(k for k, it in enumerate(calls) if it[0] == int(after))
+        calls.insert(place + 1, one)
+    script["calls"] = [call for _, call in calls]
+    return script
+
+
+def added(script, words):
+    """A script with calls that were missing, each right before another, by the actor of the call that was refused on
+    its node."""
+    calls = list(enumerate(script["calls"], 1))
+    for kind, node, before in re.findall(r"(bind|all_children_present) (\S+) before call (\d+)", words):
+        wants = ("set_constraints", "attach_token") if kind == "bind" else ("release",)
+        refused = next(call for call in script["calls"] if call["on"] == node and call["call"] in wants)
+        place = next(k for k, (number, _) in enumerate(calls) if number == int(before))
+        actor = {"actor": refused["actor"]} if "actor" in refused else {}
+        calls.insert(place, (0, {"call": kind, "on": node, **actor}))
+    script["calls"] = [call for _, call in calls]
+    return script
+
+
+def ended(script, words):
+    """A script with calls after it that release and complete who is named, of a group also a child that is made; None
+    where not all are named."""
+    released, complete = re.fullmatch(
+        r"with (?:(.+?) released)?(?: and )?(?:(.+?) complete)? it would be:", words
+    ).groups()
+    if " more" in words:
+        return None
+    names = lambda text: re.split(r", | and ", text) if text else []
+    actor = script["calls"][-1].get("actor") if script["calls"] else "main"
+    more = {"actor": actor} if actor else {}
+    for name in names(released):
+        if name.startswith("a child of "):
+            group, name = name.removeprefix("a child of "), "a_child"
+            script["calls"].append({"call": "create_child", "on": group, "as": name, **more})
+        script["calls"].append({"call": "release", "on": name, **more})
+    script["calls"] += [{"call": "all_children_present", "on": name, **more} for name in reversed(names(complete))]
+    return script
+
+
+def first_pair(script, words):
+    """A script on a platform that has a pair first."""
+    names = re.fullmatch(r"(\w+ \w+) would do too, but stands after \w+ \w+ on the platform, .*", words)[1].split()
+    pairs = script["platform"]["pairs"]
+    is_meant = lambda pair: [pair["pixel_format"], pair.get("pixel_format_modifier", "LINEAR")] == names
+    pairs.sort(key=lambda pair: not is_meant(pair))
+    judge(is_meant(pairs[0]), f"{names} is no pair of the platform")
+    return script
+
+
+def other_heap(script, words):
+    """A script on a platform one of whose heaps is contiguous or secure, or has a coherency domain more."""
+    heap, word = re.fullmatch(
+        r"with (\S+) (contiguous|secure|cpu|ram|inaccessible) on the platform, which doesn't (?:say so|have it), "
+        r"it would be:",
+        words,
+    ).groups()
+    meant = [
+        it
+        for it in script["platform"]["heaps"]
+        if {"heap_type": it["heap_type"], "id": it.get("id", 0)} == heap_of(heap)
+    ]
+    judge(len(meant) == 1, f"{heap} isn't there")
+    if word in ("contiguous", "secure"):
+        judge(not meant[0].get(word), f"{heap} is {word}")
+        meant[0][word] = True
+    else:
+        judge(word not in meant[0]["domains"], f"{heap} has {word}")
+        meant[0]["domains"].append(word)
+    return script
+
+
+def ended_before(script, words):
+    """A script in which calls that release or close somebody come before another call."""
+    ends, before = re.search(r"; with calls? ([\d, and]+) before call (\d+) it would be:", words).groups()
+    calls, numbers = script["calls"], [int(number) for number in re.findall(r"\d+", ends)]
+    carried = [calls[number - 1] for number in numbers]
+    names = re.split(r", | and ", re.sub(r" and \d+ more$", "", re.match(r"(.*) still counts? here, and ", words)[1]))
+    judge(
+        set(names) <= {call["on"] for call in carried} and {call["call"] for call in carried} <= {"release", "close"},
+        f"{words}: these calls end others",
+    )
+    rest = [call for number, call in enumerate(calls, 1) if number not in numbers]
+    place = int(before) - 1
+    script["calls"] = rest[:place] + carried + rest[place:]
+    return script
+
+
+def names_exchanged(script, words):
+    """A script in which two calls make each other's names."""
+    later, one, other = re.search(
+        r"(\S+) would do too, but .*; with their names exchanged in calls (\d+) and (\d+) it would be:", words
+    ).groups()
+    first, second = script["calls"][int(one) - 1], script["calls"][int(other) - 1]
+    judge(second["as"] == later and int(one) < int(other), f"{words}: call {other} makes another name")
+    first["as"], second["as"] = second["as"], first["as"]
+    return script
+
+
+def ended_after(script, words):
+    """A script in which calls that release or close somebody come after another call; without these calls the domain is
+    the same, where that is said."""
+    ends, names, after, never = re.fullmatch(
+        r"it has room only since calls? ([\d, and]+) (?:released|closed|released or closed) (.*); "
+        r"with calls? [\d, and]+ after call (\d+)(, or left out,)? it would be:",
+        words,
+    ).groups()
+    calls, numbers = script["calls"], [int(number) for number in re.findall(r"\d+", ends)]
+    carried = [calls[number - 1] for number in numbers]
+    names = re.split(r", | and ", re.sub(r" and \d+ more$", "", names))
+    judge(
+        set(names) <= {call["on"] for call in carried} and {call["call"] for call in carried} <= {"release", "close"},
+        f"{words}: these calls end others",
+    )
+    rest = [(number, call) for number, call in enumerate(calls, 1) if number not in numbers]
+    place = next(k for k, (number, _) in enumerate(rest) if number == int(after)) + 1
+    rest = [call for _, call in rest]
+    script["calls"] = rest[:place] + carried + rest[place:]
+    if never:
+        script["without"] = rest
+    return script
+
+
+def group_first(script, words):
+    """A script in which a call that makes a group comes before one that makes another."""
+    first, second, later, made = re.fullmatch(
+        r"(\S+) is made before (\S+), so its choice weighs more; with call (\d+), which makes \2, before call (\d+) it "
+        r"would be:",
+        words,
+    ).groups()
+    calls = script["calls"]
+    judge(
+        [calls[int(number) - 1].get("as") for number in (made, later)] == [first, second],
+        f"{words}: made by other calls",
+    )
+    calls.insert(int(made) - 1, calls.pop(int(later) - 1))
+    return script
+
+
+def released(script, words):
+    """A script in which a call that closes releases."""
+    number = re.fullmatch(r"with release in the place of close in call (\d+) it would be:", words)[1]
+    made = script["calls"][int(number) - 1]
+    judge(made["call"] == "close", f"{words}: it is {made}")
+    made["call"] = "release"
+    return script
+
+
+# Outcomes that are told in sentences of their own, by words of these; the first that fits.
+OTHERWISE = {
+    " whose order decides, not the entries'; ": first_pair,
+    " on the platform, which doesn't say so, ": other_heap,
+    " on the platform, which doesn't have it, ": other_heap,
+    "with release in the place of close ": released,
+    " only later, by call": ended_before,
+    " with their names exchanged in calls ": names_exchanged,
+    "it has room only since call": ended_after,
+    ", so its choice weighs more; ": group_first,
+    " on the platform ": widened,
+    " moved after ": moved,
+    " the script has, its calls numbered anew:": added,
+    " put first it": put_first,
+    " released it would be": ended,
+    " complete it would be": ended,
+}
