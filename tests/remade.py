@@ -232,9 +232,9 @@ def ended(script, words):
     names = lambda text: re.split(r", | and ", text) if text else []
     actor = script["calls"][-1].get("actor") if script["calls"] else "main"
     more = {"actor": actor} if actor else {}
-    for name in names(released):
+    for number, name in enumerate(names(released)):
         if name.startswith("a child of "):
-            group, name = name.removeprefix("a child of "), "a_child"
+            group, name = name.removeprefix("a child of "), f"a_child-{number}"
             script["calls"].append({"call": "create_child", "on": group, "as": name, **more})
         script["calls"].append({"call": "release", "on": name, **more})
     script["calls"] += [{"call": "all_children_present", "on": name, **more} for name in reversed(names(complete))]
