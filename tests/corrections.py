@@ -278,9 +278,9 @@ def corrected_at_faults(name, text, whats, faults):
 
 
 def edited(text, edits):
-    """A text in which stands something else from a place to another, of each of some edits."""
+    """A text in which stands something else from a place to another, of each of some edits; its lines stay."""
     for start, end, new in sorted(edits, reverse=True):
-        text = text[:start] + new + text[end:]
+        text = text[:start] + " ".join(new.split("\n")) + "\n" * text.count("\n", start, end) + text[end:]
     return text
 
 
