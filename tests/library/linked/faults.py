@@ -227,14 +227,14 @@ def marks(text, path):
 
 
 def by_program(program, kind, record):
-    """The same by the program, of a script that has the record."""
+    """The same by the program, of a script that has the record; not what is told once it is corrected."""
     if kind == OF_PLATFORM:
         script, path = f'{{"calls":[],"platform":\n{record}\n}}', "platform"
     else:
         path, call = "calls[1].constraints", f'{{"call":"set_constraints","on":"root","constraints":\n{record}\n}}'
         script = f'{{"platform":{PLATFORM.decode()},"calls":[{{"call":"bind","on":"root"}},{call}]}}'
     done = subprocess.run([program, "explain", "-"], input=script, stdout=subprocess.PIPE, text=True, timeout=60)
-    return marks(done.stdout, path)
+    return marks(done.stdout.partition("\n  then ")[0], path)
 
 
 def of_words(library, program):
