@@ -5,7 +5,7 @@ use script_reading::Act;
 use script_story::{Became, Domain, Milestone, Story, asked_in};
 use std::alloc::{AllocError, Global};
 use sysmem_merge::Settings;
-use value_sources::{NamedParticipant, held, needed, why_held, why_needed};
+use value_sources::{LeastCount, NamedParticipant, held, why_held};
 
 /// How many who hold nothing any more are told.
 const MOST_GONE: usize = 4;
@@ -33,7 +33,10 @@ pub fn room_needed(
     };
     let mut all = accepted_before(alloc, story, index)?;
     all.extend_from_slice(&asked_in(alloc, story, index, false)?)?;
-    match u32::try_from(needed(&all)) {
+    let Some(least) = LeastCount::of(&all) else {
+        return Ok(None);
+    };
+    match u32::try_from(least.number()) {
         Ok(most) if most > count => Ok(Some(most)),
         _ => Ok(None),
     }
@@ -120,25 +123,23 @@ pub(crate) fn add_lacking<'a>(
     let alloc = items.alloc();
     let mut all = accepted_before(alloc, story, index)?;
     all.extend_from_slice(participants)?;
-    let lacking = needed(&all).saturating_sub(u64::from(count));
-    if lacking == 0 {
+    let Some(least) = LeastCount::of(&all) else {
+        return Ok(());
+    };
+    if least.number() <= u64::from(count) {
         return Ok(());
     }
-    items.say(1, Label::Count, lacking_text(alloc, &all, count, lacking));
+    items.say(1, Label::Count, lacking_text(alloc, &least, count));
     add_gone(items, story, index)
 }
 
 /// That so many buffers are too few: `8 buffers are needed, 7 were decided, 1 too few: ..`.
-fn lacking_text(
-    alloc: Global,
-    all: &[NamedParticipant<'_>],
-    count: u32,
-    lacking: u64,
-) -> TextBuilder {
+fn lacking_text(alloc: Global, least: &LeastCount<'_, '_>, count: u32) -> TextBuilder {
     let were = if count == 1 { "was" } else { "were" };
+    let lacking = least.number().saturating_sub(u64::from(count));
     let mut words = TextBuilder::new(alloc);
     words
-        .value(u128::from(needed(all)))
+        .value(u128::from(least.number()))
         .put(" buffers are needed, ")
         .put_number(count)
         .put(" ")
@@ -146,7 +147,7 @@ fn lacking_text(
         .put(" decided, ")
         .put_number(lacking)
         .put(" too few: ")
-        .put_words(&why_needed(alloc, all));
+        .put_words(&least.why(alloc));
     words
 }
 

@@ -12,13 +12,33 @@ use domain_reasons::{add_in_short, add_shortly, answer_of, choices_in};
 use explanation_text::{Correction, Item, Items, Kind, Label, TextBuilder, repeated_keys};
 use other_outcomes::{list_added, list_meant, list_moved};
 use script_faults::{Document, add_fault};
-use script_reading::{ParseFault, Script, ScriptFault, parse_script, read_script};
+use script_reading::{
+    ParseFault, Script, ScriptFault, parse_script, read_records, read_script, shared_calls,
+};
 use script_story::{Became, Effort, Scenario, Story, list_refused, story_of};
 use serde_json::Value;
 use std::alloc::{AllocError, Global};
 
 /// How many lines are told of the answer and of calls that are refused.
 const MOST: usize = 13;
+/// How long a text may be that is corrected, or whose calls are made otherwise, in bytes: what comes
+/// then is one value more, of up to 175 bytes a byte.
+const LONGEST: usize = 262_144;
+
+/// Whether a script's text is too long to be made otherwise.
+pub(crate) fn is_too_long(document: &Document<'_>) -> bool {
+    document.bytes.len() > LONGEST
+}
+
+/// Tells that it isn't told what comes of a script for that, as words say it.
+pub(crate) fn add_too_long(items: &mut Items, what: &str) {
+    let mut words = TextBuilder::of(items.alloc(), what);
+    words
+        .put(" isn't told: the text is longer than ")
+        .put_number(LONGEST)
+        .put(" bytes");
+    items.say(1, Label::Note, words)
+}
 
 /// What may be meant where faults are shown; nothing where of one of them that isn't known.
 fn corrections_in<'b>(alloc: Global, shown: &'b [Item]) -> Result<Vec<&'b Correction>, AllocError> {
@@ -84,7 +104,7 @@ fn add_corrected(
 }
 
 /// The script in which what may be meant stands where faults are shown, and what it spells, if of
-/// each of them that is known; tells what is corrected.
+/// each of them that is known; tells what is corrected, or that the text is too long for it.
 fn meant_in(
     items: &mut Items,
     document: &Document<'_>,
@@ -93,6 +113,10 @@ fn meant_in(
     let alloc = items.alloc();
     let corrections = corrections_in(alloc, shown)?;
     if corrections.is_empty() {
+        return Ok(None);
+    }
+    if is_too_long(document) {
+        add_too_long(items, "what comes once this is corrected");
         return Ok(None);
     }
     let Some(bytes) = mended(alloc, document, &corrections)? else {
@@ -183,12 +207,16 @@ pub(crate) fn add_called_otherwise(
     Ok(true)
 }
 
-/// The script with refused calls made otherwise, if that is known; tells how.
+/// The script with refused calls made otherwise, if that is known and its text isn't too long; tells
+/// how.
 fn called_otherwise(
     items: &mut Items,
     document: &Document<'_>,
     story: &Story<'_>,
 ) -> Result<Option<Recalled>, AllocError> {
+    if is_too_long(document) {
+        return Ok(None);
+    }
     if let Some(value) = list_meant(items, document.value, story)? {
         return Ok(Some(Recalled {
             value,
@@ -300,16 +328,18 @@ fn add_script<'a>(
     levels: usize,
 ) -> Result<(), AllocError> {
     let alloc = items.alloc();
+    let read = read_records(alloc, &script.calls)?;
+    let calls = shared_calls(alloc, &read)?;
     let scenario = Scenario {
         platform: &script.platform,
-        calls: &script.calls,
+        calls: &calls,
         effort,
     };
-    let told = scenario.tell(alloc, &script.calls)?;
+    let told = scenario.tell(alloc, &calls)?;
     if told.report.starved {
         return Err(AllocError);
     }
-    let story = story_of(alloc, document.value, &script.calls, &told)?;
+    let story = story_of(alloc, document.value, &calls, &told)?;
     let mut below = Items::new(alloc);
     let shown = shown_calls(alloc, document, &story)?;
     if is_spelled && add_corrected(&mut below, document, &shown, Some(effort), now, levels)? {
@@ -372,7 +402,7 @@ fn add_domains_then(
         add_shortly(items, scenario.platform, story, index)?;
         if domain.became != Became::Chosen && !scenario.effort.is_spent() {
             let levels = LEVELS.saturating_sub(1);
-            add_help_then(items, document, scenario, story, index, levels)?;
+            add_help_then(items, document, scenario, story, index, levels, 1)?;
         }
     }
     Ok(())

@@ -3,7 +3,9 @@
 use crate::entries::add_unused;
 use crate::helping::{LEVELS, index_at, list_help};
 use crate::not_chosen::add_not_chosen;
-use constraint_changes::{Group, RestatedConstraints, add_together, list_changes, restated};
+use constraint_changes::{
+    Group, RestatedConstraints, add_together, list_changes, list_preferred, restated,
+};
 use constraint_edits::edits_on;
 use domain_reasons::add_domain;
 use explanation_text::{Item, Items, Kind, Label};
@@ -25,9 +27,40 @@ pub(crate) fn add_domains(
             add_domain(items, scenario.platform, story, *index)?;
             add_unused(items, document, scenario, story, *index)?;
             list_help(items, document, scenario, story, *index, LEVELS)?;
+            add_preferred(items, document, scenario, story, *index)?;
         }
     }
     Ok(())
+}
+
+/// Tells by which changes of a participant an initial domain that is chosen would have another
+/// child, image or place.
+fn add_preferred(
+    items: &mut Items,
+    document: &Document<'_>,
+    scenario: &Scenario<'_>,
+    story: &Story<'_>,
+    index: usize,
+) -> Result<(), AllocError> {
+    let alloc = items.alloc();
+    let platform = scenario.platform;
+    let participants = asked_in(alloc, story, index, false)?;
+    let edits = edits_on(
+        alloc,
+        platform.heaps().len(),
+        platform.pairs(),
+        platform.colours(),
+    )?;
+    let root = story.root_of(index);
+    let group = Group {
+        document,
+        scenario,
+        story,
+        path: story.path(root),
+        root,
+        participants: &participants,
+    };
+    list_preferred(items, group, index, &edits)
 }
 
 /// Tells what would help an empty domain: calls that end somebody earlier, one change of a

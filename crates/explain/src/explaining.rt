@@ -6,7 +6,7 @@ ghost use Rattle.explain.specs.Lines.{IsToldBy, item_texts};
 ghost use Rattle.explain.specs.Wanted.{AreThere};
 
 use crate::broken::corrected_json;
-use crate::corrected::{add_called_otherwise, corrected, said_in};
+use crate::corrected::{add_called_otherwise, add_too_long, corrected, is_too_long, said_in};
 use crate::domains::add_domains;
 use crate::helping::LEVELS;
 use crate::json::{PlayedScript, Scene, objects_of};
@@ -18,7 +18,9 @@ use explanation_text::{
     text_of,
 };
 use script_faults::{Document, Whole, add_fault, add_no_json};
-use script_reading::{ParseFault, Script, ScriptFault, parse_script, read_script};
+use script_reading::{
+    ParseFault, Script, ScriptFault, parse_script, read_records, read_script, shared_calls,
+};
 use script_story::{Became, Effort, Scenario, Story, list_refused, refused_calls, story_of};
 use serde_json::Value;
 use std::alloc::{AllocError, Global};
@@ -266,22 +268,24 @@ fn explain_script<'a>(
         (λ text. IsToldBy (item_texts told.items.items) (string_bytes text))) }
     ensures wanted { IfOk result (AreThere wanted) }
 {
-    let effort = Effort::new(alloc, &script.platform, &script.calls)?;
+    let read = read_records(alloc, &script.calls)?;
+    let calls = shared_calls(alloc, &read)?;
+    let effort = Effort::new(alloc, &script.platform, &calls)?;
     let scenario = Scenario {
         platform: &script.platform,
-        calls: &script.calls,
+        calls: &calls,
         effort: &effort,
     };
-    let told = scenario.tell(alloc, &script.calls)?;
+    let told = scenario.tell(alloc, &calls)?;
     if told.report.starved {
         return Err(AllocError);
     }
-    let story = story_of(alloc, document.value, &script.calls, &told)?;
+    let story = story_of(alloc, document.value, &calls, &told)?;
     let items = story_items(alloc, &document, &scenario, &story)?;
     let played = Some(PlayedScript {
         story: &story,
         platform: &script.platform,
-        calls: &script.calls,
+        calls: &calls,
     });
     let scene = Scene { document, played };
     printed(alloc, scene, outcome_of(&story), items, wanted)
@@ -316,19 +320,31 @@ fn add_story(
     add_calls(items, document, story, scenario.effort)?;
     let _is_told = add_called_otherwise(items, document, scenario, story, LEVELS)?;
     add_domains(items, document, scenario, story)?;
-    add_untold(items, scenario.effort);
+    add_untold(items, document, scenario, story);
     Ok(())
 }
 
-/// Tells that not all was tried, where that would take long.
-fn add_untold(items: &mut Items, effort: &Effort) {
-    if effort.is_spent() {
+/// Tells that not all was tried, where that would take long, or memory.
+fn add_untold(
+    items: &mut Items,
+    document: &Document<'_>,
+    scenario: &Scenario<'_>,
+    story: &Story<'_>,
+) {
+    let is_spent = scenario.effort.is_spent();
+    let is_long = is_too_long(document) && refused_calls(story) > 0;
+    if is_spent || is_long {
         items.title("note: what isn't told", Standing::Open);
+    }
+    if is_spent {
         items.list_text(
             1,
             Label::Note,
             "more changes, and more that would be decided otherwise: to try more would take long",
         );
+    }
+    if is_long {
+        add_too_long(items, "what comes once refused calls are made otherwise");
     }
 }
 

@@ -7,13 +7,13 @@ use crate::domains::add_edits;
 use crate::not_chosen::add_not_chosen;
 use constraint_changes::put_choice;
 use domain_reasons::{add_domain, choices_in};
-use explanation_text::{Items, Kind, Label};
+use explanation_text::{Items, Label, TextBuilder};
 use other_outcomes::{
     Otherwise, add_ended_earlier, add_groups_exchanged, add_later_children, add_released,
     add_taken_pairs, add_then, add_without, reordered,
 };
 use script_faults::Document;
-use script_story::{Became, Domain, Scenario, Story, story_of};
+use script_story::{Became, Domain, Scenario, Story, put_domain, story_of};
 use std::alloc::{AllocError, Global};
 
 /// How many lines are told of why a domain has no settings.
@@ -53,25 +53,25 @@ pub(crate) fn list_help(
         Became::Pending => {
             let then = add_then(items, scenario, story, path)?;
             if levels < LEVELS || chooses(&then) {
-                add_further(items, document, scenario, then, place)?;
+                add_further(items, document, scenario, story, then, place)?;
             } else {
                 add_above(items, &then);
             }
             let is_first = levels == LEVELS;
             let then = add_without(items, scenario, story, index, path, is_first)?;
-            add_further(items, document, scenario, then, place)
+            add_further(items, document, scenario, story, then, place)
         }
         Became::Empty => add_edits(items, document, scenario, story, index),
         Became::Failed => {
             let then = add_released(items, scenario, story, index, path)?;
-            add_further(items, document, scenario, then, place)
+            add_further(items, document, scenario, story, then, place)
         }
         Became::Chosen => {
             let once = place_of(story, path, if levels > 0 { 1 } else { 0 }, domain.became);
             let then = add_ended_earlier(items, scenario, story, index, path)?;
-            add_further(items, document, scenario, then, once)?;
+            add_further(items, document, scenario, story, then, once)?;
             let then = add_groups_exchanged(items, scenario, document.value, story, index, path)?;
-            add_further(items, document, scenario, then, once)?;
+            add_further(items, document, scenario, story, then, once)?;
             add_later(items, scenario, story, index, path)
         }
         _ => Ok(()),
@@ -138,6 +138,7 @@ fn add_further(
     items: &mut Items,
     document: &Document<'_>,
     scenario: &Scenario<'_>,
+    story: &Story<'_>,
     then: Option<Otherwise<'_>>,
     place: Place<'_>,
 ) -> Result<(), AllocError> {
@@ -153,7 +154,7 @@ fn add_further(
     }
     let place = Place { levels, ..place };
     if then.order.is_empty() {
-        return add_made(items, document, scenario, &then, place);
+        return add_made(items, document, scenario, story, &then, place);
     }
     let value = reordered(items.alloc(), document.value, &then.order)?;
     let other = Document {
@@ -162,15 +163,17 @@ fn add_further(
         value: &value,
         whole: document.whole,
     };
-    add_made(items, &other, scenario, &then, place)
+    add_made(items, &other, scenario, story, &then, place)
 }
 
-/// The same, with the calls where the document has them.
+/// The same, with the calls where the document has them; and then of the domains that there are only
+/// with these calls.
 #[cycle(list_help)]
 fn add_made(
     items: &mut Items,
     document: &Document<'_>,
     scenario: &Scenario<'_>,
+    now: &Story<'_>,
     then: &Otherwise<'_>,
     place: Place<'_>,
 ) -> Result<(), AllocError> {
@@ -185,10 +188,42 @@ fn add_made(
         return Err(AllocError);
     }
     let story = story_of(alloc, document.value, &then.calls, &told)?;
-    match index_at(&story, place.path) {
-        Some(index) => add_index(items, document, &other, &story, index, place),
-        None => Ok(()),
+    if let Some(index) = index_at(&story, place.path) {
+        add_index(items, document, &other, &story, index, place)?;
     }
+    add_new(items, document, &other, &story, now, place.levels)
+}
+
+/// Tells of the domains that there aren't now which have no settings, why that is, and what would
+/// help.
+#[cycle(list_help)]
+fn add_new(
+    items: &mut Items,
+    document: &Document<'_>,
+    scenario: &Scenario<'_>,
+    story: &Story<'_>,
+    now: &Story<'_>,
+    levels: usize,
+) -> Result<(), AllocError> {
+    for (index, domain) in story.domains.iter().enumerate() {
+        let is_new = index_at(now, story.path(domain.root)).is_none();
+        if is_new && domain.became != Became::Chosen && !scenario.effort.is_spent() {
+            put_head(items, story, domain);
+            let mut why = Items::new(items.alloc());
+            add_domain(&mut why, scenario.platform, story, index)?;
+            items.append_section(why, 2, MOST)?;
+            add_help_then(items, document, scenario, story, index, levels, 2)?;
+        }
+    }
+    Ok(())
+}
+
+/// Puts what would become of a domain, above why.
+fn put_head(items: &mut Items, story: &Story<'_>, domain: &Domain) {
+    let mut words = TextBuilder::new(items.alloc());
+    put_domain(&mut words, story, domain.root);
+    words.put(" would be ").put(domain.became.word()).head();
+    items.say(2, Label::Plain, words)
 }
 
 /// The domain at a path, by index.
@@ -219,8 +254,8 @@ fn add_index(
     }
     let mut why = Items::new(items.alloc());
     add_domain(&mut why, scenario.platform, story, index)?;
-    add_below(items, why, MOST)?;
-    add_help_then(items, document, scenario, story, index, place.levels)
+    items.append_section(why, 1, MOST)?;
+    add_help_then(items, document, scenario, story, index, place.levels, 1)
 }
 
 /// Tells which children a domain chooses then; and what isn't chosen, unless it is chosen as the
@@ -242,7 +277,7 @@ fn add_chosen(
     }
 }
 
-/// Tells what would help a domain then, if the story is to go on.
+/// Tells what would help a domain then, so much deeper, if the story is to go on.
 #[cycle(list_help)]
 pub(crate) fn add_help_then(
     items: &mut Items,
@@ -251,31 +286,12 @@ pub(crate) fn add_help_then(
     story: &Story<'_>,
     index: usize,
     levels: usize,
+    deeper: usize,
 ) -> Result<(), AllocError> {
     if levels == 0 {
         return Ok(());
     }
     let mut help = Items::new(items.alloc());
     list_help(&mut help, document, scenario, story, index, levels)?;
-    add_below(items, help, usize::MAX)
-}
-
-/// Puts the items of a section one deeper after others, at most so many; without its title, and who
-/// has constraints.
-fn add_below(items: &mut Items, section: Items, most: usize) -> Result<(), AllocError> {
-    let mut count = 0usize;
-    for mut item in section.into_list()? {
-        if item.kind == Kind::Title || item.label == Label::Who {
-            continue;
-        }
-        count = count.saturating_add(1);
-        if count <= most {
-            item.depth = item.depth.saturating_add(1);
-            items.add(item);
-        }
-    }
-    if count > most {
-        items.list_text(2, Label::Plain, "and more of this");
-    }
-    Ok(())
+    items.append_section(help, deeper, usize::MAX)
 }

@@ -29,8 +29,9 @@ pub(crate) fn add_not_chosen(
     add_later_children(&mut later, scenario, story, index, path)?;
     add_taken_pairs(&mut later, scenario, story, index, path)?;
     let most = MOST.saturating_sub(later.len());
-    add_deeper(items, refused, depth, most)?;
-    add_deeper(items, later, depth, usize::MAX)
+    let deeper = depth.saturating_sub(1);
+    items.append_section(refused, deeper, most)?;
+    items.append_section(later, deeper, usize::MAX)
 }
 
 /// What is kept of a section.
@@ -85,25 +86,4 @@ fn refused_in(alloc: Global, section: Vec<Item>) -> Result<Items, AllocError> {
         kept.take(item);
     }
     Ok(kept.items)
-}
-
-/// Puts items of a section so deep that those of depth 1 have this one, at most so many.
-fn add_deeper(
-    items: &mut Items,
-    section: Items,
-    depth: usize,
-    most: usize,
-) -> Result<(), AllocError> {
-    let mut count = 0usize;
-    for mut item in section.into_list()? {
-        count = count.saturating_add(1);
-        if count <= most {
-            item.depth = item.depth.saturating_add(depth).saturating_sub(1);
-            items.add(item);
-        }
-    }
-    if count > most {
-        items.list_text(depth, Label::Plain, "and more of this");
-    }
-    Ok(())
 }

@@ -4,7 +4,7 @@ ghost use Rattle.std.specs.Prelude.{List, IfOk, IfSome};
 ghost use Rattle.script_reading.specs.declared.call.Call.{Call as Called};
 ghost use Rattle.other_outcomes.specs.Moved.{IsMoved, IsPromisedMoved};
 
-use crate::moved::step;
+use crate::moved::{put_promised, step};
 use domain_reasons::{accepted_before, room_needed};
 use explanation_text::wording::{MOST_NAMES, mark_after, put_few};
 use explanation_text::{Items, Label, ListBuilder, TextBuilder};
@@ -252,12 +252,4 @@ pub(crate) fn carried<'a>(
         made = next;
     }
     Ok(made)
-}
-
-/// Puts the decision that comes once calls are moved.
-fn put_promised(items: &mut Items, scenario: &Scenario<'_>, path: &str, outcome: Outcome)
-    requires { IsPromisedMoved scenario.now.platform.now scenario.now.calls.now path.now
-        outcome }
-{
-    outcome.promise(items, 2)
 }

@@ -14,6 +14,9 @@ decreases-add_further l = six l.place.levels
 abbrev pub decreases-add_made : goal.decreases-add_made
 decreases-add_made l = six l.place.levels + 5
 
+abbrev pub decreases-add_new : goal.decreases-add_new
+decreases-add_new l = six l.levels + 4
+
 abbrev pub decreases-add_index : goal.decreases-add_index
 decreases-add_index l = six l.place.levels + 3
 
