@@ -59,7 +59,7 @@ program-test: prove
 OF_PAGES := docs/columns docs/definitions docs/schema
 OF_TEXT := names shown pages claims crates
 OF_PROGRAM := schema reports json_reports refusals records values every_selection orders launcher certificates \
-	checks failing_files want_of_memory threads explanations json_explanations bounded
+	checks failing_files want_of_memory threads explanations json_explanations one_reading bounded
 OF_WORKBENCH := handles handle_scripts written_records
 
 OF_LIBRARY := live bindings installed

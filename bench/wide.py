@@ -1,5 +1,6 @@
 """Scripts that cost most: on the widest platform, of 64 heaps, 23 pairs and 8 colour spaces, participants who take each pair, and groups whose every
-selection fails. `scripts` gives each by its name; `refused_texts` gives texts that are refused, up to the longest that is read."""
+selection fails. `scripts` gives each by its name; `refused_texts` gives texts that are refused, up to the longest that is read; `faulty_texts` gives
+texts with faults beside a great value."""
 import json
 import os
 import sys
@@ -16,7 +17,8 @@ ENTRY_PAIRS = PAIRS + LEFT_OPEN
 # Two whose least common multiple is the most that two so small numbers can have.
 FIBONACCI = 28657, 46368
 MOST, MOST_PIXELS = 2**32 - 1, 2**64 - 1
-LONGEST = 4 * 2**20
+# The longest text that is read, and the longest that is corrected, or whose refused calls are made otherwise; and the longest of objects that is explained.
+LONGEST, LONGEST_CORRECTED, LONGEST_EXPLAINED = 4 * 2**20, 2**18, 680_000
 # Pairs of a camera, an encoder and a display, and what they ask of each.
 USUAL = [(("NV12", "LINEAR"), 16), (("R8G8B8A8", "LINEAR"), 4), (("B8G8R8A8", "INTEL_I915_X_TILED"), 4), (("P010", "LINEAR"), 4)]
 
@@ -171,9 +173,10 @@ def scripts():
         yield f"hostile_{kind}", hostile(kind)
 
 
-def repeated(part):
-    """A list of this JSON, as often as a text that is read has room for it."""
-    return "[" + ",".join([part] * ((LONGEST - 1) // (len(part) + 1))) + "]"
+def repeated(part, before="", after="", most=LONGEST):
+    """A list of this JSON between two texts, as often as they have room for it together."""
+    room = most - len(before) - len(after)
+    return before + "[" + ",".join([part] * ((room - 1) // (len(part) + 1))) + "]" + after
 
 
 def nested(levels, more):
@@ -185,12 +188,38 @@ def nested(levels, more):
 
 
 def refused_texts():
-    """Texts of scripts that are refused, by their names."""
+    """Texts of scripts that are refused, by their names, and whether they take too much memory to be explained."""
     # The first object has a key twice, so that keys are compared.
-    yield "keys_118x60", repeated(nested(118, 60)).replace("[{", '[{"k0":0,', 1)
-    yield "objects_of_one", repeated('{"":0}')
-    yield "objects_of_two", repeated('{"b":0,"a":1.0e1}')
-    yield "objects_100_deep", repeated(nested(100, 0))
+    yield "keys_118x60", repeated(nested(118, 60)).replace("[{", '[{"k0":0,', 1), False
+    parts = {"objects_of_one": '{"":0}', "objects_of_two": '{"b":0,"a":1.0e1}', "objects_100_deep": nested(100, 0), "lists_100_deep": 100 * "[" + 100 * "]"}
+    for name, part in parts.items():
+        yield name, repeated(part, most=LONGEST_EXPLAINED), False
+        yield f"many_{name}", repeated(part), True
+    yield "lists_of_one", repeated("[0]", most=LONGEST // 2), False
+
+
+def made(call, on, more=""):
+    """The text of a call that is open for more."""
+    return f'{{"call":"{call}","on":"{on}"{more}'
+
+
+def faulty_texts():
+    """Texts with faults beside what takes most memory, objects 100 deep, as long as is corrected, explained and read: with a name, whether they are refused, and which."""
+    platform = '"platform":{"heaps":[{"heap_type":"ram","domains":["cpu"]}],"pairs":[{"pixel_format":"NV12"}],"color_spaces":["SRGB"]}'
+    misspelt = platform.replace("platform", "platfrom").replace("heaps", "heps")
+    bound = "},".join([made("duplicate", "root", f',"as":"{name}"') for name in "ab"] + [made("release", "root"), *2 * [made("bind", "a")], ""])
+    states, alone = ',"constraints":{"usage":', made("bind", "root") + "},"
+    befores = {
+        # Three keys, each of which is found once those before it are corrected.
+        "misspelt": f'{{{misspelt},"cals":[{alone}{made("set_constraints", "root", states)}["cpu"],"zz":',
+        # One is bound again, where the other one is meant.
+        "bound_again": f'{{{platform},"calls":[{bound}{made("set_constraints", "a", states)}["cpu"],"zz":',
+        # The item that has the fault is looked for in parts of the list.
+        "no_usages": f'{{{platform},"calls":[{alone}{made("set_constraints", "root", states)}',
+    }
+    for length, most in (("short", LONGEST_CORRECTED), ("long", LONGEST_EXPLAINED), ("great", LONGEST)):
+        for name, before in befores.items():
+            yield f"{name}_{length}", repeated(nested(100, 0), before, "}}]}", most), name == "misspelt", length
 
 
 def write_scripts(folder):

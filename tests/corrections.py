@@ -108,11 +108,20 @@ def left_out(text, parts, fault, what):
     return [gone.start], [cut(text, gone)]
 
 
-def moved_into(text, parts, fault, owner):
+def call_left_out(text, parts, fault, number):
+    """A call goes, which has the fault."""
+    gone = parts["calls", int(number) - 1]
+    judge(fault.part.path[:2] == gone.path, f"call {number} has no fault at {path_words(fault.part.path)}")
+    return [gone.start], [cut(text, gone)]
+
+
+def moved_into(text, parts, fault, owner, field):
     """A member comes first in another object of its constraints, or in each entry if it is in none; the object is made
-    where there is none."""
+    where there is none. Its key may become another."""
     part = fault.part
     constraints, member = (*part.path[:2], "constraints"), text[part.start : part.end]
+    if field:
+        member = f'"{field}": {text[part.value : part.end]}'
     entries = [path for path in parts if path[:-1] == (*constraints, ENTRIES)]
     homes = {
         MEMORY: [(*constraints, MEMORY)],
@@ -166,9 +175,10 @@ def replaced(text, parts, fault, field, known, was):
 
 AT_FAULTS = {
     r"call (\d+) moved after call (\d+)": call_later,
-    r"\S+ moved into (.+)": moved_into,
+    r".+ moved into (.+?)(?: as (\w+))?": moved_into,
     r'("\w+": .+) added': member_added,
     r"brackets around (.+)": bracketed,
+    r"call (\d+) left out": call_left_out,
     r"(.*) left out": left_out,
     r"(?:(\w+) )?(\S+) in the place of (.*)": replaced,
 }

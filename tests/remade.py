@@ -4,6 +4,24 @@ import re
 
 from explained import ENTRIES, MEMORY, judge, report_of, verdicts_in
 
+# The names of children that are made of groups without one: each has the first that no call makes.
+CHILDREN = ["a_child"] + [f"a_child_{number}" for number in range(2, 9)]
+
+
+# Behind a value: which others do too, or how it may have been mistaken.
+BESIDE = (
+    r"(?: or (?:more|less)| \((?:width and height exchanged|(?:8|1,000|1,024) times (?:more|less)"
+    r"|hexadecimal written as decimal)\))?"
+)
+# A participant, with the call and the lines of a change.
+WHO = r"\S+ \(call \d+(?:, lines? [^)]*)?\)"
+
+
+def each_alone(words):
+    """The words of a change that one of several may make, of each of them alone; of another one as they are."""
+    several = re.fullmatch(rf"({WHO}(?:, {WHO})* or {WHO}): (.*)", words)
+    return [f"{who}: {several[2]}" for who in re.findall(WHO, several[1])] if several else [words]
+
 
 def entry_like(other, pair):
     """An entry for a format and modifier that is else like another."""
@@ -127,7 +145,12 @@ def changed(script, words):
         return script
     lacks = re.fullmatch(r"(\w+) (.+) left out", what)
     holds = re.fullmatch(r"(\w+) (false|\(absent, so false\)) becomes true", what)
-    if lacks:
+    whole = re.fullmatch(r"(\w+_for_camping) (\d+) becomes (min_buffer_count) \2 \(a count of all buffers\)", what)
+    if whole:
+        judge(whole[3] not in constraints, f"{whole[3]} is stated")
+        with_field(constraints, whole[1], whole[2], lambda place: place.pop(whole[1]))
+        constraints[whole[3]] = int(whole[2])
+    elif lacks:
         with_field(constraints, lacks[1], lacks[2], lambda place: place.pop(lacks[1]))
     elif holds:
         memory = constraints.setdefault(MEMORY, {})
@@ -137,7 +160,7 @@ def changed(script, words):
         )
         memory[holds[1]] = True
     else:
-        field, was, value = re.fullmatch(r"(\w+) (.+) becomes ([\dx]+)", what).groups()
+        field, was, value = re.fullmatch(rf"(\w+) (.+) becomes ([\dx]+){BESIDE}", what).groups()
         sides = [int(side) for side in value.split("x")]
         amount = sides[0] if len(sides) == 1 else {"width": sides[0], "height": sides[1]}
         leave_idle_out(script, constraints, field, was)
@@ -154,10 +177,12 @@ def compare_lines(name, words, text):
             keys = ["{"]
         elif "(absent" in what:
             keys = ['"constraints"', f'"{MEMORY}"']
+        elif what.endswith(" (a count of all buffers)"):
+            keys = ['"constraints"', '"min_buffer_count_for_camping"']
         elif what.startswith("pixel_format "):
             keys = [f'"{ENTRIES}"']
         else:
-            keys = [f'"{key}"' for key in re.findall(r"\w+", what)]
+            keys = [f'"{key}"' for key in re.findall(r"\w+", re.sub(f"{BESIDE}$", "", what))]
         for number in re.findall(r"\d+", told):
             judge(any(key in lines[int(number) - 1] for key in keys), f"{name}: {what} isn't in line {number}")
 
@@ -232,9 +257,10 @@ def ended(script, words):
     names = lambda text: re.split(r", | and ", text) if text else []
     actor = script["calls"][-1].get("actor") if script["calls"] else "main"
     more = {"actor": actor} if actor else {}
-    for number, name in enumerate(names(released)):
+    for name in names(released):
         if name.startswith("a child of "):
-            group, name = name.removeprefix("a child of "), f"a_child-{number}"
+            made = {call.get("as") for call in script["calls"]}
+            group, name = name.removeprefix("a child of "), next(it for it in CHILDREN if it not in made)
             script["calls"].append({"call": "create_child", "on": group, "as": name, **more})
         script["calls"].append({"call": "release", "on": name, **more})
     script["calls"] += [{"call": "all_children_present", "on": name, **more} for name in reversed(names(complete))]
@@ -304,7 +330,7 @@ def ended_after(script, words):
     """A script in which calls that release or close somebody come after another call; without these calls the domain is
     the same, where that is said."""
     ends, names, after, never = re.fullmatch(
-        r"it has room only since calls? ([\d, and]+) (?:released|closed|released or closed) (.*); "
+        r"it has room only since calls? ([\d, and]+) (?:released or closed|released|closed) (.*); "
         r"with calls? [\d, and]+ after call (\d+)(, or left out,)? it would be:",
         words,
     ).groups()

@@ -5,16 +5,18 @@ ghost use Rattle.script_reading.specs.Seen.{call_seen};
 ghost use Rattle.serde_json.specs.View.{view};
 ghost use Rattle.constraint_changes.specs.Edited.{IsPromised, IsTried};
 
+use crate::camping::try_whole_count;
 use crate::exchanges::try_exchanges;
+use crate::told::{Rank, ToldChange, joined, place_like, place_of, put_told};
 use crate::trials::{
     Group, Party, RestatedConstraints, Trial, TrialResult, are_sized, can_help, change_leaves_none,
-    copied, entries_behind, has_groups, is_worth, leaves_none, parties_of, put_choice, reached_by,
+    entries_behind, has_groups, is_worth, leaves_none, parties_of, put_choice, reached_by,
 };
-use constraint_edits::{Change, Edit, changes, edited, is_absurd};
-use domain_reasons::{choices_in, room_needed};
+use constraint_edits::{Amount, Change, Edit, Slip, changes, edited, is_absurd, slips_of};
+use domain_reasons::{choices_in, rooms_needed};
+use explanation_text::wording::put_joined;
 use explanation_text::{Items, Label, Text, TextBuilder};
 use script_story::{Effort, Milestone, Story, asked_in};
-use serde_json::Value;
 use std::alloc::{AllocError, Global};
 use std::slice::from_ref;
 use value_sources::NamedParticipant;
@@ -27,44 +29,48 @@ const TRIES: usize = 300;
 /// What was found of changes so far.
 #[derive(Drop)]
 pub(crate) struct Search<'a, 'b> {
-    pub(crate) found: Items,
+    pub(crate) alloc: Global,
+    /// Those that are told.
+    told: Vec<ToldChange>,
     /// Those of the group of whom one is asked whatever is selected.
     pub(crate) parties: &'b [Party<'a>],
+    /// How many help.
     count: usize,
     pub(crate) tried: usize,
     /// How many help and can't be meant.
-    absurd: usize,
-    /// What calls state by the first that helps.
-    first: Vec<RestatedConstraints>,
+    pub(crate) absurd: usize,
     /// Whether sizes are asked for.
-    is_sized: bool,
+    pub(crate) is_sized: bool,
 }
 
 impl Search<'_, '_> {
     /// Whether enough were found or tried.
     pub(crate) fn is_done(&self, effort: &Effort) -> bool {
-        self.count >= MOST || self.tried >= TRIES || effort.is_spent()
+        self.told.len() >= MOST || self.tried >= TRIES || effort.is_spent()
     }
 
-    /// Keeps what a call states by a change that helps, if it is the first.
-    fn keep_one(&mut self, place: usize, value: &Value) -> Result<(), AllocError> {
-        let value = value.clone()?;
-        self.keep(from_ref(&RestatedConstraints { place, value }))
+    /// Adds one that helps: before those whose decision is farther from what was preferred.
+    pub(crate) fn add(&mut self, told: ToldChange) -> Result<(), AllocError> {
+        let place = place_of(&self.told, &told);
+        self.add_at(place, told)
     }
 
-    /// Keeps what calls state by a change that helps, if it is the first.
-    pub(crate) fn keep(&mut self, stated: &[RestatedConstraints]) -> Result<(), AllocError> {
-        if self.first.is_empty() {
-            self.first = copied(self.found.alloc(), stated)?;
-        }
+    /// Adds one that helps, before that of an index.
+    fn add_at(&mut self, place: usize, told: ToldChange) -> Result<(), AllocError> {
+        self.count = self.count.saturating_add(1);
+        let end = self.told.len();
+        let at = if place < end { place } else { end };
+        self.told.insert(at, told)?;
         Ok(())
     }
 
-    /// The label of one more that helps.
-    pub(crate) fn label(&mut self) -> Label {
-        let label = Label::Alone(self.count);
-        self.count = self.count.saturating_add(1);
-        label
+    /// Takes the change of an index out, if there is one.
+    fn take(&mut self, place: Option<usize>) -> Option<ToldChange> {
+        let place = place?;
+        if place >= self.told.len() {
+            return None;
+        }
+        Some(self.told.remove(place))
     }
 }
 
@@ -80,18 +86,17 @@ pub fn list_changes(
 ) -> Result<Vec<RestatedConstraints>, AllocError> {
     let parties = parties_of(items.alloc(), group)?;
     let mut search = Search {
-        found: Items::new(items.alloc()),
+        alloc: items.alloc(),
+        told: Vec::new(items.alloc()),
         parties: &parties,
         count: 0,
         tried: 0,
         absurd: 0,
-        first: Vec::new(items.alloc()),
         is_sized: are_sized(group.participants),
     };
     try_all(&mut search, group, index, edits)?;
     put_head(items, &search, group.scenario.effort);
-    items.append(search.found);
-    Ok(search.first)
+    Ok(put_told(items, search.told))
 }
 
 /// Tries all changes, those first that are likely meant.
@@ -101,7 +106,6 @@ fn try_all(
     index: usize,
     edits: &[Edit],
 ) -> Result<(), AllocError> {
-    try_exchanges(search, group, index, true)?;
     try_room(search, group, index)?;
     for participant in group.participants {
         try_entries(search, group, participant)?;
@@ -109,29 +113,36 @@ fn try_all(
     for edit in edits {
         try_edit(search, group, *edit)?;
     }
-    try_exchanges(search, group, index, false)
+    try_exchanges(search, group, index)
 }
 
-/// Tries that more buffers are asked for in the domain to which one was attached, where those that
-/// were decided don't do.
+/// Tries that more buffers are asked for in the initial domain, where those that were decided don't
+/// do for the one of an index, which was attached.
 fn try_room(
     search: &mut Search<'_, '_>,
     group: Group<'_, '_>,
     index: usize,
 ) -> Result<(), AllocError> {
-    let alloc = search.found.alloc();
+    for count in &rooms_needed(search.alloc, group.story, index)? {
+        try_counts(search, group, index, *count)?;
+    }
+    Ok(())
+}
+
+/// Tries that somebody asks for so many buffers in the initial domain, until one helps: first whom
+/// the domain of an index was attached to.
+fn try_counts(
+    search: &mut Search<'_, '_>,
+    group: Group<'_, '_>,
+    index: usize,
+    count: u32,
+) -> Result<(), AllocError> {
+    let alloc = search.alloc;
     let story = group.story;
-    let Some(count) = room_needed(alloc, story, index)? else {
-        return Ok(());
-    };
     let Some(host) = host_of(story, index) else {
         return Ok(());
     };
-    let above = match story.nodes.get(host) {
-        Some(node) => node.domain,
-        None => 0,
-    };
-    let participants = asked_in(alloc, story, above, true)?;
+    let participants = asked_in(alloc, story, initial_of(story), true)?;
     for whom in [Whom::Host, Whom::Stating, Whom::Others] {
         if try_count(search, group, &participants, whom, host, count)? {
             break;
@@ -180,6 +191,16 @@ fn try_count(
     Ok(search.count > before)
 }
 
+/// The initial domain, by index: in it the number of buffers is decided.
+fn initial_of(story: &Story<'_>) -> usize {
+    for (index, domain) in story.domains.iter().enumerate() {
+        if domain.host.is_none() {
+            return index;
+        }
+    }
+    0
+}
+
 /// The node to which the domain of an index was attached.
 fn host_of(story: &Story<'_>, index: usize) -> Option<usize> {
     story.domains.get(index)?.host
@@ -192,7 +213,7 @@ fn try_entries(
     group: Group<'_, '_>,
     participant: &NamedParticipant<'_>,
 ) -> Result<(), AllocError> {
-    let alloc = search.found.alloc();
+    let alloc = search.alloc;
     let before = search.count;
     for index in &entries_behind(alloc, group.scenario.platform, participant)? {
         if search.count == before && !search.is_done(group.scenario.effort) {
@@ -253,7 +274,7 @@ fn try_change(
     participant: &NamedParticipant<'_>,
     edit: Edit,
 ) -> Result<(), AllocError> {
-    let alloc = search.found.alloc();
+    let alloc = search.alloc;
     let Some(value) = participant.stated else {
         return Ok(());
     };
@@ -288,13 +309,12 @@ fn try_change(
         outcome,
         value: stated.into_value(),
     };
-    let least = trial.least(alloc, group, search.parties, value, edit, found)?;
-    put_found(search, group, trial, participant, edit, least)
+    put_least(search, group, trial, participant, edit, found)
 }
 
-/// Tells a change that helps, if it may be meant and its record is read as what it asks then.
-#[tactic(auto, using(crate::proofs::Promises::promised_alone))]
-fn put_found(
+/// Tells an edit that helps; where it leaves a field out, by what is likely meant, and by the least
+/// change of it.
+fn put_least(
     search: &mut Search<'_, '_>,
     group: Group<'_, '_>,
     trial: Trial<'_, '_>,
@@ -306,21 +326,127 @@ fn put_found(
         (map call_seen trial.scenario.now.calls.now) trial.place (view found.value)
         trial.path.now found.outcome }
 {
+    let alloc = search.alloc;
+    let Some(value) = participant.stated else {
+        return Ok(());
+    };
+    try_whole_count(search, group, trial, participant, edit, &found)?;
+    let least = trial.least(alloc, group, search.parties, value, edit, found)?;
+    let enough = least.change.amount;
+    let meant = try_slips(search, group, trial, participant, edit, enough)?;
+    if meant.is_some() && (meant == enough || search.is_done(group.scenario.effort)) {
+        return Ok(());
+    }
+    let is_meant = is_likely(edit);
+    put_found(search, group, trial, participant, edit, least, is_meant)
+}
+
+/// Whether an edit is tried before others since it is likely meant, or asks the same in another
+/// order.
+fn is_likely(edit: Edit) -> bool {
+    matches!(
+        edit,
+        Edit::MeansHeap(_) | Edit::EntryFirst(_) | Edit::LeastCount(_)
+    )
+}
+
+/// Tries the values that may be meant in the place of the one of the field that an edit leaves out,
+/// where this one suffices, until one helps, and tells that; gives it.
+fn try_slips(
+    search: &mut Search<'_, '_>,
+    group: Group<'_, '_>,
+    trial: Trial<'_, '_>,
+    participant: &NamedParticipant<'_>,
+    edit: Edit,
+    enough: Option<Amount>,
+) -> Result<Option<Amount>, AllocError> {
+    let Some(value) = participant.stated else {
+        return Ok(None);
+    };
+    let before = search.count;
+    for slip in &slips_of(search.alloc, value, edit, enough)? {
+        if search.tried >= TRIES || group.scenario.effort.is_spent() {
+            break;
+        }
+        try_slip(search, group, trial, participant, edit, *slip)?;
+        if search.count > before {
+            return Ok(Some(slip.amount));
+        }
+    }
+    Ok(None)
+}
+
+/// Tries a value that may be meant in the place of the one of the field that an edit leaves out, and
+/// tells it where it helps.
+fn try_slip(
+    search: &mut Search<'_, '_>,
+    group: Group<'_, '_>,
+    trial: Trial<'_, '_>,
+    participant: &NamedParticipant<'_>,
+    edit: Edit,
+    slip: Slip,
+) -> Result<(), AllocError> {
+    let alloc = search.alloc;
+    let Some(value) = participant.stated else {
+        return Ok(());
+    };
+    search.tried = search.tried.saturating_add(1);
+    let change = Change::plain(edit, Some(slip.amount));
+    if change_leaves_none(alloc, group, search.parties, participant, change)? == Some(true) {
+        return Ok(());
+    }
+    trial.scenario.effort.change(trial.place, 1);
+    let Some(made) = slip.changed(alloc, value, edit)? else {
+        return Ok(());
+    };
+    match trial.promised(alloc, made)? {
+        Some(found) => put_found(search, group, trial, participant, edit, found, true),
+        None => Ok(()),
+    }
+}
+
+/// Tells a change that helps, likely meant or not, if it may be meant and its record is read as what
+/// it asks then.
+#[tactic(auto, using(crate::proofs::Promises::promised_alone))]
+fn put_found(
+    search: &mut Search<'_, '_>,
+    group: Group<'_, '_>,
+    trial: Trial<'_, '_>,
+    participant: &NamedParticipant<'_>,
+    edit: Edit,
+    found: TrialResult,
+    is_likely: bool,
+) -> Result<(), AllocError>
+    requires { IsTried trial.scenario.now.platform.now
+        (map call_seen trial.scenario.now.calls.now) trial.place (view found.value)
+        trial.path.now found.outcome }
+{
     if is_absurd(reached_by(&found.outcome), search.is_sized) {
         search.absurd = search.absurd.saturating_add(1);
         return Ok(());
     }
-    let alloc = search.found.alloc();
+    let alloc = search.alloc;
     if !trial.is_edit(alloc, &found.change, &found.value)? {
         return Ok(());
     }
     let choice = choices_in(alloc, group.story, group.root, found.outcome.selection())?;
     let who = group.who_changes(alloc, participant, edit, &found.value)?;
-    search.keep_one(trial.place, &found.value)?;
-    let label = search.label();
-    put_change(&mut search.found, trial, label, &who, found);
-    put_choice(&mut search.found, 3, choice);
-    Ok(())
+    let like = place_like(&search.told, &found.words, &found.outcome);
+    let stated = RestatedConstraints {
+        place: trial.place,
+        value: found.value.clone()?,
+    };
+    let rank = Rank::of(group, &found.outcome, is_likely);
+    let (whose, stated) = joined(alloc, search.take(like), who, stated)?;
+    let words = TextBuilder::of_text(alloc, &found.words).into_text()?;
+    let mut items = Items::new(alloc);
+    put_change(&mut items, trial, Label::Alone(0), &whose, found);
+    put_choice(&mut items, 3, choice);
+    let told = ToldChange::by(whose, words, stated, rank, items);
+    match like {
+        Some(place) => search.add_at(place, told),
+        None => search.add(told),
+    }
 }
 
 /// Whether those of a group have no settings after an edit of a participant, where that is told
@@ -372,13 +498,20 @@ fn head_of(alloc: Global, search: &Search<'_, '_>) -> TextBuilder {
     words
 }
 
-/// Puts a change that was tried, and what it gives.
-fn put_change(items: &mut Items, trial: Trial<'_, '_>, label: Label, who: &Text, found: TrialResult)
+/// Puts a change that was tried, and what it gives; it is the last one's of those who may make it.
+pub(crate) fn put_change(
+    items: &mut Items,
+    trial: Trial<'_, '_>,
+    label: Label,
+    who: &[Text],
+    found: TrialResult,
+)
     requires { IsPromised trial.scenario.now.platform.now
         (map call_seen trial.scenario.now.calls.now) ((trial.place, found.change ∷ []) ∷ [])
         trial.path.now found.outcome }
 {
-    let mut words = TextBuilder::of_text(items.alloc(), who);
+    let mut words = TextBuilder::new(items.alloc());
+    put_joined(&mut words, who, "or");
     words.put(": ").put_text(&found.words);
     items.say(2, label, words);
     found.into_outcome().promise(items, 3)

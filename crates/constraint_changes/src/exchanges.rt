@@ -5,12 +5,14 @@ ghost use Rattle.script_reading.specs.Seen.{call_seen};
 ghost use Rattle.constraint_changes.specs.Edited.{IsPromisedExchanged};
 
 use crate::changes::Search;
+use crate::told::{Rank, ToldChange};
 use crate::trials::{
-    Exchange, Group, RestatedConstraints, chosen_with, exchanged_calls, leaves_none, put_choice,
-    put_exchanged,
+    Exchange, Group, RestatedConstraints, chosen_with, copied, exchanged_calls, leaves_none,
+    put_choice, put_exchanged, reached_by,
 };
-use domain_reasons::{are_exchanged, choices_in};
-use explanation_text::{ListBuilder, TextBuilder};
+use constraint_edits::is_absurd;
+use domain_reasons::choices_in;
+use explanation_text::{Items, Label, ListBuilder, TextBuilder};
 use script_story::{Milestone, Outcome, Scenario, Story, asked_in};
 use serde_json::Value;
 use std::alloc::{AllocError, Global};
@@ -27,25 +29,21 @@ struct Partner<'a> {
 }
 
 /// Tries to exchange the constraints of a participant of the domain of an index and of another one,
-/// where that can make a difference: of those alone who seem to be exchanged if that is asked for,
-/// else of the others.
+/// where that can make a difference.
 pub(crate) fn try_exchanges(
     search: &mut Search<'_, '_>,
     group: Group<'_, '_>,
     index: usize,
-    are_meant: bool,
 ) -> Result<(), AllocError> {
     let story = group.story;
-    let partners = partners_in(search.found.alloc(), story)?;
+    let partners = partners_in(search.alloc, story)?;
     let mut pairs = 0usize;
     for participant in group.participants {
         for partner in &partners {
             if pairs >= MOST || search.is_done(group.scenario.effort) {
                 return Ok(());
             }
-            if can_matter(story, *participant, *partner, index)
-                && are_exchanged(story, *participant, partner.participant) == are_meant
-            {
+            if can_matter(story, *participant, *partner, index) {
                 pairs = pairs.saturating_add(1);
                 try_exchange(search, group, *participant, *partner)?;
             }
@@ -105,7 +103,7 @@ fn try_exchange(
     participant: NamedParticipant<'_>,
     partner: Partner<'_>,
 ) -> Result<(), AllocError> {
-    let alloc = search.found.alloc();
+    let alloc = search.alloc;
     let Some(exchange) = exchanged(alloc, group.story, participant, partner.participant)? else {
         return Ok(());
     };
@@ -165,22 +163,28 @@ fn write_exchange(
         (map call_seen group.scenario.now.calls.now) exchange.now.one exchange.now.other
         group.path.now outcome }
 {
-    let alloc = search.found.alloc();
+    if is_absurd(reached_by(&outcome), search.is_sized) {
+        search.absurd = search.absurd.saturating_add(1);
+        return Ok(());
+    }
+    let alloc = search.alloc;
     let choice = choices_in(alloc, group.story, group.root, outcome.selection())?;
-    put_exchange(search, group, participant, other)?;
-    search.keep(&exchange.stated)?;
-    put_exchanged(&mut search.found, group, 3, exchange, outcome);
-    put_choice(&mut search.found, 3, choice);
-    Ok(())
+    let stated = copied(alloc, &exchange.stated)?;
+    let rank = Rank::of(group, &outcome, false);
+    let mut items = Items::new(alloc);
+    put_exchange(&mut items, group, participant, other)?;
+    put_exchanged(&mut items, group, 3, exchange, outcome);
+    put_choice(&mut items, 3, choice);
+    search.add(ToldChange::of(stated, rank, items))
 }
 
 fn put_exchange(
-    search: &mut Search<'_, '_>,
+    items: &mut Items,
     group: Group<'_, '_>,
     participant: NamedParticipant<'_>,
     other: NamedParticipant<'_>,
 ) -> Result<(), AllocError> {
-    let alloc = search.found.alloc();
+    let alloc = items.alloc();
     let who = group.who(alloc, &participant)?;
     let whom = group.who(alloc, &other)?;
     let mut words = TextBuilder::of_text(alloc, &who);
@@ -188,8 +192,7 @@ fn put_exchange(
         .put(" and ")
         .put_text(&whom)
         .put(": their constraints exchanged");
-    let label = search.label();
-    search.found.say(2, label, words);
+    items.say(2, Label::Alone(0), words);
     Ok(())
 }
 

@@ -11,14 +11,18 @@
 //! ```
 #![tactic(auto)]
 
+mod camping;
 mod changes;
 mod exchanges;
 mod known;
 mod parts;
+mod preferred;
 mod together;
+mod told;
 mod trials;
 mod walk;
 
 pub use changes::list_changes;
+pub use preferred::list_preferred;
 pub use together::add_together;
 pub use trials::{Group, RestatedConstraints, Trial, entry_place, line_at, put_choice, restated};

@@ -103,9 +103,9 @@ fn add_least_changes(
 
 /// Changes made together, for those of a group.
 #[derive(Clone, Copy)]
-struct CombinedChange<'a, 'b> {
-    group: Group<'a, 'b>,
-    parties: &'b [Party<'a>],
+pub(crate) struct CombinedChange<'a, 'b> {
+    pub(crate) group: Group<'a, 'b>,
+    pub(crate) parties: &'b [Party<'a>],
 }
 
 impl CombinedChange<'_, '_> {
@@ -546,6 +546,20 @@ impl CombinedChange<'_, '_> {
             return Ok(None);
         }
         let edits = self.edits(alloc, parts)?;
+        self.promise_of(alloc, edits)
+    }
+
+    /// What is promised where calls state edited records.
+    pub(crate) fn promise_of(
+        &self,
+        alloc: Global,
+        edits: Vec<EditedCall>,
+    ) -> Result<Option<Promise>, AllocError>
+        ensures { IfOk result (λ made. IfSome made (λ promise. IsPromised
+            self.now.group.scenario.now.platform.now
+            (map call_seen self.now.group.scenario.now.calls.now) (edits_of promise.edits.items)
+            self.now.group.path.now promise.outcome)) }
+    {
         match self.outcome_by(alloc, &edits)? {
             Some(outcome) => Ok(Some(Promise { edits, outcome })),
             None => Ok(None),

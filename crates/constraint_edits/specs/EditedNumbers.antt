@@ -45,12 +45,16 @@ memory_edited field.PhysicallyContiguousRequired None m =
 memory_edited field.SecureRequired None m = Some (record m { secure_required = false })
 memory_edited _ _ m = None
 
--- the wishes with a coherency domain supported
+-- the wishes with a flag set: a coherency domain is supported, or contiguous or secure memory is
+-- needed
 abbrev pub supporting : Field → MemoryWishes → Option MemoryWishes
 supporting field.CpuDomainSupported m = Some (record m { cpu_domain_supported = true })
 supporting field.RamDomainSupported m = Some (record m { ram_domain_supported = true })
 supporting field.InaccessibleDomainSupported m =
     Some (record m { inaccessible_domain_supported = true })
+supporting field.PhysicallyContiguousRequired m =
+    Some (record m { physically_contiguous_required = true })
+supporting field.SecureRequired m = Some (record m { secure_required = true })
 supporting _ m = None
 
 -- the least size is the greatest, and the other way round

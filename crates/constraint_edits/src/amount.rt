@@ -194,6 +194,24 @@ fn asked_bound<'a>(entry: &'a Value, field: Field) -> Option<&'a Value> {
     }
 }
 
+/// Whether the field that a change leaves out has one value: a bound in all entries that ask for
+/// something by it.
+pub(crate) fn has_one_amount(alloc: Global, value: &Value, edit: Edit) -> Result<bool, AllocError> {
+    let Edit::NoBound(field) = edit else {
+        return Ok(true);
+    };
+    let bounds = asked_bounds(alloc, entries_of(value), field)?;
+    let Some(first) = bounds.first() else {
+        return Ok(false);
+    };
+    for bound in &bounds {
+        if *bound != *first {
+            return Ok(false);
+        }
+    }
+    Ok(true)
+}
+
 /// The values of a bound by which entries ask for something.
 fn asked_bounds<'a>(
     alloc: Global,
@@ -210,13 +228,14 @@ fn asked_bounds<'a>(
 }
 
 /// The constraints with another value of the field that a change leaves out, of a bound in each
-/// entry that asks for something by it.
+/// entry that asks for something by it; behind the value stand these words.
 pub(crate) fn with_amount(
     alloc: Global,
     value: &Value,
     edit: Edit,
     stated: Amount,
     amount: Amount,
+    after: &str,
 ) -> Result<EditedConstraints, AllocError>
     ensures { IfOk result (λ made. made.change
         ≡ record { edit = edit; amount = Some amount; start = 0; end = 0 }) }
@@ -231,7 +250,8 @@ pub(crate) fn with_amount(
         }
         _ => with(alloc, Some(value), name, amount.value(alloc)?)?,
     };
-    let words = words_to(alloc, value, edit, stated, amount)?;
+    let mut words = words_to(alloc, value, edit, stated, amount)?;
+    words.put(after);
     let made = EditedRecord {
         value: changed,
         words: words.into_text()?,
@@ -282,8 +302,25 @@ pub fn edited_to(
     ensures { IfOk result (λ made. IfSome made (λ changed. changed.change
         ≡ record { edit = edit; amount = Some amount; start = 0; end = 0 })) }
 {
+    edited_as(alloc, value, edit, amount, "")
+}
+
+/// The same, with words behind the value.
+pub(crate) fn edited_as(
+    alloc: Global,
+    value: &Value,
+    edit: Edit,
+    amount: Amount,
+    after: &str,
+) -> Result<Option<EditedConstraints>, AllocError>
+    ensures { IfOk result (λ made. IfSome made (λ changed. changed.change
+        ≡ record { edit = edit; amount = Some amount; start = 0; end = 0 })) }
+{
     match amount_in(value, edit) {
-        Some(stated) => Ok(Some(with_amount(alloc, value, edit, stated, amount)?)),
+        Some(stated) => {
+            let made = with_amount(alloc, value, edit, stated, amount, after)?;
+            Ok(Some(made))
+        }
         None => Ok(None),
     }
 }

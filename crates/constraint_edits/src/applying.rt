@@ -160,7 +160,7 @@ impl Draft {
         }
     }
 
-    /// Supports a coherency domain.
+    /// Sets a flag of the memory.
     fn support(&mut self, field: Field) -> bool
         ensures { IsTrue result → with_memory (drafted self.old) (supporting field self.old.memory)
             ≡ Some (drafted self.new) }
@@ -171,6 +171,10 @@ impl Draft {
             Field::InaccessibleDomainSupported => {
                 self.memory.inaccessible_domain_supported = true;
             }
+            Field::PhysicallyContiguousRequired => {
+                self.memory.physically_contiguous_required = true;
+            }
+            Field::SecureRequired => self.memory.secure_required = true,
             _ => return false,
         }
         true

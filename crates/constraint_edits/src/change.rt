@@ -1,14 +1,13 @@
 //! A change of one participant's constraints, as it is told, and what the participant asks then.
 
 ghost use Rattle.std.specs.Prelude.{◌≡◌, Some, IfOk, IfSome};
-ghost use Rattle.constraint_edits.specs.Edited.{edited, edited_by};
+ghost use Rattle.constraint_edits.specs.Edited.{edited_by};
 
 use crate::amount::Amount;
 use crate::applying::Draft;
 use crate::edits::Edit;
 use negotiation_inputs::Constraints;
 use std::alloc::{AllocError, Global};
-use std::slice::from_ref;
 use sysmem_memory::HeapInfo;
 
 /// A change of one participant: an edit, with the value that its field has then, and what it is of.
@@ -35,20 +34,6 @@ impl Change {
             start: 0,
             end: 0,
         }
-    }
-
-    /// What a participant asks after the change, on a platform with these heaps. `None` where it is
-    /// no change of what this one asks, or no participant may ask what comes.
-    pub fn apply(
-        &self,
-        alloc: Global,
-        heaps: &[HeapInfo],
-        asked: &Constraints,
-    ) -> Result<Option<Constraints>, AllocError>
-        ensures { IfOk result (λ made. IfSome made
-            (λ after. edited heaps.now self.now asked.now ≡ Some after)) }
-    {
-        apply_all(alloc, heaps, asked, from_ref(self))
     }
 }
 

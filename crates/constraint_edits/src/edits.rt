@@ -25,7 +25,8 @@ pub enum Edit {
     MeansHeap(usize),
     /// Two fields are exchanged wherever the first is above the second, which is to be above it.
     Exchanges(Field, Field),
-    /// A coherency domain is supported.
+    /// A flag of the memory is set: a coherency domain is supported, or contiguous or secure memory
+    /// is needed.
     Supports(Field),
     /// A field of the counts is left out.
     NoCount(Field),
@@ -275,7 +276,7 @@ pub fn changes(
     })
 }
 
-/// Whether constraints don't support a coherency domain.
+/// Whether a flag of the memory isn't set by constraints.
 fn is_unsupported(value: &Value, field: Field) -> bool {
     match memory_of(value, field.name()) {
         Some(stated) => stated.as_bool() != Some(true),

@@ -123,14 +123,28 @@ impl Halving {
         }
     }
 
-    /// The constraints with a value.
+    /// The constraints with a value that does, and in words which others do too.
     pub fn changed(
         &self,
         alloc: Global,
         value: &Value,
         amount: Amount,
     ) -> Result<EditedConstraints, AllocError> {
-        with_amount(alloc, value, self.edit, self.stated, amount)
+        let others = self.others(amount);
+        with_amount(alloc, value, self.edit, self.stated, amount, others)
+    }
+
+    /// Which other values do where a number does. A greater greatest value, or a lesser least one,
+    /// refuses nothing that this one admits: what was to be chosen from is there still, so something
+    /// is chosen then too, maybe something else. It is so too where the search for the number was
+    /// cut short. A lesser divisor may refuse more, as 7 where 8 does; and of sides it would have to
+    /// be said of which. A 0 in the place of a 1 asks for nothing, which isn't worth a word.
+    fn others(&self, amount: Amount) -> &'static str {
+        match (self.way, amount) {
+            (Way::Raised, Amount::Number(_)) => " or more",
+            (Way::Lowered, Amount::Number(number)) if number > 1 => " or less",
+            _ => "",
+        }
     }
 }
 

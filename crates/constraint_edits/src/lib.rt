@@ -1,5 +1,5 @@
 //! The constraints of a participant with one field changed, as JSON, with the change in words: the
-//! field left out, exchanged with another, with a value more, or with one between.
+//! field left out, exchanged with another, with a value more, or with one between or mistaken.
 //!
 //! ```
 //! for edit in edits_on(rt.alloc(), heaps.len(), platform.pairs(), platform.colours())? {
@@ -22,6 +22,7 @@ mod objects;
 mod permitting;
 mod reached;
 mod reading;
+mod slips;
 mod taking;
 mod using;
 
@@ -32,3 +33,4 @@ pub use halving::{Halving, is_absurd};
 pub use leaving::leave_out;
 pub use reached::Reached;
 pub use reading::{is_edited, read_asked};
+pub use slips::{Slip, slips_of};

@@ -2,12 +2,13 @@
 
 use crate::awaiting::add_pending;
 use crate::choosing::add_choice;
-use crate::exchanged::{are_exchanged, is_named_so, states_usage, usage_meant, usages_of};
 use crate::failing::{add_failed, add_none, add_too_many};
 use explanation_text::wording::put_few;
 use explanation_text::{Fact, Items, Kind, Label, ListBuilder, Text, TextBuilder};
 use negotiation_inputs::Platform;
+use script_reading::Act;
 use script_story::{Became, Domain, Milestone, Story, asked_in, put_domain};
+use serde_json::Value;
 use std::alloc::{AllocError, Global};
 use value_sources::NamedParticipant;
 
@@ -88,85 +89,7 @@ fn add_who(
     let alloc = items.alloc();
     let participants = asked_in(alloc, story, index, are_selected)?;
     items.say(1, Label::Who, who_text(alloc, story, &participants));
-    for participant in &participants {
-        note_usage(items, story, *participant)?;
-    }
     Ok(())
-}
-
-/// Notes a usage that doesn't go with what a participant is called, or its actor where its
-/// constraints may be exchanged with somebody's; and with whom they may be.
-fn note_usage(
-    items: &mut Items,
-    story: &Story<'_>,
-    participant: NamedParticipant<'_>,
-) -> Result<(), AllocError> {
-    let Some(usage) = usage_meant(story, participant) else {
-        return Ok(());
-    };
-    let number = number_of_setting(story, participant);
-    if usages_of(story, number).is_none() || states_usage(story, participant, usage) {
-        return Ok(());
-    }
-    let alloc = items.alloc();
-    match exchanged_with(alloc, story, participant)? {
-        None if !is_named_so(participant) => {}
-        other => items.say(
-            1,
-            Label::Note,
-            note_of(alloc, story, participant, usage, other),
-        ),
-    }
-    Ok(())
-}
-
-/// The call by which a participant set its constraints, by number.
-fn number_of_setting(story: &Story<'_>, participant: NamedParticipant<'_>) -> usize {
-    story
-        .milestone(participant.node, Milestone::SetConstraints)
-        .unwrap_or(0)
-}
-
-/// The first, of all domains, with whom the constraints of a participant may be exchanged.
-fn exchanged_with<'a>(
-    alloc: Global,
-    story: &Story<'a>,
-    participant: NamedParticipant<'_>,
-) -> Result<Option<NamedParticipant<'a>>, AllocError> {
-    for index in 0..story.domains.len() {
-        for other in &asked_in(alloc, story, index, false)? {
-            if are_exchanged(story, participant, *other) {
-                return Ok(Some(*other));
-            }
-        }
-    }
-    Ok(None)
-}
-
-/// That a participant doesn't state a usage, and with whom its constraints may be exchanged.
-fn note_of(
-    alloc: Global,
-    story: &Story<'_>,
-    participant: NamedParticipant<'_>,
-    usage: &str,
-    other: Option<NamedParticipant<'_>>,
-) -> TextBuilder {
-    let mut words = TextBuilder::of_name(alloc, participant.called());
-    words
-        .put(" (call ")
-        .call(number_of_setting(story, participant));
-    words.put(") doesn't state usage ").put(usage);
-    words.put(": are these the constraints that are meant for it?");
-    if let Some(other) = other {
-        words
-            .put(" They may be exchanged with those of ")
-            .name(other.called());
-        words
-            .put(" (call ")
-            .call(number_of_setting(story, other))
-            .put(")");
-    }
-    words
 }
 
 /// Participants in words.
@@ -226,5 +149,15 @@ fn put_usage(text: &mut TextBuilder, story: &Story<'_>, number: usize) {
     text.put(", usage");
     for usage in usages.iter().take(5) {
         text.put(" ").put(usage.as_str().unwrap_or(""));
+    }
+}
+
+/// The usages that a call states, if it states a list of them.
+fn usages_of<'a>(story: &Story<'a>, number: usize) -> Option<&'a [Value]> {
+    match story.call(number)?.act {
+        Act::SetConstraints(Some(stated)) => Some(
+            stated.value().get("usage")?.as_array()?.as_slice(),
+        ),
+        _ => None,
     }
 }

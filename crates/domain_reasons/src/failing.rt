@@ -183,7 +183,7 @@ fn add_late(
     };
     let participants = asked_in(items.alloc(), story, index, false)?;
     let before = accepted_before(items.alloc(), story, index)?;
-    add_lacking(items, story, index, &participants, settings.count)?;
+    add_lacking(items, story, index, settings.count)?;
     add_fewer(items, &participants, settings.count);
     add_unsuited(items, platform, &participants, &before, settings)
 }

@@ -10,8 +10,8 @@
 mod answer;
 mod awaiting;
 mod choosing;
+mod combinations;
 mod domains;
-mod exchanged;
 mod failing;
 mod passed_over;
 mod room;
@@ -21,7 +21,6 @@ mod short;
 pub use answer::answer_of;
 pub use awaiting::who_holds_up;
 pub use domains::add_domain;
-pub use exchanged::are_exchanged;
-pub use room::{accepted_before, count_above, gone_before, room_needed};
+pub use room::{accepted_before, count_above, gone_before, rooms_needed};
 pub use selecting::choices_in;
 pub use short::{add_in_short, add_shortly};

@@ -105,7 +105,8 @@ fn add_why(
     words
         .put(", which comes after ")
         .name(before)
-        .put(", can't be met:");
+        .put(", can't be met")
+        .head();
     items.say(2, Label::Plain, words);
     add_conflict(
         items,

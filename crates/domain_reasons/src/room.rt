@@ -1,11 +1,13 @@
 //! Room in the buffers that were decided, for those who come to them late.
 
-use explanation_text::{Items, Label, ListBuilder, TextBuilder};
+use crate::combinations::{Combination, Taken, combined, own_of};
+use explanation_text::wording::put_joined;
+use explanation_text::{Items, Label, ListBuilder, Text, TextBuilder};
 use script_reading::Act;
 use script_story::{Became, Domain, Milestone, Story, asked_in};
 use std::alloc::{AllocError, Global};
 use sysmem_merge::Settings;
-use value_sources::{NamedParticipant, held, needed, why_held, why_needed};
+use value_sources::{LeastCount, NamedParticipant, held, why_held};
 
 /// How many who hold nothing any more are told.
 const MOST_GONE: usize = 4;
@@ -22,20 +24,75 @@ pub fn count_above(story: &Story<'_>, index: usize) -> Option<u32> {
 }
 
 /// How many buffers all need together who share those of the domain of an index, where that is more
-/// than were decided before it.
-pub fn room_needed(
+/// than were decided before it: with the first child of each of its groups, with the children that
+/// need the fewest, and with those who come before it and have no room either; each number once.
+pub fn rooms_needed(
     alloc: Global,
     story: &Story<'_>,
     index: usize,
-) -> Result<Option<u32>, AllocError> {
+) -> Result<Vec<u32>, AllocError> {
     let Some(count) = count_above(story, index) else {
-        return Ok(None);
+        return Ok(Vec::new(alloc));
     };
-    let mut all = accepted_before(alloc, story, index)?;
-    all.extend_from_slice(&asked_in(alloc, story, index, false)?)?;
-    match u32::try_from(needed(&all)) {
-        Ok(most) if most > count => Ok(Some(most)),
-        _ => Ok(None),
+    let all = accepted_before(alloc, story, index)?;
+    let mut rooms = Vec::new(alloc);
+    for which in [Taken::First, Taken::Fewest] {
+        add_room(&mut rooms, story, index, which, &all, count)?;
+    }
+    let all = with_roomless(alloc, story, index, all)?;
+    add_room(&mut rooms, story, index, Taken::First, &all, count)?;
+    Ok(rooms)
+}
+
+/// Adds how many buffers others need together with those of the domain of an index, if such a child
+/// is taken of each group, where that is more than this and isn't there.
+fn add_room<'a>(
+    rooms: &mut Vec<u32>,
+    story: &Story<'a>,
+    index: usize,
+    which: Taken,
+    others: &[NamedParticipant<'a>],
+    count: u32,
+) -> Result<(), AllocError> {
+    let alloc = *rooms.allocator();
+    let mut all = Vec::from_slice(alloc, others)?;
+    all.extend_from_slice(&combined(alloc, story, index, which)?.participants)?;
+    let Some(least) = LeastCount::of(&all) else {
+        return Ok(());
+    };
+    match u32::try_from(least.number()) {
+        Ok(room) if room > count && !rooms.contains(&room) => {
+            rooms.push(room)?;
+            Ok(())
+        }
+        _ => Ok(()),
+    }
+}
+
+/// Participants, with those of the attached domains before that of an index that are empty.
+fn with_roomless<'a>(
+    alloc: Global,
+    story: &Story<'a>,
+    index: usize,
+    participants: Vec<NamedParticipant<'a>>,
+) -> Result<Vec<NamedParticipant<'a>>, AllocError> {
+    let mut all = participants;
+    for earlier in &story.order {
+        if *earlier == index {
+            break;
+        }
+        if is_empty(story, *earlier) {
+            all.extend_from_slice(&combined(alloc, story, *earlier, Taken::First)?.participants)?;
+        }
+    }
+    Ok(all)
+}
+
+/// Whether the domain of an index was attached, and has no settings.
+fn is_empty(story: &Story<'_>, index: usize) -> bool {
+    match story.domains.get(index) {
+        Some(domain) => domain.host.is_some() && domain.became == Became::Empty,
+        None => false,
     }
 }
 
@@ -108,45 +165,87 @@ fn add_those<'a>(
     Ok(())
 }
 
-/// Tells how many buffers all need together, those before and these, where more than were decided;
-/// and who hold none any more.
-pub(crate) fn add_lacking<'a>(
+/// Tells how many buffers all need together, those before and those of the domain of an index, where
+/// more than were decided: with the first child of each group, and with the children that need the
+/// fewest; and who hold none any more.
+pub(crate) fn add_lacking(
     items: &mut Items,
-    story: &Story<'a>,
+    story: &Story<'_>,
     index: usize,
-    participants: &[NamedParticipant<'a>],
     count: u32,
 ) -> Result<(), AllocError> {
     let alloc = items.alloc();
-    let mut all = accepted_before(alloc, story, index)?;
-    all.extend_from_slice(participants)?;
-    let lacking = needed(&all).saturating_sub(u64::from(count));
-    if lacking == 0 {
-        return Ok(());
+    let first = combined(alloc, story, index, Taken::First)?;
+    let is_lacking = add_lacking_with(items, story, index, &first, count)?;
+    let fewest = combined(alloc, story, index, Taken::Fewest)?;
+    if fewest.children != first.children {
+        let _is_told = add_lacking_with(items, story, index, &fewest, count)?;
     }
-    items.say(1, Label::Count, lacking_text(alloc, &all, count, lacking));
-    add_gone(items, story, index)
+    if is_lacking {
+        add_gone(items, story, index)
+    } else {
+        Ok(())
+    }
 }
 
-/// That so many buffers are too few: `8 buffers are needed, 7 were decided, 1 too few: ..`.
+/// Tells the same of those who come together; whether more are needed than were decided.
+fn add_lacking_with<'a>(
+    items: &mut Items,
+    story: &Story<'a>,
+    index: usize,
+    those: &Combination<'a>,
+    count: u32,
+) -> Result<bool, AllocError> {
+    let alloc = items.alloc();
+    let mut all = accepted_before(alloc, story, index)?;
+    all.extend_from_slice(&those.participants)?;
+    let Some(least) = LeastCount::of(&all) else {
+        return Ok(false);
+    };
+    if least.number() <= u64::from(count) {
+        return Ok(false);
+    }
+    let with = names_of(alloc, story, &those.children)?;
+    items.say(1, Label::Count, lacking_text(alloc, &least, &with, count));
+    Ok(true)
+}
+
+/// The names of nodes.
+fn names_of(alloc: Global, story: &Story<'_>, nodes: &[usize]) -> Result<Vec<Text>, AllocError> {
+    let mut names = ListBuilder::new(alloc);
+    for node in nodes {
+        names.add_text(TextBuilder::of_name(alloc, story.called(*node)));
+    }
+    names.done()
+}
+
+/// That so many buffers are too few: `8 buffers are needed, 7 were decided, 1 too few: ..`; with
+/// these children, if some are.
 fn lacking_text(
     alloc: Global,
-    all: &[NamedParticipant<'_>],
+    least: &LeastCount<'_, '_>,
+    with: &[Text],
     count: u32,
-    lacking: u64,
 ) -> TextBuilder {
     let were = if count == 1 { "was" } else { "were" };
+    let lacking = least.number().saturating_sub(u64::from(count));
     let mut words = TextBuilder::new(alloc);
     words
-        .value(u128::from(needed(all)))
-        .put(" buffers are needed, ")
+        .value(u128::from(least.number()))
+        .put(" buffers are needed");
+    if !with.is_empty() {
+        words.put(" with ");
+        put_joined(&mut words, with, "and");
+    }
+    words
+        .put(", ")
         .put_number(count)
         .put(" ")
         .put(were)
         .put(" decided, ")
         .put_number(lacking)
         .put(" too few: ")
-        .put_words(&why_needed(alloc, all));
+        .put_words(&least.why(alloc));
     words
 }
 
@@ -217,13 +316,6 @@ fn add_more(items: &mut Items, more: usize) {
         .put_number(more)
         .put(" more held some, and are gone too");
     items.say(2, Label::Plain, words)
-}
-
-/// How many buffers are for a participant alone: for camping, and as dedicated slack.
-fn own_of(one: &NamedParticipant<'_>) -> u64 {
-    let counts = one.asked.counts();
-    let camping = u64::from(counts.min_buffer_count_for_camping);
-    camping.saturating_add(u64::from(counts.min_buffer_count_for_dedicated_slack))
 }
 
 /// Until when somebody held so many: `first held 2 until call 11 released it`.

@@ -241,7 +241,7 @@ fn head_of(alloc: Global, group: Name<'_>, names: &[Name<'_>]) -> TextBuilder {
     let mut words = TextBuilder::of_name(alloc, group);
     words.put(" as ");
     put_joined(&mut words, names, "or");
-    words.put(":");
+    words.head();
     words
 }
 
@@ -291,7 +291,7 @@ fn add_not(
     other: Choice,
 ) -> Result<(), AllocError> {
     let mut words = TextBuilder::of(items.alloc(), "not ");
-    words.name(empty.story.called(other.child)).put(":");
+    words.name(empty.story.called(other.child)).head();
     items.say(2, Label::Plain, words);
     let longer = with_choice(items.alloc(), choices, other.group, other.child)?;
     add_empty(items, 3, empty, &longer, told, empty.story.nodes.len())

@@ -3,13 +3,13 @@
 use crate::answer::answer_of;
 use crate::domains::add_domain;
 use crate::selecting::{DomainView, add_left_out};
-use explanation_text::{Items, Kind, Label, TextBuilder};
+use explanation_text::{Items, Label, TextBuilder};
 use negotiation_inputs::Platform;
 use script_story::{Became, Story, refused_words};
 use std::alloc::AllocError;
 
 /// How many lines are told of a domain.
-const MOST: usize = 8;
+const MOST: usize = 12;
 
 /// Tells the answer of a story, and which calls are refused.
 pub fn add_in_short(items: &mut Items, story: &Story<'_>) -> Result<(), AllocError> {
@@ -30,16 +30,7 @@ pub fn add_shortly(
 ) -> Result<(), AllocError> {
     let mut section = Items::new(items.alloc());
     add_reasons(&mut section, &*platform, &*story, index)?;
-    let mut told = 0usize;
-    for mut item in section.into_list()? {
-        if item.kind == Kind::Title || item.label == Label::Who || told >= MOST {
-            continue;
-        }
-        told = told.saturating_add(1);
-        item.depth = item.depth.saturating_add(1);
-        items.add(item);
-    }
-    Ok(())
+    items.append_section(section, 1, MOST)
 }
 
 /// Tells the same in as many lines as it takes.

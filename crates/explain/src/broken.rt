@@ -1,6 +1,6 @@
 //! What a script means that is no JSON, once it is corrected where it stops being some.
 
-use crate::corrected::add_answer;
+use crate::corrected::{add_answer, add_too_long, is_too_long};
 use crate::helping::LEVELS;
 use crate::mended::mended;
 use crate::mended_words::put_corrections;
@@ -14,8 +14,6 @@ use std::slice::from_ref;
 
 /// How many places are corrected.
 const MOST: usize = 40;
-/// How long the text may be, in bytes: for each place it is gone through.
-const LONGEST: usize = 262_144;
 /// How many places are told.
 const MOST_TOLD: usize = 4;
 
@@ -30,6 +28,11 @@ struct Whole {
 /// be meant.
 pub(crate) fn corrected_json(alloc: Global, document: &Document<'_>) -> Result<Items, AllocError> {
     let mut items = Items::new(alloc);
+    // For each place that is corrected the text is gone through.
+    if is_too_long(document) {
+        add_too_long(&mut items, "what comes once this is corrected");
+        return Ok(items);
+    }
     let Some(whole) = whole_of(alloc, document)? else {
         return Ok(items);
     };
@@ -71,7 +74,7 @@ fn add_whole(
 /// The text, corrected place by place until it is JSON; `None` where it isn't known what is meant at
 /// one, or there are many.
 fn whole_of(alloc: Global, document: &Document<'_>) -> Result<Option<Whole>, AllocError> {
-    if document.bytes.len() > LONGEST || std::str::from_utf8(document.bytes).is_err() {
+    if std::str::from_utf8(document.bytes).is_err() {
         return Ok(None);
     }
     let mut bytes = Vec::from_slice(alloc, document.bytes)?;

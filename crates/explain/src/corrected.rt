@@ -12,13 +12,33 @@ use domain_reasons::{add_in_short, add_shortly, answer_of, choices_in};
 use explanation_text::{Correction, Item, Items, Kind, Label, TextBuilder, repeated_keys};
 use other_outcomes::{list_added, list_meant, list_moved};
 use script_faults::{Document, add_fault};
-use script_reading::{ParseFault, Script, ScriptFault, parse_script, read_script};
+use script_reading::{
+    ParseFault, Script, ScriptFault, parse_script, read_records, read_script, shared_calls,
+};
 use script_story::{Became, Effort, Scenario, Story, list_refused, story_of};
 use serde_json::Value;
 use std::alloc::{AllocError, Global};
 
 /// How many lines are told of the answer and of calls that are refused.
 const MOST: usize = 13;
+/// How long a text may be that is corrected, or whose calls are made otherwise, in bytes: what comes
+/// then is one value more, of up to 175 bytes a byte.
+const LONGEST: usize = 262_144;
+
+/// Whether a script's text is too long to be made otherwise.
+pub(crate) fn is_too_long(document: &Document<'_>) -> bool {
+    document.bytes.len() > LONGEST
+}
+
+/// Tells that it isn't told what comes of a script for that, as words say it.
+pub(crate) fn add_too_long(items: &mut Items, what: &str) {
+    let mut words = TextBuilder::of(items.alloc(), what);
+    words
+        .put(" isn't told: the text is longer than ")
+        .put_number(LONGEST)
+        .put(" bytes");
+    items.say(1, Label::Note, words)
+}
 
 /// What may be meant where faults are shown; nothing where of one of them that isn't known.
 fn corrections_in<'b>(alloc: Global, shown: &'b [Item]) -> Result<Vec<&'b Correction>, AllocError> {
@@ -68,7 +88,7 @@ fn add_corrected(
     levels: usize,
 ) -> Result<bool, AllocError> {
     let Some(levels) = levels.checked_sub(1) else {
-        return Ok(false);
+        return add_no_more(items, shown);
     };
     let Some((bytes, value)) = meant_in(items, document, shown)? else {
         return Ok(false);
@@ -83,8 +103,19 @@ fn add_corrected(
     Ok(true)
 }
 
+/// Tells that it isn't told what comes once faults are corrected that are shown, if of each of them
+/// it is known what may be meant; whether that is so.
+fn add_no_more(items: &mut Items, shown: &[Item]) -> Result<bool, AllocError> {
+    let is_known = !corrections_in(items.alloc(), shown)?.is_empty();
+    if is_known {
+        let text = "what comes once this is corrected too isn't told";
+        items.list_text(1, Label::Note, text);
+    }
+    Ok(is_known)
+}
+
 /// The script in which what may be meant stands where faults are shown, and what it spells, if of
-/// each of them that is known; tells what is corrected.
+/// each of them that is known; tells what is corrected, or that the text is too long for it.
 fn meant_in(
     items: &mut Items,
     document: &Document<'_>,
@@ -93,6 +124,10 @@ fn meant_in(
     let alloc = items.alloc();
     let corrections = corrections_in(alloc, shown)?;
     if corrections.is_empty() {
+        return Ok(None);
+    }
+    if is_too_long(document) {
+        add_too_long(items, "what comes once this is corrected");
         return Ok(None);
     }
     let Some(bytes) = mended(alloc, document, &corrections)? else {
@@ -183,12 +218,16 @@ pub(crate) fn add_called_otherwise(
     Ok(true)
 }
 
-/// The script with refused calls made otherwise, if that is known; tells how.
+/// The script with refused calls made otherwise, if that is known and its text isn't too long; tells
+/// how.
 fn called_otherwise(
     items: &mut Items,
     document: &Document<'_>,
     story: &Story<'_>,
 ) -> Result<Option<Recalled>, AllocError> {
+    if is_too_long(document) {
+        return Ok(None);
+    }
     if let Some(value) = list_meant(items, document.value, story)? {
         return Ok(Some(Recalled {
             value,
@@ -221,8 +260,8 @@ fn is_one_pending(story: &Story<'_>) -> bool {
 
 /// Tells the answer of a script, which of its calls are refused, what would help its domains, and
 /// what is chosen unless that is said now, or it isn't to be told as nothing is given for now; or
-/// that it is refused itself. What is tried costs of this, or as much as of a script by itself. Faults
-/// are corrected where the document's text spells the script. The story goes on so often at most.
+/// that it is refused itself. What is tried costs of this effort, if one is given. Faults are
+/// corrected where the document's text spells the script. The story goes on so often at most.
 #[cycle(add_answer)]
 pub(crate) fn add_answer(
     items: &mut Items,
@@ -234,13 +273,7 @@ pub(crate) fn add_answer(
 ) -> Result<(), AllocError> {
     let alloc = items.alloc();
     match read_script(alloc, document.value) {
-        Ok(script) => match effort {
-            Some(effort) => add_script(items, document, &script, effort, now, is_spelled, levels),
-            None => {
-                let effort = Effort::new(alloc, &script.platform, &script.calls)?;
-                add_script(items, document, &script, &effort, now, is_spelled, levels)
-            }
-        },
+        Ok(script) => add_read(items, document, script, effort, now, is_spelled, levels),
         Err(ParseFault::NoMemory) => Err(AllocError),
         Err(ParseFault::Refused(fault)) => {
             let shown = fault_in(alloc, document, fault)?;
@@ -248,6 +281,52 @@ pub(crate) fn add_answer(
             let _is_told = add_corrected(&mut below, document, &shown, effort, now, levels)?;
             add_shown(items, shown);
             add_one_deeper(items, below)
+        }
+    }
+}
+
+/// Tells the same of a script that isn't refused, whose records are read once.
+#[cycle(add_answer)]
+fn add_read(
+    items: &mut Items,
+    document: &Document<'_>,
+    script: Script<'_>,
+    effort: Option<&Effort>,
+    now: Option<&str>,
+    is_spelled: bool,
+    levels: usize,
+) -> Result<(), AllocError> {
+    let alloc = items.alloc();
+    let Script { platform, calls } = script;
+    let read = read_records(alloc, &calls)?;
+    let shared = shared_calls(alloc, &read)?;
+    let script = Script {
+        platform,
+        calls: shared,
+    };
+    add_weighed(items, document, &script, effort, now, is_spelled, levels)
+}
+
+/// The same, where what is tried costs of this, or as much as of a script by itself.
+#[cycle(add_answer)]
+fn add_weighed(
+    items: &mut Items,
+    document: &Document<'_>,
+    script: &Script<'_>,
+    effort: Option<&Effort>,
+    now: Option<&str>,
+    is_spelled: bool,
+    levels: usize,
+) -> Result<(), AllocError> {
+    match effort {
+        Some(effort) => {
+            add_script(items, &*document, &*script, effort, now, is_spelled, levels)
+        },
+        None => {
+            let effort = Effort::new(items.alloc(), &script.platform, &script.calls)?;
+            add_script(
+                items, &*document, &*script, &effort, now, is_spelled, levels,
+            )
         }
     }
 }
@@ -325,7 +404,7 @@ fn add_script<'a>(
 }
 
 /// Tells the answer of a story, and which calls are refused: the first of them where there are many.
-fn add_few(items: &mut Items, story: &Story<'_>) -> Result<(), AllocError> {
+pub(crate) fn add_few(items: &mut Items, story: &Story<'_>) -> Result<(), AllocError> {
     let mut short = Items::new(items.alloc());
     add_in_short(&mut short, story)?;
     let more = short.len().saturating_sub(MOST);
@@ -372,7 +451,7 @@ fn add_domains_then(
         add_shortly(items, scenario.platform, story, index)?;
         if domain.became != Became::Chosen && !scenario.effort.is_spent() {
             let levels = LEVELS.saturating_sub(1);
-            add_help_then(items, document, scenario, story, index, levels)?;
+            add_help_then(items, document, scenario, story, index, levels, 1)?;
         }
     }
     Ok(())

@@ -3,15 +3,18 @@
 use crate::entries::add_unused;
 use crate::helping::{LEVELS, index_at, list_help};
 use crate::not_chosen::add_not_chosen;
-use constraint_changes::{Group, RestatedConstraints, add_together, list_changes, restated};
+use constraint_changes::{
+    Group, RestatedConstraints, add_together, list_changes, list_preferred, restated,
+};
 use constraint_edits::edits_on;
 use domain_reasons::add_domain;
 use explanation_text::{Item, Items, Kind, Label};
 use other_outcomes::{add_ended_later, add_heaps, add_platform};
 use script_faults::Document;
 use script_reading::Call;
-use script_story::{Became, Scenario, Story, asked_in, story_of};
+use script_story::{Scenario, Story, asked_in, story_of};
 use std::alloc::AllocError;
+use value_sources::NamedParticipant;
 
 /// Tells each domain, in the order of the report.
 pub(crate) fn add_domains(
@@ -25,14 +28,15 @@ pub(crate) fn add_domains(
             add_domain(items, scenario.platform, story, *index)?;
             add_unused(items, document, scenario, story, *index)?;
             list_help(items, document, scenario, story, *index, LEVELS)?;
+            add_preferred(items, document, scenario, story, *index)?;
         }
     }
     Ok(())
 }
 
-/// Tells what would help an empty domain: calls that end somebody earlier, one change of a
-/// participant or else some together, and a pair that the platform lacks.
-pub(crate) fn add_edits(
+/// Tells by which changes of a participant an initial domain that is chosen would have another
+/// child, image or place.
+fn add_preferred(
     items: &mut Items,
     document: &Document<'_>,
     scenario: &Scenario<'_>,
@@ -48,16 +52,50 @@ pub(crate) fn add_edits(
         platform.pairs(),
         platform.colours(),
     )?;
+    let group = group_of(document, scenario, story, index, &participants);
+    list_preferred(items, group, index, &edits)
+}
+
+/// Those whose constraints are changed, in the domain of this index.
+fn group_of<'a, 'b>(
+    document: &'b Document<'a>,
+    scenario: &'b Scenario<'a>,
+    story: &'b Story<'a>,
+    index: usize,
+    participants: &'b [NamedParticipant<'a>],
+) -> Group<'a, 'b> {
     let root = story.root_of(index);
-    add_ended_later(items, scenario, story, index, story.path(root))?;
-    let group = Group {
+    Group {
         document,
         scenario,
         story,
         path: story.path(root),
         root,
-        participants: &participants,
-    };
+        participants,
+    }
+}
+
+/// Tells what would help an empty domain: calls that end somebody earlier, one change of a
+/// participant or else some together, and a pair that the platform lacks. Gives what calls state by
+/// the first change, if there is one.
+pub(crate) fn add_edits(
+    items: &mut Items,
+    document: &Document<'_>,
+    scenario: &Scenario<'_>,
+    story: &Story<'_>,
+    index: usize,
+) -> Result<Vec<RestatedConstraints>, AllocError> {
+    let alloc = items.alloc();
+    let platform = scenario.platform;
+    let participants = asked_in(alloc, story, index, false)?;
+    let edits = edits_on(
+        alloc,
+        platform.heaps().len(),
+        platform.pairs(),
+        platform.colours(),
+    )?;
+    let group = group_of(document, scenario, story, index, &participants);
+    add_ended_later(items, scenario, story, index, group.path)?;
     let mut changes = Items::new(alloc);
     let mut first = list_changes(&mut changes, group, index, &edits)?;
     if first.is_empty() {
@@ -65,7 +103,8 @@ pub(crate) fn add_edits(
     }
     add_changes(items, group, changes.into_list()?, &first)?;
     add_platform(items, scenario, group.path, &participants)?;
-    add_heaps(items, scenario, group.path, &participants)
+    add_heaps(items, scenario, group.path, &participants)?;
+    Ok(first)
 }
 
 /// Tells changes, and below the first decision that would come what isn't chosen in it, where calls

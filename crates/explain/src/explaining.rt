@@ -6,19 +6,22 @@ ghost use Rattle.explain.specs.Lines.{IsToldBy, item_texts};
 ghost use Rattle.explain.specs.Wanted.{AreThere};
 
 use crate::broken::corrected_json;
-use crate::corrected::{add_called_otherwise, corrected, said_in};
+use crate::corrected::{add_called_otherwise, add_too_long, corrected, is_too_long, said_in};
 use crate::domains::add_domains;
 use crate::helping::LEVELS;
 use crate::json::{PlayedScript, Scene, objects_of};
 use crate::lines::with_lines;
 use crate::page::page_of_scene;
+use crate::too_great::{add_too_great, is_too_great};
 use domain_reasons::answer_of;
 use explanation_text::{
     Item, Items, Kind, Label, Span, Standing, TextBuilder, column_of, line_of, repeated_keys,
     text_of,
 };
 use script_faults::{Document, Whole, add_fault, add_no_json};
-use script_reading::{ParseFault, Script, ScriptFault, parse_script, read_script};
+use script_reading::{
+    ParseFault, Script, ScriptFault, parse_script, read_records, read_script, shared_calls,
+};
 use script_story::{Became, Effort, Scenario, Story, list_refused, refused_calls, story_of};
 use serde_json::Value;
 use std::alloc::{AllocError, Global};
@@ -35,6 +38,8 @@ pub enum Outcome {
     Faulty,
     /// The script is refused.
     Refused,
+    /// It isn't known, since to read the script takes too much memory.
+    Untold,
 }
 
 /// What is wanted of an explanation.
@@ -59,8 +64,9 @@ pub struct Explanation {
 
 /// Explains a script: where it has a fault, or what its report means, in the forms that are wanted.
 /// It is read once and its calls are made once, and once more with their certificate for a page.
-/// The file's name, as it was given, stands before lines and columns. `AllocError` where memory is
-/// refused, also where it is within the run.
+/// The file's name, as it was given, stands before lines and columns. A script whose value takes more
+/// than some 120 MB isn't read: that is all that is told of it. `AllocError` where memory is refused,
+/// also where it is within the run.
 pub fn explain(
     alloc: Global,
     file: &str,
@@ -71,6 +77,9 @@ pub fn explain(
         (λ text. IsToldBy (item_texts told.items.items) (string_bytes text))) }
     ensures wanted { IfOk result (AreThere wanted) }
 {
+    if is_too_great(bytes) {
+        return untold(alloc, file, bytes, wanted);
+    }
     match parse_script(alloc, bytes) {
         Ok(value) => explain_value(alloc, file, bytes, &value, wanted),
         Err(ParseFault::NoMemory) => Err(AllocError),
@@ -86,15 +95,38 @@ pub fn explain(
             } else {
                 fault_items(alloc, &document, fault)?
             };
-            refusal(alloc, document, items, wanted)
+            unplayed(alloc, document, Outcome::Refused, items, wanted)
         }
     }
 }
 
-/// A script that is refused, printed.
-fn refusal(
+/// That a script isn't explained, printed.
+fn untold(
+    alloc: Global,
+    file: &str,
+    bytes: &[u8],
+    wanted: Outputs,
+) -> Result<Explanation, AllocError>
+    ensures objects { IfOk result (λ told. IfSome told.objects
+        (λ text. IsToldBy (item_texts told.items.items) (string_bytes text))) }
+    ensures wanted { IfOk result (AreThere wanted) }
+{
+    let document = Document {
+        file,
+        bytes,
+        value: &Value::Null,
+        whole: Whole::Script,
+    };
+    let mut items = Items::new(alloc);
+    add_too_great(&mut items);
+    unplayed(alloc, document, Outcome::Untold, items, wanted)
+}
+
+/// What is told of a script whose calls aren't made, printed.
+fn unplayed(
     alloc: Global,
     document: Document<'_>,
+    outcome: Outcome,
     items: Items,
     wanted: Outputs,
 ) -> Result<Explanation, AllocError>
@@ -107,7 +139,7 @@ fn refusal(
         played: None,
     };
     let items = items.into_list()?;
-    printed(alloc, scene, Outcome::Refused, items, wanted)
+    printed(alloc, scene, outcome, items, wanted)
 }
 
 /// What is told, in the forms that are wanted.
@@ -196,11 +228,11 @@ fn explain_value(
         whole: Whole::Script,
     };
     match read_script(alloc, value) {
-        Ok(script) => explain_script(alloc, document, &script, wanted),
+        Ok(script) => explain_read(alloc, document, script, wanted),
         Err(ParseFault::NoMemory) => Err(AllocError),
         Err(ParseFault::Refused(fault)) => {
             let items = fault_items(alloc, &document, fault)?;
-            refusal(alloc, document, items, wanted)
+            unplayed(alloc, document, Outcome::Refused, items, wanted)
         }
     }
 }
@@ -253,6 +285,27 @@ fn add_repeats_first(items: &mut Items, document: &Document<'_>) -> Result<(), A
         items.title("where the script is refused", Standing::Bad);
     }
     Ok(())
+}
+
+/// Explains what a script's calls do, whose records are read once.
+fn explain_read(
+    alloc: Global,
+    document: Document<'_>,
+    script: Script<'_>,
+    wanted: Outputs,
+) -> Result<Explanation, AllocError>
+    ensures objects { IfOk result (λ told. IfSome told.objects
+        (λ text. IsToldBy (item_texts told.items.items) (string_bytes text))) }
+    ensures wanted { IfOk result (AreThere wanted) }
+{
+    let Script { platform, calls } = script;
+    let read = read_records(alloc, &calls)?;
+    let shared = shared_calls(alloc, &read)?;
+    let script = Script {
+        platform,
+        calls: shared,
+    };
+    explain_script(alloc, document, &script, wanted)
 }
 
 /// Explains what a script's calls do.
@@ -316,19 +369,31 @@ fn add_story(
     add_calls(items, document, story, scenario.effort)?;
     let _is_told = add_called_otherwise(items, document, scenario, story, LEVELS)?;
     add_domains(items, document, scenario, story)?;
-    add_untold(items, scenario.effort);
+    add_untold(items, document, scenario, story);
     Ok(())
 }
 
-/// Tells that not all was tried, where that would take long.
-fn add_untold(items: &mut Items, effort: &Effort) {
-    if effort.is_spent() {
+/// Tells that not all was tried, where that would take long, or memory.
+fn add_untold(
+    items: &mut Items,
+    document: &Document<'_>,
+    scenario: &Scenario<'_>,
+    story: &Story<'_>,
+) {
+    let is_spent = scenario.effort.is_spent();
+    let is_long = is_too_long(document) && refused_calls(story) > 0;
+    if is_spent || is_long {
         items.title("note: what isn't told", Standing::Open);
+    }
+    if is_spent {
         items.list_text(
             1,
             Label::Note,
             "more changes, and more that would be decided otherwise: to try more would take long",
         );
+    }
+    if is_long {
+        add_too_long(items, "what comes once refused calls are made otherwise");
     }
 }
 

@@ -3,18 +3,21 @@
 
 ghost use Rattle.std.specs.Prelude.{◌≡◌};
 
+use crate::corrected::add_few;
 use crate::domains::add_edits;
 use crate::not_chosen::add_not_chosen;
-use constraint_changes::put_choice;
+use constraint_changes::{RestatedConstraints, put_choice, restated};
 use domain_reasons::{add_domain, choices_in};
-use explanation_text::{Items, Kind, Label};
+use explanation_text::{Items, Label, TextBuilder};
 use other_outcomes::{
     Otherwise, add_ended_earlier, add_groups_exchanged, add_later_children, add_released,
     add_taken_pairs, add_then, add_without, reordered,
 };
 use script_faults::Document;
-use script_story::{Became, Domain, Scenario, Story, story_of};
+use script_reading::Call;
+use script_story::{Became, Domain, Scenario, Story, put_domain, refused_calls, story_of};
 use std::alloc::{AllocError, Global};
+use sysmem_tree::Refusal;
 
 /// How many lines are told of why a domain has no settings.
 const MOST: usize = 12;
@@ -53,29 +56,101 @@ pub(crate) fn list_help(
         Became::Pending => {
             let then = add_then(items, scenario, story, path)?;
             if levels < LEVELS || chooses(&then) {
-                add_further(items, document, scenario, then, place)?;
+                add_further(items, document, scenario, story, then, place)?;
             } else {
                 add_above(items, &then);
             }
             let is_first = levels == LEVELS;
             let then = add_without(items, scenario, story, index, path, is_first)?;
-            add_further(items, document, scenario, then, place)
+            add_further(items, document, scenario, story, then, place)
         }
-        Became::Empty => add_edits(items, document, scenario, story, index),
+        Became::Empty if scenario.effort.is_spent() => Ok(()),
+        Became::Empty => {
+            let stated = add_edits(items, document, scenario, story, index)?;
+            add_changed(items, document, scenario, story, &stated, levels)
+        }
         Became::Failed => {
             let then = add_released(items, scenario, story, index, path)?;
-            add_further(items, document, scenario, then, place)
+            add_further(items, document, scenario, story, then, place)
         }
         Became::Chosen => {
             let once = place_of(story, path, if levels > 0 { 1 } else { 0 }, domain.became);
             let then = add_ended_earlier(items, scenario, story, index, path)?;
-            add_further(items, document, scenario, then, once)?;
+            add_further(items, document, scenario, story, then, once)?;
             let then = add_groups_exchanged(items, scenario, document.value, story, index, path)?;
-            add_further(items, document, scenario, then, once)?;
+            add_further(items, document, scenario, story, then, once)?;
             add_later(items, scenario, story, index, path)
         }
         _ => Ok(()),
     }
+}
+
+/// Tells what the script has where calls state this, if one is answered otherwise then, or a domain
+/// isn't chosen. The story goes on so often at most.
+#[cycle(list_help)]
+fn add_changed(
+    items: &mut Items,
+    document: &Document<'_>,
+    scenario: &Scenario<'_>,
+    story: &Story<'_>,
+    stated: &[RestatedConstraints],
+    levels: usize,
+) -> Result<(), AllocError> {
+    let Some(levels) = levels.checked_sub(1) else {
+        return Ok(());
+    };
+    let is_alone = refused_calls(story) == 0 && story.domains.len() < 2;
+    if stated.is_empty() || is_alone || scenario.effort.is_spent() {
+        return Ok(());
+    }
+    let calls = restated(items.alloc(), scenario.calls, stated)?;
+    add_replayed(items, document, scenario, story, &calls, levels)
+}
+
+/// The same of these calls.
+#[cycle(list_help)]
+fn add_replayed(
+    items: &mut Items,
+    document: &Document<'_>,
+    scenario: &Scenario<'_>,
+    now: &Story<'_>,
+    calls: &Vec<Call<'_>>,
+    levels: usize,
+) -> Result<(), AllocError> {
+    let alloc = items.alloc();
+    let other = Scenario {
+        platform: &*scenario.platform,
+        calls: &*calls,
+        effort: &*scenario.effort,
+    };
+    let told = other.tell(alloc, calls)?;
+    if told.report.starved {
+        return Err(AllocError);
+    }
+    let story = story_of(alloc, document.value, calls, &told)?;
+    if !is_answered_otherwise(now, &story) && are_all_chosen(&story) {
+        return Ok(());
+    }
+    let text = "with the first of these decisions the script has:";
+    items.list_text(1, Label::Then, text);
+    add_few(items, &story)?;
+    add_new(items, document, &other, &story, now, None, levels)
+}
+
+/// Whether each domain has settings.
+fn are_all_chosen(story: &Story<'_>) -> bool {
+    for domain in &story.domains {
+        if domain.became != Became::Chosen {
+            return false;
+        }
+    }
+    true
+}
+
+/// Whether one of the same calls, but those that ask for the decision, is answered otherwise then.
+fn is_answered_otherwise(now: &Story<'_>, then: &Story<'_>) -> bool {
+    now.calls.iter().zip(&then.calls).any(|(before, after)| !after.asks()
+        && before.reply != after.reply)
 }
 
 /// Tells of later children and pairs what would be decided if they came before what is chosen.
@@ -138,6 +213,7 @@ fn add_further(
     items: &mut Items,
     document: &Document<'_>,
     scenario: &Scenario<'_>,
+    story: &Story<'_>,
     then: Option<Otherwise<'_>>,
     place: Place<'_>,
 ) -> Result<(), AllocError> {
@@ -153,7 +229,7 @@ fn add_further(
     }
     let place = Place { levels, ..place };
     if then.order.is_empty() {
-        return add_made(items, document, scenario, &then, place);
+        return add_made(items, document, scenario, story, &then, place);
     }
     let value = reordered(items.alloc(), document.value, &then.order)?;
     let other = Document {
@@ -162,15 +238,17 @@ fn add_further(
         value: &value,
         whole: document.whole,
     };
-    add_made(items, &other, scenario, &then, place)
+    add_made(items, &other, scenario, story, &then, place)
 }
 
-/// The same, with the calls where the document has them.
+/// The same, with the calls where the document has them; which of them are refused then for another
+/// reason than that their domain failed; and then of the domains that there are only with these calls.
 #[cycle(list_help)]
 fn add_made(
     items: &mut Items,
     document: &Document<'_>,
     scenario: &Scenario<'_>,
+    now: &Story<'_>,
     then: &Otherwise<'_>,
     place: Place<'_>,
 ) -> Result<(), AllocError> {
@@ -185,10 +263,74 @@ fn add_made(
         return Err(AllocError);
     }
     let story = story_of(alloc, document.value, &then.calls, &told)?;
-    match index_at(&story, place.path) {
-        Some(index) => add_index(items, document, &other, &story, index, place),
-        None => Ok(()),
+    let own = index_at(&story, place.path);
+    if let Some(index) = own {
+        add_index(items, document, &other, &story, index, place)?;
     }
+    if then.order.is_empty() && is_refused_otherwise(now, &story) {
+        add_few(items, &story)?;
+    }
+    add_new(items, document, &other, &story, now, own, place.levels)
+}
+
+/// Whether one of the same calls is refused for another reason than that its domain failed.
+fn is_refused_otherwise(now: &Story<'_>, then: &Story<'_>) -> bool {
+    now.calls.iter().zip(&then.calls).any(|(before, after)| {
+        before.is_refused_as(Refusal::DomainFailed)
+            && !after.is_refused_as(Refusal::DomainFailed)
+            && !after.is_accepted()
+            && !after.asks()
+    })
+}
+
+/// Tells of the domains that there aren't now, or that failed now and not for themselves, which have
+/// no settings, why that is, and what would help; but of that one whose story it is.
+#[cycle(list_help)]
+fn add_new(
+    items: &mut Items,
+    document: &Document<'_>,
+    scenario: &Scenario<'_>,
+    story: &Story<'_>,
+    now: &Story<'_>,
+    own: Option<usize>,
+    levels: usize,
+) -> Result<(), AllocError> {
+    for (index, domain) in story.domains.iter().enumerate() {
+        let is_other = own != Some(index) && is_new(now, story, domain);
+        let is_told = is_other && domain.became != Became::Chosen;
+        if is_told && !scenario.effort.is_spent() {
+            put_head(items, story, domain);
+            let mut why = Items::new(items.alloc());
+            add_domain(&mut why, scenario.platform, story, index)?;
+            items.append_section(why, 2, MOST)?;
+            add_help_then(items, document, scenario, story, index, levels, 2)?;
+        }
+    }
+    Ok(())
+}
+
+/// Whether there isn't a domain now, or it failed since the one to which it was attached has no
+/// settings, and doesn't then.
+fn is_new(now: &Story<'_>, then: &Story<'_>, domain: &Domain) -> bool {
+    let Some(index) = index_at(now, then.path(domain.root)) else {
+        return true;
+    };
+    match now.domains.get(index) {
+        Some(known) => {
+            known.host.is_some()
+                && known.became == Became::Failed
+                && domain.became != Became::Failed
+        }
+        None => false,
+    }
+}
+
+/// Puts what would become of a domain, above why.
+fn put_head(items: &mut Items, story: &Story<'_>, domain: &Domain) {
+    let mut words = TextBuilder::new(items.alloc());
+    put_domain(&mut words, story, domain.root);
+    words.put(" would be ").put(domain.became.word()).head();
+    items.say(2, Label::Plain, words)
 }
 
 /// The domain at a path, by index.
@@ -219,8 +361,8 @@ fn add_index(
     }
     let mut why = Items::new(items.alloc());
     add_domain(&mut why, scenario.platform, story, index)?;
-    add_below(items, why, MOST)?;
-    add_help_then(items, document, scenario, story, index, place.levels)
+    items.append_section(why, 1, MOST)?;
+    add_help_then(items, document, scenario, story, index, place.levels, 1)
 }
 
 /// Tells which children a domain chooses then; and what isn't chosen, unless it is chosen as the
@@ -242,7 +384,7 @@ fn add_chosen(
     }
 }
 
-/// Tells what would help a domain then, if the story is to go on.
+/// Tells what would help a domain then, so much deeper, if the story is to go on.
 #[cycle(list_help)]
 pub(crate) fn add_help_then(
     items: &mut Items,
@@ -251,31 +393,12 @@ pub(crate) fn add_help_then(
     story: &Story<'_>,
     index: usize,
     levels: usize,
+    deeper: usize,
 ) -> Result<(), AllocError> {
     if levels == 0 {
         return Ok(());
     }
     let mut help = Items::new(items.alloc());
     list_help(&mut help, document, scenario, story, index, levels)?;
-    add_below(items, help, usize::MAX)
-}
-
-/// Puts the items of a section one deeper after others, at most so many; without its title, and who
-/// has constraints.
-fn add_below(items: &mut Items, section: Items, most: usize) -> Result<(), AllocError> {
-    let mut count = 0usize;
-    for mut item in section.into_list()? {
-        if item.kind == Kind::Title || item.label == Label::Who {
-            continue;
-        }
-        count = count.saturating_add(1);
-        if count <= most {
-            item.depth = item.depth.saturating_add(1);
-            items.add(item);
-        }
-    }
-    if count > most {
-        items.list_text(2, Label::Plain, "and more of this");
-    }
-    Ok(())
+    items.append_section(help, deeper, usize::MAX)
 }

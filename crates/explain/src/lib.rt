@@ -22,6 +22,7 @@ mod mended;
 mod mended_words;
 mod not_chosen;
 mod page;
+mod too_great;
 mod written;
 
 pub use explaining::{Explanation, Outcome, Outputs, explain};

@@ -1,4 +1,5 @@
-//! Where the fields stand in the script's text that the section of an empty domain names.
+//! Where the fields stand in the script's text that the section of a domain names which is empty or
+//! chosen.
 
 use explanation_text::{Deed, Fact, Item, Kind, Label, Step, Text, TextBuilder, Thing, line_of};
 use record_reading::{ENTRY_FIELDS, MEMORY_FIELDS};
@@ -12,6 +13,13 @@ use sysmem_sanitise::CONSTRAINTS_FIELDS;
 const MOST: usize = 6;
 /// How many entries of a participant are looked at.
 const MOST_ENTRIES: usize = 8;
+/// The fields of which the count is made.
+const COUNTED: [Field; 4] = [
+    Field::MinBufferCount,
+    Field::MinBufferCountForCamping,
+    Field::MinBufferCountForDedicatedSlack,
+    Field::MinBufferCountForSharedSlack,
+];
 /// How long the text may be, in bytes: for each field it is gone through.
 const LONGEST: usize = 262_144;
 
@@ -28,16 +36,16 @@ fn is_told(field: Field) -> bool {
     is_count || MEMORY_FIELDS.contains(&field) || (ENTRY_FIELDS.contains(&field) && is_bound)
 }
 
-/// The section that is gone through: whose domain's it is, if that is empty, and where its items
-/// begin.
+/// The section that is gone through: whose domain's it is, if that is empty or chosen, and where its
+/// items begin.
 #[derive(Clone, Copy)]
 struct Section {
     domain: Option<usize>,
     start: usize,
 }
 
-/// The items, and at the end of the section of each empty domain in which line of the text the
-/// fields stand that it names; where the text has several lines, and isn't long.
+/// The items, and at the end of the section of each domain that is empty or chosen in which line of
+/// the text the fields stand that it names; where the text has several lines, and isn't long.
 pub(crate) fn with_lines(
     alloc: Global,
     document: &Document<'_>,
@@ -57,7 +65,7 @@ pub(crate) fn with_lines(
         if item.kind == Kind::Title {
             add_lines(document, story, &mut lined, section)?;
             section = Section {
-                domain: empty_domain(story, &item),
+                domain: decided_domain(story, &item),
                 start: lined.len().saturating_add(1),
             };
         }
@@ -67,13 +75,14 @@ pub(crate) fn with_lines(
     Ok(lined)
 }
 
-/// The empty domain whose section has this title.
-fn empty_domain(story: &Story<'_>, title: &Item) -> Option<usize> {
+/// The domain that is empty or chosen whose section has this title.
+fn decided_domain(story: &Story<'_>, title: &Item) -> Option<usize> {
     let Thing::Node(root) = title.mentions.first()?.thing else {
         return None;
     };
     for (index, domain) in story.domains.iter().enumerate() {
-        if domain.root == root && domain.became == Became::Empty {
+        let is_decided = matches!(domain.became, Became::Empty | Became::Chosen);
+        if domain.root == root && is_decided {
             return Some(index);
         }
     }
@@ -143,12 +152,14 @@ fn rows_in(
 }
 
 /// Which items tell of the domain itself: what isn't chosen in a decision that would come is left
-/// out.
+/// out, and what is told of calls made otherwise.
 fn own_of(alloc: Global, items: &[Item]) -> Result<Vec<bool>, AllocError> {
     let mut own = Vec::new(alloc);
     let mut promised = None;
+    let mut is_other = false;
     for item in items {
-        let is_own = !is_below(item, promised);
+        is_other = item.label == Label::Then || (is_other && item.depth > 1);
+        let is_own = !is_other && !is_below(item, promised);
         if is_own && item.label != Label::Choice {
             promised = promised_by(item);
         }
@@ -195,7 +206,8 @@ fn rows_of(
             let lines = lines_of(alloc, document, &left, number)?;
             if !lines.is_empty() {
                 let mut text = TextBuilder::of_name(alloc, story.called(node));
-                text.put(": ").put_text(&lines);
+                text.put(" (call ").call(number).put("): ");
+                text.put_text(&lines);
                 rows.push(text.into_text()?)?;
             }
         }
@@ -203,9 +215,19 @@ fn rows_of(
     Ok(rows)
 }
 
-/// Whether an item names a thing, but for one that lists who has constraints.
+/// Whether an item names a thing, but for one that lists who has constraints; one on the count is of
+/// each field of which that is made.
 fn names(item: &Item, thing: Thing) -> bool {
-    item.label != Label::Who && item.mentions.iter().any(|mention| mention.thing == thing)
+    item.label != Label::Who
+        && (is_counted(item, thing) || item.mentions.iter().any(|mention| mention.thing == thing))
+}
+
+/// Whether a thing is a field of which the count is made that an item is on.
+fn is_counted(item: &Item, thing: Thing) -> bool {
+    match thing {
+        Thing::Field(field) => item.label == Label::Count && COUNTED.contains(&field),
+        _ => false,
+    }
 }
 
 /// The fields that those name that tell of the domain.

@@ -33,8 +33,7 @@ pub(crate) fn mended(
     with_parts(alloc, document.bytes, &parts)
 }
 
-/// Whether a correction may be meant: a name is nobody else's, a number stands alone, and a member
-/// that is added is one.
+/// Whether a correction may be meant: a name is nobody else's, and a number stands alone.
 fn may_be_meant(document: &Document<'_>, one: &Correction) -> bool {
     let was = one.span.within(document.bytes);
     match &one.meant {
@@ -43,16 +42,8 @@ fn may_be_meant(document: &Document<'_>, one: &Correction) -> bool {
             let before = document.bytes.get(..one.span.start).unwrap_or(&[]);
             !matches!(before.last(), Some(last) if last.is_ascii_digit())
         }
-        Meant::Written(text) if was.is_empty() => !text.contains('\\') && is_one_member(text),
-        Meant::Written(text) => is_like(was, text.as_bytes()),
         _ => true,
     }
-}
-
-/// Whether a word is another in capitals or not, or begins it; one mark stands for another.
-fn is_like(was: &[u8], text: &[u8]) -> bool {
-    let front = text.get(..was.len()).unwrap_or(text);
-    was.eq_ignore_ascii_case(front) || was.eq_ignore_ascii_case(b"none") || was.len() == 1
 }
 
 /// Whether a text has what no name has, or nothing.
@@ -69,14 +60,6 @@ fn is_made(document: &Document<'_>, name: &str) -> bool {
             == Some(name)),
         None => false,
     }
-}
-
-/// Whether a text that is a member whose value is a name has the quotes of both, and no more.
-fn is_one_member(text: &str) -> bool {
-    !text.starts_with('"')
-        || text.contains('[')
-        || text.len() == 1
-        || text.bytes().filter(|byte| *byte == b'"').count() == 4
 }
 
 /// A text with parts replaced, which are in order; `None` where one begins before another ends.
@@ -129,13 +112,14 @@ fn add_parts(
             }
             Ok(())
         }
-        Meant::Nothing => cut(parts, bytes, with_comma(bytes, one.span)),
+        Meant::Nothing | Meant::NoCall(_) => cut(parts, bytes, with_comma(bytes, one.span)),
         Meant::Moved(moved) => {
             let gone = with_comma(bytes, one.span);
             cut(parts, bytes, gone)?;
+            let member = member_of(alloc, bytes, was, moved)?;
             for place in &moved.places {
                 let is_last = ends_object(bytes, *place, gone);
-                let member = member_at(alloc, was, moved, is_last)?;
+                let member = member_at(alloc, &member, moved, is_last)?;
                 add_part(parts, before(*place), member)?;
             }
             Ok(())
@@ -203,6 +187,21 @@ fn next_byte(bytes: &[u8], place: usize) -> usize {
     place.saturating_add(blanks_first(bytes.get(place..).unwrap_or(&[])))
 }
 
+/// A member that moves, with the key that is meant.
+fn member_of(
+    alloc: Global,
+    bytes: &[u8],
+    was: &[u8],
+    moved: &Moved,
+) -> Result<Vec<u8>, AllocError> {
+    let Some(renamed) = &moved.renamed else {
+        return Vec::from_slice(alloc, was);
+    };
+    let name = renamed.field.name();
+    let key = format!(in alloc; "\"{name}\": ")?;
+    between(alloc, key.as_bytes(), renamed.value.within(bytes), b"")
+}
+
 /// A member as it comes first behind a bracket, and last or not.
 fn member_at(
     alloc: Global,
@@ -229,7 +228,9 @@ fn member_at(
 /// What stands in the place of a part for what is meant, as JSON.
 fn instead(alloc: Global, was: &[u8], meant: &Meant) -> Result<Vec<u8>, AllocError> {
     match meant {
-        Meant::Node(name) | Meant::Word(name) => between(alloc, b"\"", name.as_bytes(), b"\""),
+        Meant::Node(name) | Meant::Word(name) | Meant::Name(name) => {
+            between(alloc, b"\"", name.as_bytes(), b"\"")
+        }
         Meant::Quotes => between(alloc, b"\"", unquoted(was), b"\""),
         Meant::List => between(alloc, b"[", was, b"]"),
         Meant::Number(number) | Meant::Value(_, number) => {
@@ -238,11 +239,18 @@ fn instead(alloc: Global, was: &[u8], meant: &Meant) -> Result<Vec<u8>, AllocErr
         }
         Meant::Flag(_, is_set) => Vec::from_slice(alloc, flag_text(*is_set).as_bytes()),
         Meant::Written(text) => flat(alloc, text.as_bytes()),
+        Meant::Mark(mark) => {
+            let mut text = String::new(alloc);
+            text.push(*mark)?;
+            Vec::from_slice(alloc, text.as_bytes())
+        }
         Meant::Blank => {
             let ends = ends_of(alloc, was)?;
             between(alloc, b" ", &ends, b"")
         }
-        Meant::Moved(_) | Meant::Later { .. } | Meant::Nothing => Ok(Vec::new(alloc)),
+        Meant::Moved(_) | Meant::Later { .. } | Meant::Nothing | Meant::NoCall(_) => {
+            Ok(Vec::new(alloc))
+        }
     }
 }
 

@@ -2,7 +2,7 @@
 
 use crate::mended::{flag_text, spans_of, unquoted};
 use explanation_text::wording::{mark_after, put_visible};
-use explanation_text::{Correction, ListBuilder, Meant, Owner, Span, Text, TextBuilder, line_of};
+use explanation_text::{Correction, ListBuilder, Meant, Moved, Span, Text, TextBuilder, line_of};
 use script_faults::Document;
 use std::alloc::AllocError;
 use sysmem_counts::Field;
@@ -41,33 +41,36 @@ fn put_correction(text: &mut TextBuilder, bytes: &[u8], one: &Correction) {
             put_part(text, was);
             text.put(" left out");
         }
+        Meant::NoCall(call) => {
+            text.put("call ").call(*call).put(" left out");
+        }
         Meant::Moved(moved) => {
             put_part(text, was);
-            text.put(" moved into ");
-            put_owner(text, moved.into)
+            put_moved(text, moved)
         }
         Meant::Later { call, after, .. } => {
             text.put("call ").call(*call);
             text.put(" moved after call ").call(*after);
         }
         Meant::Written(written) if was.is_empty() => {
-            put_added(text, written);
+            put_flat(text, written.trim_end_matches(", "));
             text.put(" added");
         }
-        Meant::Node(_) | Meant::Word(_) => put_replaced(text, &one.meant, unquoted(was)),
+        Meant::Mark(mark) if was.is_empty() => put_mark(text, *mark),
+        Meant::Node(_) | Meant::Word(_) | Meant::Name(_) => {
+            put_replaced(text, &one.meant, unquoted(was))
+        }
         _ => put_replaced(text, &one.meant, was),
     }
 }
 
-/// Puts an object of constraints after a text.
-fn put_owner(text: &mut TextBuilder, owner: Owner) {
-    match owner {
-        Owner::Constraints => text.put(owner.words()),
-        Owner::Memory => text.field(Field::BufferMemoryConstraints),
-        Owner::Entry => text
-            .put("an entry of ")
-            .field(Field::ImageFormatConstraints),
-    };
+/// Puts into which object a member moves after a text, and as which field where its key is another.
+fn put_moved(text: &mut TextBuilder, moved: &Moved) {
+    text.put(" moved into ");
+    moved.into.put(text);
+    if let Some(renamed) = &moved.renamed {
+        text.put(" as ").field(renamed.field);
+    }
 }
 
 /// Puts a part that goes, in a few words, after a text.
@@ -82,14 +85,15 @@ fn put_part(text: &mut TextBuilder, was: &[u8]) {
     };
 }
 
-/// Puts a text of JSON that is added after a text.
-fn put_added(text: &mut TextBuilder, written: &str) {
-    match written {
-        "," => text.put("a comma"),
-        ":" => text.put("a colon"),
-        "\"" => text.put("a double quote"),
-        _ => return put_flat(text, written.trim_end_matches(", ")),
+/// Puts that a mark is added after a text.
+fn put_mark(text: &mut TextBuilder, mark: char) {
+    match mark {
+        ',' => text.put("a comma"),
+        ':' => text.put("a colon"),
+        '"' => text.put("a double quote"),
+        _ => text.put_char(mark),
     };
+    text.put(" added");
 }
 
 /// Puts a text of JSON in one line after a text.
@@ -113,7 +117,7 @@ fn put_replaced(text: &mut TextBuilder, meant: &Meant, was: &[u8]) {
 /// Puts what is meant after a text.
 fn put_new(text: &mut TextBuilder, meant: &Meant) {
     match meant {
-        Meant::Node(name) => {
+        Meant::Node(name) | Meant::Name(name) => {
             text.put(name);
         }
         Meant::Word(name) => put_known(text, name),
@@ -129,11 +133,15 @@ fn put_new(text: &mut TextBuilder, meant: &Meant) {
         Meant::Written(written) => {
             text.put(written);
         }
+        Meant::Mark(mark) => {
+            text.put_char(*mark);
+        }
         Meant::List
         | Meant::Quotes
         | Meant::Moved(_)
         | Meant::Later { .. }
         | Meant::Nothing
+        | Meant::NoCall(_)
         | Meant::Blank => {}
     }
 }

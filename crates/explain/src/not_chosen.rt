@@ -1,5 +1,5 @@
-//! What is told of a decision that would come: how many buffers there are, who refuses what stands
-//! before it, and what would do too but stands after it.
+//! What is told of a decision that would come: how many buffers there are and how large, who refuses
+//! what stands before it, and what would do too but stands after it.
 
 use domain_reasons::add_domain;
 use explanation_text::{Item, Items, Label};
@@ -10,8 +10,9 @@ use std::alloc::{AllocError, Global};
 /// How many lines are told.
 const MOST: usize = 12;
 
-/// Tells of the domain of an index, which is chosen, why there are so many buffers, why children,
-/// places and offers before those that are chosen aren't, and which later ones would do too. It
+/// Tells of the domain of an index, which is chosen, why there are so many buffers of that width and
+/// height, why children, places and offers before those that are chosen aren't, and which later ones
+/// would do too. It
 /// stands as deep as the decision, and right after the choice of children if there is one.
 pub(crate) fn add_not_chosen(
     items: &mut Items,
@@ -29,8 +30,9 @@ pub(crate) fn add_not_chosen(
     add_later_children(&mut later, scenario, story, index, path)?;
     add_taken_pairs(&mut later, scenario, story, index, path)?;
     let most = MOST.saturating_sub(later.len());
-    add_deeper(items, refused, depth, most)?;
-    add_deeper(items, later, depth, usize::MAX)
+    let deeper = depth.saturating_sub(1);
+    items.append_section(refused, deeper, most)?;
+    items.append_section(later, deeper, usize::MAX)
 }
 
 /// What is kept of a section.
@@ -60,9 +62,10 @@ impl Kept {
         self.items.add(item)
     }
 
-    /// Begins with an item that others may stand below; keeps how many buffers there are, and why.
+    /// Begins with an item that others may stand below; keeps how many buffers there are and how
+    /// large an image is, and why.
     fn begin(&mut self, item: Item) {
-        if item.label == Label::Count {
+        if is_number(item.label) {
             self.is_open = false;
             return self.items.add(item);
         }
@@ -71,6 +74,14 @@ impl Kept {
         self.is_on_image = item.label == Label::Image;
         self.head = if has_head { Some(item) } else { None };
     }
+}
+
+/// Whether an item says how many buffers there are or how large an image is.
+fn is_number(label: Label) -> bool {
+    matches!(
+        label,
+        Label::Count | Label::Pixels | Label::Width | Label::Height
+    )
 }
 
 /// What the section of a chosen domain tells of children, places and offers that aren't chosen.
@@ -85,25 +96,4 @@ fn refused_in(alloc: Global, section: Vec<Item>) -> Result<Items, AllocError> {
         kept.take(item);
     }
     Ok(kept.items)
-}
-
-/// Puts items of a section so deep that those of depth 1 have this one, at most so many.
-fn add_deeper(
-    items: &mut Items,
-    section: Items,
-    depth: usize,
-    most: usize,
-) -> Result<(), AllocError> {
-    let mut count = 0usize;
-    for mut item in section.into_list()? {
-        count = count.saturating_add(1);
-        if count <= most {
-            item.depth = item.depth.saturating_add(depth).saturating_sub(1);
-            items.add(item);
-        }
-    }
-    if count > most {
-        items.list_text(depth, Label::Plain, "and more of this");
-    }
-    Ok(())
 }

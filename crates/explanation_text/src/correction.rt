@@ -1,6 +1,7 @@
 //! What may be meant by a part of a text.
 
 use crate::places::Span;
+use crate::words::TextBuilder;
 use sysmem_counts::Field;
 
 /// What may be meant by what stands somewhere.
@@ -8,8 +9,10 @@ use sysmem_counts::Field;
 pub enum Meant {
     /// The name of a node.
     Node(String),
-    /// A key, or another name.
+    /// A key, or a name that a field takes.
     Word(String),
+    /// A name that the script gives: an actor's, or that of a new node.
+    Name(String),
     /// A number.
     Number(u64),
     /// A number that is the value of a field, or a side of it.
@@ -22,6 +25,8 @@ pub enum Meant {
     Quotes,
     /// This text of JSON, in the place of what stands there, if something does.
     Written(String),
+    /// The same of one mark: a comma, a colon, a quote or a bracket.
+    Mark(char),
     /// The member stands in other objects.
     Moved(Moved),
     /// The call of a number stands right after another, of this number, which ends there.
@@ -32,6 +37,8 @@ pub enum Meant {
     },
     /// Nothing: a member or an item stands there that may be left out, with a comma beside it.
     Nothing,
+    /// The same of the call of this number.
+    NoCall(usize),
     /// Nothing: just what stands there may be left out.
     Blank,
 }
@@ -48,12 +55,15 @@ pub enum Owner {
 }
 
 impl Owner {
-    pub fn words(self) -> &'static str {
+    /// Puts the object after a text.
+    pub fn put(self, text: &mut TextBuilder) {
         match self {
-            Owner::Constraints => "the constraints themselves",
-            Owner::Memory => "buffer_memory_constraints",
-            Owner::Entry => "an entry of image_format_constraints",
-        }
+            Owner::Constraints => text.put("the constraints themselves"),
+            Owner::Memory => text.field(Field::BufferMemoryConstraints),
+            Owner::Entry => text
+                .put("an entry of ")
+                .field(Field::ImageFormatConstraints),
+        };
     }
 
     /// The key of the object, or of the list of such.
@@ -70,10 +80,20 @@ impl Owner {
 #[derive(Drop)]
 pub struct Moved {
     pub into: Owner,
+    /// The field that is meant by its key, where that is another.
+    pub renamed: Option<Renamed>,
     /// Whether the object isn't there yet: it comes with the member.
     pub is_new: bool,
     /// Behind which brackets it comes first: the byte after each.
     pub places: Vec<usize>,
+}
+
+/// A field that is meant by the key of a member.
+#[derive(Clone, Copy)]
+pub struct Renamed {
+    pub field: Field,
+    /// Where the member's value stands.
+    pub value: Span,
 }
 
 /// A part of a text, and what may be meant by it.

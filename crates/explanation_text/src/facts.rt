@@ -94,6 +94,8 @@ pub enum Fact {
     Domain(Standing),
     /// It is the title of another section, and how what it tells stands.
     Section(Standing),
+    /// It has no label, and heads what stands below it.
+    Heads,
 }
 
 impl Fact {
@@ -102,7 +104,8 @@ impl Fact {
         match self {
             Fact::Change(deed) => Fact::Change(deed.behind(bytes)),
             Fact::Value(said) => Fact::Value(said.behind(bytes)),
-            Fact::Lined(_) | Fact::Stated(_, _, _) | Fact::Domain(_) | Fact::Section(_) => self,
+            Fact::Lined(_) | Fact::Stated(_, _, _) | Fact::Heads => self,
+            Fact::Domain(_) | Fact::Section(_) => self,
         }
     }
 }

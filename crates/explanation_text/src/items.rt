@@ -209,6 +209,45 @@ impl Items {
         }
     }
 
+    /// Puts the items of a section after the list, so much deeper and at most so many, and then that
+    /// there are more; without its title, and who has constraints.
+    pub fn append_section(
+        &mut self,
+        section: Items,
+        deeper: usize,
+        most: usize,
+    ) -> Result<(), AllocError> {
+        let mut told: Vec<Item> = Vec::new(self.alloc);
+        for item in section.into_list()? {
+            if item.kind != Kind::Title && item.label != Label::Who {
+                told.push(item)?;
+            }
+        }
+        self.append_first(told, deeper, most);
+        Ok(())
+    }
+
+    /// Puts the first items of a list, so much deeper and at most so many, and then that there are
+    /// more.
+    fn append_first(&mut self, told: Vec<Item>, deeper: usize, most: usize) {
+        let count = whole_of(&told, most);
+        let is_cut = count < told.len();
+        let depth = match told.first() {
+            Some(item) => item.depth.saturating_add(deeper),
+            None => deeper,
+        };
+        for (k, item) in told.into_iter().enumerate() {
+            if k < count {
+                let mut item = item;
+                item.depth = item.depth.saturating_add(deeper);
+                self.add(item);
+            }
+        }
+        if is_cut {
+            self.list_text(depth, Label::Plain, "and more of this");
+        }
+    }
+
     /// How many there are.
     pub fn len(&self) -> usize {
         self.list.len()
@@ -251,4 +290,23 @@ fn is_same(a: &Item, b: &Item) -> bool {
         && a.depth == b.depth
         && a.text.as_str() == b.text.as_str()
         && a.mentions == b.mentions
+}
+
+/// How many items are put of which there may be so many: the last of them heads none that is cut.
+fn whole_of(items: &[Item], most: usize) -> usize {
+    let most = items.len().min(most);
+    for count in (1..most.saturating_add(1)).rev() {
+        if !heads_next(items, count.saturating_sub(1)) {
+            return count;
+        }
+    }
+    0
+}
+
+/// Whether the item of an index stands above the next one.
+fn heads_next(items: &[Item], index: usize) -> bool {
+    match (items.get(index), items.get(index.saturating_add(1))) {
+        (Some(item), Some(next)) => item.depth < next.depth,
+        _ => false,
+    }
 }

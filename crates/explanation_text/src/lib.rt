@@ -25,7 +25,7 @@ mod snippet;
 pub mod wording;
 mod words;
 
-pub use correction::{Correction, Meant, Moved, Owner};
+pub use correction::{Correction, Meant, Moved, Owner, Renamed};
 pub use decided::{Choice, Decided};
 pub use facts::{Deed, Fact, Said};
 pub use items::{Item, Items, Kind, are_same};

@@ -215,6 +215,12 @@ impl TextBuilder {
         self.put_number(number)
     }
 
+    /// Puts a colon after the text, which has no label and heads what stands below it.
+    pub fn head(&mut self) -> &mut TextBuilder {
+        self.tell(Fact::Heads);
+        self.put(":")
+    }
+
     /// How long the text is, in bytes.
     pub fn len(&self) -> usize {
         self.text.text.len()

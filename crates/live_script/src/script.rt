@@ -25,7 +25,7 @@ use book_events::Entry;
 use live_book::Snapshot;
 use node_names::Names;
 use record_writing::write_constraints;
-use script_reading::{Act, LONGEST};
+use script_reading::{Act, LONGEST, Stated};
 use script_writing::ScriptWriter;
 use serde_json::Value;
 use std::alloc::{AllocError, Global};
@@ -110,7 +110,7 @@ fn act_of<'a>(kind: ActionKind, made: &'a str, stated: Option<&'a Value>) -> Act
         ActionKind::Bind => Act::Bind,
         ActionKind::CreateChild => Act::CreateChild(made),
         ActionKind::AllChildrenPresent => Act::AllChildrenPresent,
-        ActionKind::SetConstraints => Act::SetConstraints(stated),
+        ActionKind::SetConstraints => Act::SetConstraints(stated.map(Stated::of)),
         ActionKind::AttachToken => Act::AttachToken(made),
         ActionKind::Release => Act::Release,
         ActionKind::Close => Act::Close,

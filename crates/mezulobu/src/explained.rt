@@ -20,7 +20,8 @@ struct ExplanationText {
 }
 
 /// What an explanation says; where it is strict, its status tells whether all went well. The file's
-/// name stands before lines and columns. It fails where memory is refused.
+/// name stands before lines and columns. It fails where memory is refused, and where the script would
+/// take too much to be read.
 pub(crate) fn explanation_answer(
     alloc: Global,
     script: &[u8],
@@ -31,8 +32,8 @@ pub(crate) fn explanation_answer(
     ensures { IfOk result (λ answer.
         ExplanationSays script.now is_strict answer.status answer.text.items) }
 {
-    let fault = fault_of(alloc, script)?;
     let explained = explained_of(alloc, script, file, is_json)?;
+    let fault = fault_of(alloc, script)?;
     Ok(answer_of_explanation(fault, explained, is_strict))
 }
 
@@ -72,6 +73,9 @@ fn explained_of(
         page: false,
     };
     let answer = explain(alloc, file.as_str(), script, wanted)?;
+    if answer.outcome == Outcome::Untold {
+        return Err(AllocError);
+    }
     let is_faulty = answer.outcome == Outcome::Faulty;
     match answer.objects.or(answer.text) {
         Some(text) => Ok(ExplanationText {

@@ -2,11 +2,10 @@
 
 ghost use Rattle.std.specs.Prelude.{◌≡◌, ◌<◌, List, length, IfOk, IfSome};
 ghost use Rattle.script_reading.specs.declared.call.Call.{Call as Called};
-ghost use Rattle.other_outcomes.specs.Moved.{IsPromisedMoved};
 ghost use Rattle.other_outcomes.specs.Shorter.{IsPromisedShorter, IsShorter, leaving_out};
 
 use crate::ended_later::{End, ended_by, ending, put_calls, put_names};
-use crate::moved::{outcome_moved, with_moves};
+use crate::moved::{outcome_moved, put_promised, with_moves};
 use crate::otherwise::Otherwise;
 use domain_reasons::{accepted_before, count_above, gone_before};
 use explanation_text::{Items, Label, TextBuilder};
@@ -207,12 +206,4 @@ fn all_but<'a>(alloc: Global, calls: &[Call<'a>], place: usize) -> Result<Vec<Ca
     let mut made = Vec::from_slice(alloc, &calls[..place])?;
     made.extend_from_slice(&calls[place + 1..])?;
     Ok(made)
-}
-
-/// Puts the decision that comes once calls are moved.
-fn put_promised(items: &mut Items, scenario: &Scenario<'_>, path: &str, outcome: Outcome)
-    requires { IsPromisedMoved scenario.now.platform.now scenario.now.calls.now path.now
-        outcome }
-{
-    outcome.promise(items, 2)
 }

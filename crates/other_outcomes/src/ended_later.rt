@@ -4,8 +4,8 @@ ghost use Rattle.std.specs.Prelude.{List, IfOk, IfSome};
 ghost use Rattle.script_reading.specs.declared.call.Call.{Call as Called};
 ghost use Rattle.other_outcomes.specs.Moved.{IsMoved, IsPromisedMoved};
 
-use crate::moved::step;
-use domain_reasons::{accepted_before, room_needed};
+use crate::moved::{put_promised, step};
+use domain_reasons::{accepted_before, rooms_needed};
 use explanation_text::wording::{MOST_NAMES, mark_after, put_few};
 use explanation_text::{Items, Label, ListBuilder, TextBuilder};
 use script_reading::{Act, Call};
@@ -40,9 +40,12 @@ pub fn add_ended_later(
         Some(domain) => domain.ended,
         None => None,
     };
-    let (Some(decided), Some(_)) = (decided, room_needed(alloc, story, index)?) else {
+    let Some(decided) = decided else {
         return Ok(());
     };
+    if rooms_needed(alloc, story, index)?.is_empty() {
+        return Ok(());
+    }
     let ends = later_ends(alloc, story, index, decided)?;
     add_ends(items, scenario, story, &ends, decided, path)
 }
@@ -252,12 +255,4 @@ pub(crate) fn carried<'a>(
         made = next;
     }
     Ok(made)
-}
-
-/// Puts the decision that comes once calls are moved.
-fn put_promised(items: &mut Items, scenario: &Scenario<'_>, path: &str, outcome: Outcome)
-    requires { IsPromisedMoved scenario.now.platform.now scenario.now.calls.now path.now
-        outcome }
-{
-    outcome.promise(items, 2)
 }

@@ -125,12 +125,29 @@ fn list_exchanged<'a>(
             put_promised(items, scenario, path, outcome);
             Ok(Some(Otherwise {
                 calls,
-                order: Vec::new(alloc),
+                order: order_of(alloc, scenario.calls.len(), pair)?,
                 is_chosen: true,
             }))
         }
         _ => Ok(None),
     }
+}
+
+/// The places of so many calls, from 0, in the order that they have once the later of two groups is
+/// made before the other.
+fn order_of(alloc: Global, count: usize, pair: Groups) -> Result<Vec<usize>, AllocError> {
+    let from = pair.later.saturating_sub(1);
+    let to = pair.made.saturating_sub(1);
+    let mut order = Vec::new(alloc);
+    for place in 0..count {
+        if place == to {
+            order.push(from)?;
+        }
+        if place != from {
+            order.push(place)?;
+        }
+    }
+    Ok(order)
 }
 
 /// What the domain at a path becomes once the later of two groups is made before the other.

@@ -23,6 +23,7 @@ mod moved;
 mod otherwise;
 mod pending;
 mod platforms;
+mod unchosen;
 
 pub use added::list_added;
 pub use children::add_later_children;

@@ -1,6 +1,7 @@
 //! What a script has once calls that were refused are made on the nodes that they may mean.
 
 use crate::moved::is_read;
+use crate::unchosen::meant_for_left_out;
 use explanation_text::{Items, Label, ListBuilder, TextBuilder};
 use script_reading::Act;
 use script_story::{MadeCall, Milestone, Story};
@@ -13,9 +14,9 @@ const MOST: usize = 4;
 
 /// A call, by number, and the node that it may mean.
 #[derive(Clone, Copy)]
-struct MeantCall {
-    number: usize,
-    node: usize,
+pub(crate) struct MeantCall {
+    pub(crate) number: usize,
+    pub(crate) node: usize,
 }
 
 /// Tells which calls may mean another node, if some do, and gives the script in which they are made
@@ -40,21 +41,38 @@ pub fn list_meant(
 
 /// The calls that may mean another node since one was refused: each where just one node suits it.
 fn meant_in(alloc: Global, story: &Story<'_>) -> Result<Vec<MeantCall>, AllocError> {
-    let mut meant = ListBuilder::new(alloc);
+    let mut meant = Vec::new(alloc);
     for (index, call) in story.calls.iter().enumerate() {
         let number = index.saturating_add(1);
-        if !call.is_refused_as(Refusal::WrongState) || is_too_early(story, call, number) {
-            continue;
-        }
-        let nodes = suited(alloc, story, call, number)?;
-        if let [node] = nodes.as_slice() {
-            meant.add(MeantCall {
-                number: misplaced(story, call, number),
-                node: *node,
-            });
+        match meant_for(alloc, story, call, number)? {
+            Some(one) if node_of(&meant, one.number).is_none() => meant.push(one)?,
+            _ => {}
         }
     }
-    meant.done()
+    Ok(meant)
+}
+
+/// The call that may mean another node since the call of a number was refused, if one does.
+fn meant_for(
+    alloc: Global,
+    story: &Story<'_>,
+    call: &MadeCall<'_>,
+    number: usize,
+) -> Result<Option<MeantCall>, AllocError> {
+    if call.is_refused_as(Refusal::NotSelected) {
+        return meant_for_left_out(alloc, story, call, number);
+    }
+    if !call.is_refused_as(Refusal::WrongState) || is_too_early(story, call, number) {
+        return Ok(None);
+    }
+    let nodes = suited(alloc, story, call, number)?;
+    match nodes.as_slice() {
+        [node] => Ok(Some(MeantCall {
+            number: misplaced(story, call, number),
+            node: *node,
+        })),
+        _ => Ok(None),
+    }
 }
 
 /// Whether its actor binds the node on which the call of a number is made later on: the call stands
@@ -71,13 +89,18 @@ fn is_too_early(story: &Story<'_>, call: &MadeCall<'_>, number: usize) -> bool {
 
 /// Whether a call is made on an open token, before the call of a number.
 fn is_on_token(story: &Story<'_>, call: &MadeCall<'_>, number: usize) -> bool {
-    let Some(node) = call.node else {
-        return true;
-    };
+    match call.node {
+        Some(node) => is_open(story, node, NodeKind::Token, number),
+        None => true,
+    }
+}
+
+/// Whether a node is of a kind before the call of a number, and neither released nor closed.
+pub(crate) fn is_open(story: &Story<'_>, node: usize, kind: NodeKind, number: usize) -> bool {
     let is_gone = story
         .milestone_before(node, Milestone::End, number)
         .is_some();
-    !is_gone && story.kind_before(node, number) == NodeKind::Token
+    !is_gone && story.kind_before(node, number) == kind
 }
 
 /// Whether another actor than that of a call binds its node, if somebody does.

@@ -230,7 +230,7 @@ fn make_name(story: &Story<'_>, moves: &[Move]) -> bool {
 }
 
 /// Puts the decision that comes once calls are moved.
-fn put_promised(items: &mut Items, scenario: &Scenario<'_>, path: &str, outcome: Outcome)
+pub(crate) fn put_promised(items: &mut Items, scenario: &Scenario<'_>, path: &str, outcome: Outcome)
     requires { IsPromisedMoved scenario.now.platform.now scenario.now.calls.now path.now
         outcome }
 {

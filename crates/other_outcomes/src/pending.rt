@@ -8,8 +8,18 @@ use script_reading::{Act, Call};
 use script_story::{Became, Scenario, Story};
 use std::alloc::{AllocError, Global};
 
-/// The name of a child that is made of a group without one.
-const CHILD: &str = "a_child";
+/// The names of children that are made of groups without one: each has the first that no call
+/// makes.
+const CHILDREN: [&str; 8] = [
+    "a_child",
+    "a_child_2",
+    "a_child_3",
+    "a_child_4",
+    "a_child_5",
+    "a_child_6",
+    "a_child_7",
+    "a_child_8",
+];
 
 /// Tells what the domain of an index would be if nobody who is awaited stated anything, and says
 /// with which calls. It isn't told where a call on one of them is to be corrected first, which is
@@ -26,8 +36,10 @@ pub fn add_without<'a>(
     if awaited.is_empty() || scenario.effort.is_spent() {
         return Ok(None);
     }
-    let calls = without(items.alloc(), scenario, story, &awaited)?;
-    add_with(items, scenario, story, &awaited, calls, path)
+    match without(items.alloc(), scenario, story, &awaited)? {
+        Some(calls) => add_with(items, scenario, story, &awaited, calls, path),
+        None => Ok(None),
+    }
 }
 
 /// Tells what the domain at a path would be with these calls, by which nobody is awaited.
@@ -140,36 +152,60 @@ fn is_childless(story: &Story<'_>, group: usize) -> bool {
 
 /// The script's calls with those after them that end what is awaited: tokens and collections are
 /// released, groups complete, the innermost first. A group without a child gets one, which is
-/// released.
+/// released; `None` where no name is left for it.
 fn without<'a>(
     alloc: Global,
     scenario: &Scenario<'a>,
     story: &Story<'a>,
     awaited: &[usize],
-) -> Result<Vec<Call<'a>>, AllocError> {
+) -> Result<Option<Vec<Call<'a>>>, AllocError> {
     let mut calls: Vec<Call<'a>> = Vec::from_slice(alloc, scenario.calls)?;
     for one in awaited {
         if !story.is_group(*one) {
             calls.push(call_on(story, *one, Act::Release))?;
         } else if is_childless(story, *one) {
-            add_child(&mut calls, story, *one)?;
+            let Some(name) = free_name(&calls) else {
+                return Ok(None);
+            };
+            add_child(&mut calls, story, *one, name)?;
         }
     }
     complete(&mut calls, story, awaited)?;
-    Ok(calls)
+    Ok(Some(calls))
 }
 
-/// Puts calls after the calls that make a child of a group and release it.
+/// The first name of a child that no call makes.
+fn free_name(calls: &[Call<'_>]) -> Option<&'static str> {
+    for name in CHILDREN {
+        if !is_made(calls, name) {
+            return Some(name);
+        }
+    }
+    None
+}
+
+/// Whether a call makes a name.
+fn is_made(calls: &[Call<'_>], name: &str) -> bool {
+    for call in calls {
+        if call.act.name_made() == Some(name) {
+            return true;
+        }
+    }
+    false
+}
+
+/// Puts calls after the calls that make a child of a group, of this name, and release it.
 fn add_child<'a>(
     calls: &mut Vec<Call<'a>>,
     story: &Story<'a>,
     group: usize,
+    name: &'a str,
 ) -> Result<(), AllocError> {
-    calls.push(call_on(story, group, Act::CreateChild(CHILD)))?;
+    calls.push(call_on(story, group, Act::CreateChild(name)))?;
     let place = last_place(calls);
     calls.push(Call {
         act: Act::Release,
-        on: CHILD,
+        on: name,
         place,
         actor: 0,
     })?;

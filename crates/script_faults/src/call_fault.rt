@@ -3,7 +3,7 @@
 use crate::help::{Help, did_you_mean};
 use crate::keys::KNOWN;
 use crate::record::{
-    Document, RecordPart, first_unknown, is_field_of, is_one_of, key_of, wrong_kind,
+    Document, RecordPart, call_in, first_unknown, is_field_of, is_one_of, key_of, wrong_kind,
 };
 use explanation_text::wording::{put_few, put_joined};
 use explanation_text::{
@@ -51,7 +51,7 @@ pub(crate) fn add_call_fault<'a>(
         _ => add_shape(items, faulty)?,
     }
     if !items.is_corrected() {
-        document.leave_out(items, &faulty.path());
+        document.mean(items, &faulty.path(), Meant::NoCall(number));
     }
     Ok(())
 }
@@ -206,7 +206,11 @@ fn add_no_object(items: &mut Items, faulty: Faulty<'_, '_>) {
 
 /// What an unknown call may mean.
 fn hint_of_call(alloc: Global, name: &str) -> Result<Help, AllocError> {
-    Ok(match nearest(alloc, name, &CALLS)? {
+    let near = match nearest(alloc, name, &CALLS)? {
+        Some(near) => Some(near),
+        None => call_in(alloc, name, &CALLS)?,
+    };
+    Ok(match near {
         Some(near) => Help::near(alloc, near),
         None => Help::of(calls_known(alloc)),
     })
@@ -328,6 +332,7 @@ fn in_constraints(alloc: Global, faulty: Faulty<'_, '_>) -> Result<Moved, AllocE
     }
     Ok(Moved {
         into,
+        renamed: None,
         is_new: place.is_none(),
         places,
     })
@@ -436,7 +441,7 @@ fn add_made(items: &mut Items, faulty: Faulty<'_, '_>) -> Result<(), AllocError>
     faulty.point(items, "as", "made before", Help::of(help));
     if let Some(name) = only_unmade(faulty.calls, faulty.index) {
         let name = String::from_str(alloc, name)?;
-        faulty.mean_name(items, "as", Meant::Word(name));
+        faulty.mean_name(items, "as", Meant::Name(name));
     }
     Ok(())
 }
@@ -475,7 +480,7 @@ fn mean_actor(items: &mut Items, faulty: Faulty<'_, '_>, actor: &str) -> Result<
         return Ok(());
     }
     let name = String::from_str(items.alloc(), actor)?;
-    faulty.mean_name(items, "actor", Meant::Word(name));
+    faulty.mean_name(items, "actor", Meant::Name(name));
     Ok(())
 }
 
@@ -592,14 +597,17 @@ fn only_idle<'a>(calls: &[Value], names: &[&'a str]) -> Option<&'a str> {
 }
 
 /// The only name on which calls after that of an index are made and that no call makes; `None` where
-/// there are more, or none.
+/// there are more, or none. What can't be a name counts for nothing.
 fn only_unmade(calls: &[Value], index: usize) -> Option<&str> {
     let mut only = None;
     for call in calls.iter().skip(index.saturating_add(1)) {
         let Some(name) = call.get("on").and_then(Value::as_str) else {
             continue;
         };
-        if name == "root" || first_maker(calls, name).is_some() || only == Some(name) {
+        if name == "root" || !is_name(name) || only == Some(name) {
+            continue;
+        }
+        if first_maker(calls, name).is_some() {
             continue;
         }
         if only.is_some() {

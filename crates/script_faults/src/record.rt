@@ -7,14 +7,17 @@ mod firsts;
 mod keys;
 mod kinds;
 mod names;
+mod other_words;
 mod owners;
 mod paths;
 mod record_fault;
 mod record_place;
 mod unknown;
+mod unknown_key;
 
 pub use document::{Document, RecordPart, Whole};
 pub use keys::{is_field_of, is_one_of};
 pub use kinds::wrong_kind;
+pub(crate) use other_words::call_in;
 pub use record_fault::add_record_fault;
 pub use unknown::{first_unknown, key_of};

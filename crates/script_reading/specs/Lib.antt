@@ -4,6 +4,7 @@ pub mod Faults
 pub mod Known
 pub mod Names
 pub mod Platform
+pub mod Records
 pub mod Script
 pub mod Seen
 pub mod Text

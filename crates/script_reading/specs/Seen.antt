@@ -1,5 +1,6 @@
 -- What the program's calls stand for.
 use Rattle.std.specs.Prelude.{map, option_map}
+use Rattle.serde_json.specs.Data.{Data}
 use Rattle.serde_json.specs.View.{view}
 use Rattle.script_reading.specs.declared.call.Act.{Act}
 use Rattle.script_reading.specs.declared.call.Act.TheVariants.{Duplicate, Bind, SetConstraints}
@@ -9,15 +10,19 @@ use Rattle.script_reading.specs.declared.call.Act.TheVariants.{Release, Close, C
 use Rattle.script_reading.specs.declared.call.Call.{Call}
 use Rattle.script_reading.specs.declared.form.Form.{Form}
 use Rattle.script_reading.specs.declared.script.Script.{Script}
+use Rattle.script_reading.specs.declared.stated.Stated.{Stated}
 use Rattle.script_reading.specs.Call.{ActFacts, duplicates, binds, states, creates_group}
 use Rattle.script_reading.specs.Call.{creates_child, has_all_children, attaches_token, releases}
 use Rattle.script_reading.specs.Call.{closes, checks, waits, FormFacts}
 use Rattle.script_reading.specs.Script.{CallFacts, ScriptFacts}
 
+abbrev pub stated_seen : Stated → Data
+stated_seen s = view s.value.now
+
 abbrev pub act_seen : Act → ActFacts
 act_seen (Duplicate name) = duplicates name.now
 act_seen Bind = binds
-act_seen (SetConstraints stated) = states (option_map (λ d. view d.now) stated)
+act_seen (SetConstraints stated) = states (option_map stated_seen stated)
 act_seen (CreateGroup name) = creates_group name.now
 act_seen (CreateChild name) = creates_child name.now
 act_seen AllChildrenPresent = has_all_children

@@ -3,7 +3,7 @@ ghost use Rattle.std.specs.Prelude.{◌≡◌, option_map};
 ghost use Rattle.script_reading.specs.Call.{act_name, name_made};
 ghost use Rattle.script_reading.specs.Seen.{act_seen};
 
-use serde_json::Value;
+use crate::stated::Stated;
 
 /// What a call does to the node that it is made on.
 #[derive(Clone, Copy, Debug)]
@@ -12,7 +12,7 @@ pub enum Act<'a> {
     Duplicate(&'a str),
     Bind,
     /// States these constraints, or none.
-    SetConstraints(Option<&'a Value>),
+    SetConstraints(Option<Stated<'a>>),
     /// Makes a group of this name: of its children one is selected.
     CreateGroup(&'a str),
     /// Makes a token of this name, the group's next child.

@@ -4,10 +4,11 @@ ghost use Rattle.std.specs.List.{list_all};
 ghost use Rattle.serde_json.specs.View.{view, members_view};
 ghost use Rattle.script_reading.specs.Call.{actor_of, constraints_of, act_of, makes_name, may_have, form_of, name_in, text_at};
 ghost use Rattle.record_reading.specs.Reading.Fields.{keys_of};
-ghost use Rattle.script_reading.specs.Seen.{act_seen, form_seen};
+ghost use Rattle.script_reading.specs.Seen.{act_seen, form_seen, stated_seen};
 
 use crate::call::Act;
 use crate::names::MAIN;
+use crate::stated::Stated;
 use serde_json::{Map, Value};
 
 /// What a call does, on which name, by which actor.
@@ -33,11 +34,14 @@ fn actor_of(call: &Value) -> Option<&str>
     }
 }
 
-fn constraints_of(call: &Value) -> Option<&Value>
-    ensures { option_map (λ d. view d.now) result ≡ constraints_of (view call.now) }
+fn constraints_of(call: &Value) -> Option<Stated<'_>>
+    ensures { option_map stated_seen result ≡ constraints_of (view call.now) }
 {
-    call.get("constraints")
-        .filter(|constraints| !constraints.is_null())
+    let value = call.get("constraints")?;
+    if value.is_null() {
+        return None;
+    }
+    Some(Stated::of(value))
 }
 
 fn name_in(call: &Value) -> Option<&str>

@@ -19,7 +19,9 @@ mod known;
 pub mod laws;
 mod names;
 mod platform;
+mod read_call;
 mod script;
+mod stated;
 mod text;
 
 pub use apart::read_calls_apart;
@@ -27,5 +29,7 @@ pub use call::{Act, CALLS, Call};
 pub use calls::read_calls;
 pub use fault::{ParseFault, ScriptFault};
 pub use form::makes_name;
+pub use read_call::{ReadCall, read_records, shared_calls};
 pub use script::{Script, read_script, read_script_apart};
+pub use stated::Stated;
 pub use text::{LONGEST, parse_script};

@@ -1,10 +1,11 @@
 //! The collection that a script's calls act on: its book, and what their names stand for.
 
-ghost use Rattle.std.specs.Prelude.{◌≡◌, ◌+◌, ◌≤◌, ◌++◌, ◌||◌, ℕ, [], ◌∷◌, Some, None, true, false, length, option_map, slice_get, unwrap_or, IfErr, IfOk, IfSome, OnOk};
+ghost use Rattle.std.specs.Prelude.{◌≡◌, ◌+◌, ◌≤◌, ◌++◌, ◌||◌, ℕ, [], ◌∷◌, Ok, Some, None, true, false, length, option_map, slice_get, unwrap_or, IfErr, IfOk, IfSome, OnOk};
 ghost use Rattle.std.specs.Arc.{arc_value};
 ghost use Rattle.serde_json.specs.View.{view};
+ghost use Rattle.record_reading.specs.Reading.{participant_of};
 ghost use Rattle.script_reading.specs.Call.{states};
-ghost use Rattle.script_reading.specs.Seen.{act_seen, call_seen};
+ghost use Rattle.script_reading.specs.Seen.{act_seen, call_seen, stated_seen};
 ghost use Rattle.script_replay.specs.Answer.{AsksFor, Replies, is_want};
 ghost use Rattle.script_replay.specs.Events.{events_of};
 ghost use Rattle.script_replay.specs.Report.{with_decision};
@@ -27,9 +28,9 @@ use crate::event::{CallEvent, Events};
 use crate::failing::{add_failed, add_failed_since, failed_before};
 use crate::reply::Reply;
 use crate::telling::told;
-use negotiation_inputs::Platform;
+use negotiation_inputs::{Constraints, Platform};
 use record_reading::{Code, Fault};
-use script_reading::{Act, Call};
+use script_reading::{Act, Call, Stated};
 use serde_json::Value;
 use std::alloc::{AllocError, Global};
 use std::sync::Arc;
@@ -277,13 +278,14 @@ impl Runner {
         }
     }
 
-    /// Reads the constraints that a call states, if any, and sets them on its node.
+    /// Sets the constraints that a call states, if any, on its node: what they are read as, where
+    /// they were read before.
     fn set_constraints(
         &mut self,
         alloc: Global,
         call: &Call<'_>,
         node: NodeId,
-        stated: Option<&Value>,
+        stated: Option<Stated<'_>>,
     ) -> Result<Reply, AllocError>
         requires named { node_named (state_of self.old) (call_seen call.now) ≡ Some node }
         requires stated { (call_seen call.now).act ≡ act_seen (Act.SetConstraints stated) }
@@ -292,7 +294,30 @@ impl Runner {
     {
         match stated {
             None => self.act(call, node, Action::SetConstraints(None)),
-            Some(value) => self.set_read(alloc, call, node, value),
+            Some(stated) => match stated.read() {
+                Some(read) => self.set_shared(call, node, stated, read),
+                None => self.set_read(alloc, call, node, stated.value()),
+            },
+        }
+    }
+
+    /// Sets what a record is read as on a call's node.
+    fn set_shared(
+        &mut self,
+        call: &Call<'_>,
+        node: NodeId,
+        stated: Stated<'_>,
+        read: &Arc<Constraints>,
+    ) -> Result<Reply, AllocError>
+        requires named { node_named (state_of self.old) (call_seen call.now) ≡ Some node }
+        requires stated { (call_seen call.now).act ≡ states (Some (stated_seen stated)) }
+        requires read { participant_of (stated_seen stated) ≡ Ok (arc_value read.now) }
+        ensures { IfOk result (λ reply.
+            Replies (state_of self.old) (call_seen call.now) reply (state_of self.new)) }
+    {
+        match Arc::try_clone(read) {
+            Ok(shared) => self.act(call, node, Action::SetConstraints(Some(shared))),
+            Err(AllocError) => Ok(self.unshared()),
         }
     }
 

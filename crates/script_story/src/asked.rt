@@ -56,7 +56,7 @@ fn asked_of<'a>(story: &Story<'a>, node: usize) -> Option<NamedParticipant<'a>> 
 fn stated<'a>(story: &Story<'a>, node: usize) -> Option<&'a Value> {
     let number = story.milestone(node, Milestone::SetConstraints)?;
     match story.call(number)?.act {
-        Act::SetConstraints(value) => value,
+        Act::SetConstraints(Some(stated)) => Some(stated.value()),
         _ => None,
     }
 }

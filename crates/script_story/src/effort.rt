@@ -93,7 +93,9 @@ fn join_on(platform: &Platform) -> u64 {
 /// How many values a call states, and one for the call.
 fn stated_by(alloc: Global, call: &Call<'_>) -> Result<u64, AllocError> {
     match call.act {
-        Act::SetConstraints(Some(value)) => Ok(values_in(alloc, value)?.saturating_add(1)),
+        Act::SetConstraints(Some(stated)) => {
+            Ok(values_in(alloc, stated.value())?.saturating_add(1))
+        }
         _ => Ok(1),
     }
 }

@@ -1,6 +1,7 @@
 //! Why calls were refused.
 
 use crate::story::{Became, MadeCall, Milestone, Story};
+use crate::unchosen::{end_of, put_left_out};
 use explanation_text::wording::{MOST_NAMES, mark_after, put_few, put_joined};
 use explanation_text::{Items, Label, ListBuilder, Name, Standing, Step, Text, TextBuilder};
 use record_reading::{Code, Fault, FaultPlace};
@@ -57,11 +58,6 @@ fn is_told(story: &Story<'_>, call: &MadeCall<'_>) -> bool {
         }
         _ => true,
     }
-}
-
-/// The call after which the domain of a node was decided or failed.
-fn end_of(story: &Story<'_>, node: usize) -> Option<usize> {
-    story.domain_of(node)?.ended
 }
 
 /// Tells the calls that were refused, those with one cause in one row.
@@ -371,58 +367,6 @@ fn put_ended(text: &mut TextBuilder, story: &Story<'_>, node: usize) {
     }
 }
 
-/// Which group chose another child than the one above a node.
-pub fn left_out(alloc: Global, story: &Story<'_>, node: usize) -> TextBuilder {
-    let mut words = TextBuilder::new(alloc);
-    put_left_out(&mut words, story, node);
-    words
-}
-
-fn put_left_out(text: &mut TextBuilder, story: &Story<'_>, node: usize) {
-    let Some((group, below)) = chooser(story, node) else {
-        text.put("another selection was chosen");
-        return;
-    };
-    let other = match chosen_child(text.alloc(), story, group) {
-        Ok(chosen) => chosen.unwrap_or(below),
-        Err(AllocError) => return text.refuse(),
-    };
-    let number = end_of(story, node).unwrap_or(0);
-    text.name(story.called(group)).put(" chose ");
-    text.name(story.called(other)).put(" and not ");
-    text.name(story.called(below)).put(", after call ");
-    text.call(number);
-}
-
-/// The next selected node above a node, with its child above the node or the node itself.
-fn chooser(story: &Story<'_>, node: usize) -> Option<(usize, usize)> {
-    let mut below = node;
-    let mut above = story.parent(node);
-    for _level in 0..128 {
-        let group = above?;
-        if story.is_selected(group) {
-            break;
-        }
-        below = group;
-        above = story.parent(group);
-    }
-    Some((above?, below))
-}
-
-/// The child of a group that is selected.
-fn chosen_child(
-    alloc: Global,
-    story: &Story<'_>,
-    group: usize,
-) -> Result<Option<usize>, AllocError> {
-    for child in &story.children(alloc, group)? {
-        if story.is_selected(*child) {
-            return Ok(Some(*child));
-        }
-    }
-    Ok(None)
-}
-
 /// Puts who was still awaited when a verdict was asked for, and when it came, after a text.
 fn put_too_early(text: &mut TextBuilder, story: &Story<'_>, node: usize, number: usize) {
     let index = match story.nodes.get(node) {
@@ -440,7 +384,11 @@ fn put_too_early(text: &mut TextBuilder, story: &Story<'_>, node: usize, number:
     }
     let last = domain.ended.unwrap_or(0);
     text.put(": move it after call ").call(last);
-    text.put(", or use wait");
+    if let Some(call) = story.call(number)
+        && matches!(call.act, Act::Check)
+    {
+        text.put(", or use wait");
+    }
 }
 
 /// Puts for whom the domain of an index waits before the call of a number after a text.
@@ -595,6 +543,7 @@ fn put_wrong_group(
         call.put_on(text);
         text.put(" got its last child before call ");
         text.call(last).put(", all_children_present");
+        put_move(text, call, last);
         return;
     }
     let why = if matches!(call.act, Act::Release) {
@@ -639,11 +588,15 @@ fn put_bound(
     call.put_on(text);
     text.put(" is no token any more: call ");
     text.call(bound).put(" bound it");
-    if call.act.name_made().is_none() {
-        return;
+    put_move(text, call, bound)
+}
+
+/// Puts that an earlier call is to be moved, for a call that makes a name.
+fn put_move(text: &mut TextBuilder, call: &MadeCall<'_>, earlier: usize) {
+    if call.act.name_made().is_some() {
+        text.put("; move call ").call(earlier);
+        text.put(" after this call");
     }
-    text.put("; move call ").call(bound);
-    text.put(" after this call");
 }
 
 /// Constraints on a collection that has some; maybe a node whose name is that of the actor is

@@ -4,8 +4,7 @@ use crate::activity::{Activity, Woken};
 use crate::called::CallEffect;
 use negotiation_inputs::Constraints;
 use record_reading::Code;
-use script_reading::Act;
-use serde_json::Value;
+use script_reading::{Act, Stated};
 use std::alloc::Global;
 use std::sync::ledger::Ledger;
 use std::sync::{Arc, Wait};
@@ -155,7 +154,7 @@ fn set_constraints<L: Ledger, R: Threads + Wait + Sync>(
     rt: &R,
     alloc: Global,
     collection: Collection<L, NoGate>,
-    stated: Option<&Value>,
+    stated: Option<Stated<'_>>,
 ) -> CallEffect<L> {
     let mut collection = collection;
     match asked(alloc, stated) {
@@ -170,11 +169,11 @@ fn set_constraints<L: Ledger, R: Threads + Wait + Sync>(
 
 /// The constraints that a value states; or the code of its first fault, which is that of want of
 /// memory where they can't be shared.
-fn asked(alloc: Global, stated: Option<&Value>) -> Result<Option<Arc<Constraints>>, Code> {
-    let Some(value) = stated else {
+fn asked(alloc: Global, stated: Option<Stated<'_>>) -> Result<Option<Arc<Constraints>>, Code> {
+    let Some(stated) = stated else {
         return Ok(None);
     };
-    match read_constraints(alloc, value) {
+    match read_constraints(alloc, stated.value()) {
         Ok(constraints) => match Arc::new(alloc, constraints) {
             Ok(shared) => Ok(Some(shared)),
             Err(_) => Err(Code::WantOfMemory),

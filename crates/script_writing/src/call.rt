@@ -52,7 +52,7 @@ fn stated_by<'a>(act: Act<'a>) -> Option<&'a Value>
     ensures { option_map (λ one. view one.now) result ≡ stated_by (act_seen act.entry) }
 {
     match act {
-        Act::SetConstraints(stated) => stated,
+        Act::SetConstraints(Some(stated)) => Some(stated.value()),
         _ => None,
     }
 }

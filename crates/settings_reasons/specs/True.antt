@@ -21,6 +21,8 @@ use Rattle.sysmem_merge.specs.OfferRead.{IsRefusingLine}
 use Rattle.sysmem_merge.specs.declared.settings.Settings.{Settings}
 use Rattle.negotiation_inputs.specs.Participant.{Participant}
 use Rattle.negotiation_inputs.specs.Platform.{PlatformFacts}
+use Rattle.settings_reasons.specs.declared.offer_reason.Lack.{Lack}
+use Rattle.settings_reasons.specs.declared.offer_reason.Lack.TheVariants.{Entry, Colour}
 use Rattle.settings_reasons.specs.declared.offer_reason.OfferGround.{OfferGround}
 use Rattle.settings_reasons.specs.declared.offer_reason.OfferGround.TheVariants.{NoEntry, NoColour}
 use Rattle.settings_reasons.specs.declared.offer_reason.OfferGround.TheVariants.{Line}
@@ -83,6 +85,11 @@ lacks_entry offer one = not (has_format offer (offer_demand one))
 -- whether the participant's entry for the offer doesn't take its colour space
 abbrev pub lacks_colour : Offer → Participant → Bool
 lacks_colour offer one = not (has_colour offer (offer_demand one))
+
+-- whether the participant lacks this for the offer
+abbrev pub lacks : Lack → Offer → Participant → Bool
+lacks Entry offer one = lacks_entry offer one
+lacks Colour offer one = lacks_colour offer one
 
 -- the line of the conflict table is true of the participants together
 abbrev pub IsTrueLine : Offer → Bool → List Participant → Field → Type 0

@@ -1,9 +1,9 @@
 //! What decided each value of a choice.
 
+use crate::later_places::{add_later_places, later_words};
 use crate::listed::listed_before;
 use crate::offer_words::{least_side, offer_name};
 use crate::offering::{are_refused, offers_of};
-use crate::place_reason::place_reasons;
 use crate::placing::{place_name, places_of};
 use crate::refusing::{add_no_image, add_offers, place_rows};
 use crate::rows::add_rows;
@@ -13,9 +13,9 @@ use negotiation_inputs::Platform;
 use std::alloc::{AllocError, Global};
 use sysmem_counts::Field;
 use sysmem_formats::{Offer, Pair, bytes_per_pixel};
-use sysmem_memory::Place;
+use sysmem_image::entry_for;
 use sysmem_merge::Settings;
-use value_sources::{DerivedNumber, NamedParticipant, Side, Wishes, why_needed};
+use value_sources::{DerivedNumber, LeastCount, NamedParticipant, Side, Wishes, held};
 
 /// Tells where the settings come from that were chosen for participants.
 pub fn add_settings(
@@ -37,18 +37,16 @@ pub fn add_settings(
     note_size(items, wishes)
 }
 
+/// Tells the count, and where it comes from, if it is the least that the participants need.
 fn add_count(items: &mut Items, participants: &[NamedParticipant<'_>], settings: &Settings) {
-    let why = why_needed(items.alloc(), participants);
-    let mark = if why.as_str().contains('(') {
-        " = "
-    } else {
-        ": "
-    };
     let mut words = TextBuilder::new(items.alloc());
-    words
-        .value(u128::from(settings.count))
-        .put(mark)
-        .put_words(&why);
+    words.value(u128::from(settings.count));
+    if let Some(least) = LeastCount::of(participants) {
+        if least.number() == u64::from(settings.count) {
+            let mark = if held(participants) > 0 { " = " } else { ": " };
+            words.put(mark).put_words(&least.why(items.alloc()));
+        }
+    }
     items.say(1, Label::Count, words)
 }
 
@@ -68,14 +66,15 @@ fn add_number(items: &mut Items, label: Label, derived: &DerivedNumber) {
 }
 
 /// Notes sides and rows that come out more than twice as great as anybody asks: mostly a multiple
-/// is stated that wasn't meant.
+/// is stated that wasn't meant; and multiples that don't hold for rows.
 fn note_size(items: &mut Items, wishes: Wishes<'_, '_>) -> Result<(), AllocError> {
     let Offer::Image(_, _) = wishes.offer else {
         return Ok(());
     };
     note_side(items, wishes, Side::Width)?;
     note_side(items, wishes, Side::Height)?;
-    note_row(items, wishes)
+    note_row(items, wishes)?;
+    note_start(items, wishes)
 }
 
 /// Notes a side that comes out so great.
@@ -114,7 +113,62 @@ fn note_row(items: &mut Items, wishes: Wishes<'_, '_>) -> Result<(), AllocError>
     Ok(())
 }
 
-/// Tells the place, who refused each of those before it, and which of those after it nobody refuses.
+/// Notes where images may begin, if rows aren't multiples of it: mostly such rows were meant.
+fn note_start(items: &mut Items, wishes: Wishes<'_, '_>) -> Result<(), AllocError> {
+    let alloc = items.alloc();
+    let row = wishes.row(alloc, false)?.value;
+    let texts = starts_apart(alloc, wishes, row)?;
+    let (say, them) = match texts.len() {
+        0 => return Ok(()),
+        1 => (" says", "it"),
+        _ => (" say", "them"),
+    };
+    let mut words = TextBuilder::new(alloc);
+    put_few(&mut words, &texts, MOST_NAMES);
+    words
+        .put(say)
+        .put(" where an image may begin in its buffer; rows (")
+        .put_number(row)
+        .put(") aren't rounded by ")
+        .put(them)
+        .put(", but by ")
+        .field(Field::BytesPerRowDivisor);
+    items.say(1, Label::Note, words);
+    Ok(())
+}
+
+/// Who states of what an image's offset is a multiple, where a row of so many bytes isn't one.
+fn starts_apart(alloc: Global, wishes: Wishes<'_, '_>, row: u128) -> Result<Vec<Text>, AllocError> {
+    let mut texts = ListBuilder::new(alloc);
+    for participant in wishes.participants {
+        let divisor = start_divisor(participant, &wishes.offer);
+        if !is_multiple(row, divisor) {
+            let mut words = TextBuilder::of_name(alloc, participant.called());
+            words
+                .put(" ")
+                .field(Field::StartOffsetDivisor)
+                .put(" ")
+                .put_number(divisor);
+            texts.add_text(words);
+        }
+    }
+    texts.done()
+}
+
+/// Of what a participant wants an image's offset to be a multiple; 1 where it states none.
+fn start_divisor(participant: &NamedParticipant<'_>, offer: &Offer) -> u32 {
+    match entry_for(participant.asked.entries(), offer) {
+        Some(entry) => entry.bounds.asked.start_offset_divisor,
+        None => 1,
+    }
+}
+
+/// Whether a number is a multiple of another one; each counts as one of 0 and 1.
+fn is_multiple(number: u128, divisor: u32) -> bool {
+    divisor < 2 || number % u128::from(divisor) == 0
+}
+
+/// Tells the place, who refused each of those before it, and what is to be said of those after it.
 fn add_chosen_place(
     items: &mut Items,
     platform: &Platform,
@@ -127,69 +181,15 @@ fn add_chosen_place(
     let earlier = before(&places, &settings.place);
     let rows = place_rows(alloc, platform, earlier, participants, false)?;
     add_rows(items, 2, "not ", &rows, usize::MAX, "places before it");
-    add_later_places(
-        items,
-        platform,
-        participants,
-        after(&places, &settings.place),
-    )
-}
-
-/// Tells which of the places after the chosen one nobody refuses. On one of them all else would be
-/// the same: no offer, count or size depends on the place.
-fn add_later_places(
-    items: &mut Items,
-    platform: &Platform,
-    participants: &[NamedParticipant<'_>],
-    later: &[Place],
-) -> Result<(), AllocError> {
-    let alloc = items.alloc();
-    let names = unrefused(alloc, platform, participants, later)?;
-    add_later(items, &names);
-    Ok(())
+    let later = after(&places, &settings.place);
+    add_later_places(items, platform, participants, settings.place, later)
 }
 
 /// Tells what would do too, but stands after what was chosen, if something does.
 fn add_later(items: &mut Items, names: &[Text]) {
-    let end = match names.len() {
-        0 => return,
-        1 => " would do too, but stands after it on the platform",
-        _ => " would do too, but stand after it on the platform",
-    };
-    let mut words = TextBuilder::new(items.alloc());
-    put_few(&mut words, names, MOST_NAMES);
-    words.put(end);
-    items.say(2, Label::Plain, words)
-}
-
-/// The names of those of some places that nobody refuses.
-fn unrefused(
-    alloc: Global,
-    platform: &Platform,
-    participants: &[NamedParticipant<'_>],
-    places: &[Place],
-) -> Result<Vec<Text>, AllocError> {
-    let mut names = ListBuilder::new(alloc);
-    for place in places {
-        if !is_refused_place(alloc, platform, participants, *place)? {
-            names.add_text(place_name(alloc, platform, *place));
-        }
+    if let Some(words) = later_words(items.alloc(), names) {
+        items.say(2, Label::Plain, words);
     }
-    names.done()
-}
-
-/// Whether somebody refuses a place.
-fn is_refused_place(
-    alloc: Global,
-    platform: &Platform,
-    participants: &[NamedParticipant<'_>],
-    place: Place,
-) -> Result<bool, AllocError> {
-    let Some(heap) = platform.heaps().get(place.heap) else {
-        return Ok(true);
-    };
-    let reasons = place_reasons(alloc, heap, place.coherency, participants)?;
-    Ok(!reasons.is_empty())
 }
 
 /// Tells the offer, and who refused each of those before it.

@@ -18,6 +18,7 @@ mod empty;
 mod fixed;
 mod lacking;
 mod later;
+mod later_places;
 mod listed;
 mod misfit;
 mod offer_reason;

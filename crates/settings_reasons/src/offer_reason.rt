@@ -2,7 +2,7 @@
 
 ghost use Rattle.std.specs.Prelude.{◌≡◌, ◌↔◌, false, [], ◌∷◌, IfOk, IsTrue, List, filter};
 ghost use Rattle.settings_reasons.specs.True.{AreLineReasons, AreLines, AreOfferReasons};
-ghost use Rattle.settings_reasons.specs.True.{IsGround, IsTrueLine, lacks_colour, lacks_entry};
+ghost use Rattle.settings_reasons.specs.True.{IsGround, IsTrueLine, lacks, lacks_colour, lacks_entry};
 ghost use Rattle.settings_reasons.specs.True.{line_of, no_colour, no_entry};
 ghost use Rattle.sysmem_formats.specs.declared.offer.Offer.{Offer as Offered};
 ghost use Rattle.offer_fits.specs.Demands.{OfferDemand, offer_demands};
@@ -86,7 +86,7 @@ impl<'a> OfferReason<'a> {
         ensures { IfOk result
             (λ found. found ≡ no_entry offer.now whole (all_asked participants.now)) }
     {
-        let participants = without_entry(alloc, offer, participants)?;
+        let participants = lacking(alloc, offer, participants, Lack::Entry)?;
         if participants.is_empty() {
             return Ok(None);
         }
@@ -108,7 +108,7 @@ impl<'a> OfferReason<'a> {
         ensures { IfOk result
             (λ found. found ≡ no_colour offer.now whole (all_asked participants.now)) }
     {
-        let participants = without_colour(alloc, offer, participants)?;
+        let participants = lacking(alloc, offer, participants, Lack::Colour)?;
         if participants.is_empty() {
             return Ok(None);
         }
@@ -178,22 +178,40 @@ impl<'a> OfferReason<'a> {
     }
 }
 
-/// Those who have entries and none for an offer.
-fn without_entry<'a>(
+/// What participants lack for an offer.
+#[derive(Clone, Copy)]
+enum Lack {
+    Entry,
+    Colour,
+}
+
+/// Those who lack something for an offer.
+fn lacking<'a>(
     alloc: Global,
     offer: &Offer,
     participants: &[NamedParticipant<'a>],
+    lack: Lack,
 ) -> Result<Vec<NamedParticipant<'a>>, AllocError>
     ensures { IfOk result (λ those. all_asked those.items
-        ≡ filter (lacks_entry offer.now) (all_asked participants.now)) }
+        ≡ filter (lacks lack offer.now) (all_asked participants.now)) }
 {
     let mut those = Vec::new(alloc);
     for participant in participants {
-        if lacks_entry(offer, participant.asked) {
+        if lacks(lack, offer, participant.asked) {
             those.push(*participant)?;
         }
     }
     Ok(those)
+}
+
+/// Whether a participant lacks something for an offer.
+fn lacks(lack: Lack, offer: &Offer, asked: &Constraints) -> bool
+    ensures { result ≡ lacks lack offer.now asked.now }
+{
+    match lack {
+        Lack::Entry => lacks_entry(offer, asked),
+        Lack::Colour => lacks_colour(offer, asked),
+    }
 }
 
 /// Whether a participant has entries and none for an offer.
@@ -202,24 +220,6 @@ fn lacks_entry(offer: &Offer, asked: &Constraints) -> bool
 {
     let entries = asked.entries();
     !entries.is_empty() && entry_for(entries, offer).is_none()
-}
-
-/// Those whose entry for an offer lacks its colour space.
-fn without_colour<'a>(
-    alloc: Global,
-    offer: &Offer,
-    participants: &[NamedParticipant<'a>],
-) -> Result<Vec<NamedParticipant<'a>>, AllocError>
-    ensures { IfOk result (λ those. all_asked those.items
-        ≡ filter (lacks_colour offer.now) (all_asked participants.now)) }
-{
-    let mut those = Vec::new(alloc);
-    for participant in participants {
-        if lacks_colour(offer, participant.asked) {
-            those.push(*participant)?;
-        }
-    }
-    Ok(those)
 }
 
 /// Whether a participant's entry for an offer doesn't take its colour space.

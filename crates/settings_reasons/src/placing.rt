@@ -7,8 +7,8 @@ ghost use Rattle.value_sources.specs.Sources.{all_asked};
 
 use crate::place_reason::PlaceReason;
 use crate::rows::put_those;
-use explanation_text::wording::put_visible;
-use explanation_text::{ListBuilder, TextBuilder};
+use explanation_text::wording::{MOST_NAMES, put_few, put_visible};
+use explanation_text::{ListBuilder, Text, TextBuilder};
 use negotiation_inputs::Platform;
 use std::alloc::{AllocError, Global};
 use sysmem_counts::Field;
@@ -67,11 +67,21 @@ pub(crate) fn put_place(text: &mut TextBuilder, platform: &Platform, place: Plac
 
 /// Puts the name of a coherency domain of a heap after a text.
 pub(crate) fn put_heap_place(text: &mut TextBuilder, heap: &HeapInfo, coherency: CoherencyDomain) {
-    put_visible(text, &heap.heap.heap_type);
-    text.put("#")
-        .put_number(heap.heap.id)
-        .put(" ")
-        .put(coherency.name());
+    put_heap(text, &heap.heap);
+    text.put(" ").put(coherency.name());
+}
+
+/// The name of a heap: `cma#0`.
+pub(crate) fn heap_name(alloc: Global, heap: &Heap) -> TextBuilder {
+    let mut text = TextBuilder::new(alloc);
+    put_heap(&mut text, heap);
+    text
+}
+
+/// Puts the name of a heap after a text.
+fn put_heap(text: &mut TextBuilder, heap: &Heap) {
+    put_visible(text, &heap.heap_type);
+    text.put("#").put_number(heap.id);
 }
 
 /// Puts the sentence of a reason against a place into an empty text.
@@ -170,14 +180,19 @@ fn put_permitting(
     put_heaps(text, &one.asked.memory().permitted_heaps)
 }
 
-/// Puts at most four heaps after a text.
+/// Puts the names of a few heaps after a text, and how many more they are.
 fn put_heaps(text: &mut TextBuilder, heaps: &[Heap]) {
-    for (k, heap) in heaps.iter().take(4).enumerate() {
-        let mark = if k == 0 { " " } else { ", " };
-        text.put(mark)
-            .put(&heap.heap_type)
-            .put("#")
-            .put_number(heap.id);
+    let mut names: ListBuilder<Text> = ListBuilder::new(text.alloc());
+    for heap in heaps {
+        names.add_text(heap_name(text.alloc(), heap));
+    }
+    match names.done() {
+        Ok(names) if names.is_empty() => {}
+        Ok(names) => {
+            text.put(" ");
+            put_few(text, &names, MOST_NAMES);
+        }
+        Err(AllocError) => text.refuse(),
     }
 }
 

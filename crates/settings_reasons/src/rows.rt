@@ -8,6 +8,9 @@ use value_sources::{NamedParticipant, put_has};
 /// How many rows of one kind are told; one more is shown rather than counted.
 const MOST_ROWS: usize = 6;
 
+/// How many rows are told of what stands after what was chosen.
+const MOST_LATER_ROWS: usize = 4;
+
 /// How many names of a row are told; one more is shown rather than counted.
 const MOST_ROW_NAMES: usize = 3;
 
@@ -105,7 +108,7 @@ pub(crate) fn add_rows(
                 continue;
             }
             if told < most {
-                add_row(items, depth, before, row);
+                add_row(items, depth, before, "", row);
                 told = told.saturating_add(1);
             } else {
                 others = others.saturating_add(row.count);
@@ -129,6 +132,35 @@ fn add_others(items: &mut Items, depth: usize, before: &str, others: usize, what
     items.say(depth, Label::Plain, words)
 }
 
+/// Tells the rows of what is refused and stands after what was chosen, in their order; of more than
+/// some the last ones are counted, with what they are.
+pub(crate) fn add_later_rows(items: &mut Items, depth: usize, rows: &[FailureRow], what: &str) {
+    let most = if rows.len() <= MOST_LATER_ROWS {
+        rows.len()
+    } else {
+        MOST_LATER_ROWS.saturating_sub(1)
+    };
+    let mut others = 0usize;
+    for (k, row) in rows.iter().enumerate() {
+        if k < most {
+            add_row(items, depth, "not ", ", after it", row);
+        } else {
+            others = others.saturating_add(row.count);
+        }
+    }
+    add_more(items, depth, others, what);
+}
+
+/// Tells how many more there are after what was chosen, if there are some, with what they are.
+fn add_more(items: &mut Items, depth: usize, more: usize, what: &str) {
+    if more == 0 {
+        return;
+    }
+    let mut words = TextBuilder::of(items.alloc(), "not ");
+    words.put_number(more).put(" ").put(what).put(", after it");
+    items.say(depth, Label::Plain, words)
+}
+
 /// The distance of the nearest row.
 pub(crate) fn nearest(rows: &[FailureRow]) -> usize {
     let mut least = usize::MAX;
@@ -146,8 +178,9 @@ fn farthest(rows: &[FailureRow]) -> usize {
     most
 }
 
-fn add_row(items: &mut Items, depth: usize, before: &str, row: &FailureRow) {
-    let head = head_of(items.alloc(), before, row);
+/// Tells a row, with what stands before its names and after them.
+fn add_row(items: &mut Items, depth: usize, before: &str, after: &str, row: &FailureRow) {
+    let head = head_of(items.alloc(), before, after, row);
     items.say(depth, Label::Plain, head);
     if row.reasons.len() <= 1 {
         return;
@@ -163,9 +196,10 @@ fn add_row(items: &mut Items, depth: usize, before: &str, row: &FailureRow) {
 }
 
 /// A row's names, with its reason where it has one alone.
-fn head_of(alloc: Global, before: &str, row: &FailureRow) -> TextBuilder {
+fn head_of(alloc: Global, before: &str, after: &str, row: &FailureRow) -> TextBuilder {
     let mut text = TextBuilder::of(alloc, before);
     put_few(&mut text, &row.names, MOST_ROW_NAMES);
+    text.put(after);
     put_reason(&mut text, &row.reasons);
     text
 }
@@ -178,7 +212,7 @@ fn put_reason(text: &mut TextBuilder, reasons: &[Text]) {
             text.put(": ").put_text(reason);
         }
         _ => {
-            text.put(":");
+            text.head();
         }
     }
 }

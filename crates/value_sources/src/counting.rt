@@ -1,8 +1,8 @@
 //! How many buffers participants need, and where the number comes from.
 
-ghost use Rattle.std.specs.Prelude.{◌≡◌, ◌↔◌, ◌≤◌, ◌<◌, All, IfSome, IfNone, IsTrue, length};
+ghost use Rattle.std.specs.Prelude.{◌≡◌, ◌↔◌, ◌≤◌, ◌<◌, ◌*◌, ◌^◌, All, IfSome, IfNone, IsTrue, length, sum_by};
 ghost use Rattle.sysmem_counts.specs.Bounds.{IsTallyOf};
-ghost use Rattle.sysmem_counts.specs.Counts.{IsCountLine};
+ghost use Rattle.sysmem_counts.specs.Counts.{IsCountLine, greatest as greatest_of, held_together, needed};
 ghost use Rattle.value_sources.specs.Sources.{IsNumberOf, counts_of, part_of};
 
 use crate::participant::{NamedParticipant, put_has};
@@ -51,7 +51,12 @@ fn bounds_of(participants: &[NamedParticipant<'_>]) -> CountBounds
     bounds
 }
 
-fn total(participants: &[NamedParticipant<'_>], part: CountPart) -> u64 {
+/// How many of a part participants ask for together.
+fn total(participants: &[NamedParticipant<'_>], part: CountPart) -> u64
+    ensures is { length participants.now ≤ MOST_COUNTED
+        → result ≡ sum_by (part_of part) participants.now }
+    ensures few { length participants.now ≤ MOST_COUNTED → result ≤ MOST_COUNTED * 2 ^ 32 }
+{
     let mut sum = 0u64;
     for participant in participants {
         sum = sum.saturating_add(u64::from(value_of(participant, part)));
@@ -81,15 +86,26 @@ fn greatest<'a>(
     Some((*participant, most))
 }
 
-/// How many buffers participants hold together, with the greatest shared slack.
-pub fn held(participants: &[NamedParticipant<'_>]) -> u64 {
-    let shared = match greatest(participants, CountPart::Shared) {
+/// The most that one of participants asks for of a part; 0 where nobody asks for some.
+#[tactic(auto, using(crate::proofs::Counts::greatest_none))]
+fn most(participants: &[NamedParticipant<'_>], part: CountPart) -> u64
+    ensures is { result ≡ greatest_of (part_of part) participants.now }
+    ensures few { result < 2 ^ 32 }
+{
+    match greatest(participants, part) {
         Some((_, value)) => u64::from(value),
         None => 0,
-    };
+    }
+}
+
+/// How many buffers participants hold together, with the greatest shared slack.
+pub fn held(participants: &[NamedParticipant<'_>]) -> u64
+    ensures { length participants.now ≤ MOST_COUNTED
+        → result ≡ held_together (counts_of participants.now) }
+{
     total(participants, CountPart::Camping)
         .saturating_add(total(participants, CountPart::Dedicated))
-        .saturating_add(shared)
+        .saturating_add(most(participants, CountPart::Shared))
 }
 
 /// Who holds them, as a sum of named parts.
@@ -178,22 +194,17 @@ fn put_sum(text: &mut TextBuilder, mark: &str, parts: &[Text], word: &str) {
 
 /// The least count that the participants need: what they hold, and no fewer than any of them asks
 /// for.
-pub fn needed(participants: &[NamedParticipant<'_>]) -> u64 {
-    let least = match greatest(participants, CountPart::Minimum) {
-        Some((_, value)) => u64::from(value),
-        None => 0,
-    };
-    held(participants).max(least).max(1)
+pub fn needed(participants: &[NamedParticipant<'_>]) -> u64
+    ensures { length participants.now ≤ MOST_COUNTED
+        → result ≡ needed (counts_of participants.now) }
+{
+    held(participants)
+        .max(most(participants, CountPart::Minimum))
+        .max(1)
 }
 
-/// Where that count comes from.
-pub fn why_needed(alloc: Global, participants: &[NamedParticipant<'_>]) -> TextBuilder {
-    let mut words = TextBuilder::new(alloc);
-    put_why(&mut words, participants);
-    words
-}
-
-fn put_why(text: &mut TextBuilder, participants: &[NamedParticipant<'_>]) {
+/// Puts where that count comes from after a text.
+pub(crate) fn put_why(text: &mut TextBuilder, participants: &[NamedParticipant<'_>]) {
     let sum = held(participants);
     if sum >= needed(participants) {
         return put_held(text, participants);

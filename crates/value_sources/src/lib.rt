@@ -10,12 +10,14 @@
 #![tactic(auto)]
 
 mod counting;
+mod least_count;
 mod multiples;
 mod participant;
 mod sizes;
 mod wishes;
 
-pub use counting::{MOST_COUNTED, count_text, held, is_count_line, needed, why_held, why_needed};
+pub use counting::{MOST_COUNTED, count_text, held, is_count_line, needed, why_held};
+pub use least_count::LeastCount;
 pub use participant::{NamedParticipant, put_has, put_participants};
 pub use sizes::{DerivedNumber, format_words};
 pub use wishes::{Side, Wish, Wishes};

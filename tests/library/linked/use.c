@@ -266,6 +266,22 @@ static void try_refusals(const struct job *j)
     expect(good, "statuses", "have names");
 }
 
+// A script of many objects takes too much to be explained; a run says that it is refused.
+static void try_great(void)
+{
+    enum { OBJECTS = 150000 };
+    static char script[8 * OBJECTS];
+    char text[64], *at = script;
+    for (int i = 0; i < OBJECTS; i++)
+        at += sprintf(at, "%c{\"\":0}", i ? ',' : '[');
+    *at++ = ']';
+    size_t size = sizeof text, script_size = (size_t)(at - script);
+    int good = mezulobu_run(script, script_size, text, &size, NULL, NULL) == MEZULOBU_REFUSED;
+    size = sizeof text;
+    good = good && mezulobu_explain(script, script_size, "a", false, text, &size) == MEZULOBU_NO_MEMORY;
+    expect(good, "many objects", "aren't explained");
+}
+
 int main(int count, char **names)
 {
     struct job first = {{NULL, 0}, {NULL, 0}, {NULL, 0}, 0};
@@ -284,6 +300,7 @@ int main(int count, char **names)
     if (count > 1) {
         try_threads(names[1], &first);
         try_refusals(&first);
+        try_great();
         free(first.script.at);
         free(first.report.at);
         free(first.proof.at);

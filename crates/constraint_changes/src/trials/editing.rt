@@ -30,7 +30,7 @@ pub(crate) fn stated_at<'a>(calls: &[Call<'a>], place: usize) -> Option<&'a Valu
 {
     let call = calls.get(place)?;
     match call.act {
-        Act::SetConstraints(Some(stated)) => Some(stated),
+        Act::SetConstraints(Some(stated)) => Some(stated.value()),
         _ => None,
     }
 }

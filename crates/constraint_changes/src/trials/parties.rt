@@ -78,7 +78,7 @@ pub fn parties_of<'a>(alloc: Global, group: Group<'a, '_>) -> Result<Vec<Party<'
 
 /// Those of some participants who leave no settings by themselves; `None` where all together leave
 /// some, or nothing more is to be tried.
-fn hindering<'a>(
+pub fn hindering<'a>(
     alloc: Global,
     group: Group<'_, '_>,
     participants: &[NamedParticipant<'a>],
@@ -196,7 +196,7 @@ fn open_above(group: Group<'_, '_>, chosen: &[usize], node: usize) -> Option<usi
 }
 
 /// Those of a group who are asked wherever these children are selected.
-fn asked_with<'a>(
+pub fn asked_with<'a>(
     alloc: Global,
     group: Group<'a, '_>,
     chosen: &[usize],

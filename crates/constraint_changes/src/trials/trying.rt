@@ -12,7 +12,7 @@ use crate::trials::parties::Party;
 use crate::trials::unmet::least_met;
 use constraint_edits::{Amount, Change, Edit, EditedConstraints, Halving, Reached, is_absurd};
 use explanation_text::Text;
-use script_reading::{Act, Call};
+use script_reading::{Act, Call, Stated};
 use script_story::{Outcome, Scenario};
 use serde_json::Value;
 use std::alloc::{AllocError, Global};
@@ -181,7 +181,7 @@ impl Trial<'_, '_> {
     }
 
     /// A change with the decision that comes then, if one is chosen that may be meant.
-    fn promised(
+    pub(crate) fn promised(
         &self,
         alloc: Global,
         change: EditedConstraints,
@@ -241,6 +241,6 @@ pub(crate) fn replaced<'a>(
     if place >= calls.len() {
         return Ok(copy);
     }
-    copy[place].act = Act::SetConstraints(Some(value));
+    copy[place].act = Act::SetConstraints(Some(Stated::of(value)));
     Ok(copy)
 }

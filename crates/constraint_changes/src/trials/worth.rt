@@ -29,7 +29,7 @@ pub fn is_worth(
 }
 
 /// How many participants have entries, and none for a pair.
-fn lacking_pair(participants: &[NamedParticipant<'_>], pair: Pair) -> usize {
+pub fn lacking_pair(participants: &[NamedParticipant<'_>], pair: Pair) -> usize {
     let mut lacking = 0usize;
     for participant in participants {
         lacking = lacking.saturating_add(usize::from(lacks_pair(participant, pair)));

@@ -67,5 +67,6 @@ fn outcome_word(outcome: Outcome) -> &'static str {
         Outcome::Fine => "fine",
         Outcome::Faulty => "faulty",
         Outcome::Refused => "refused",
+        Outcome::Untold => "untold",
     }
 }

@@ -6,8 +6,8 @@ use crate::explaining::Outcome;
 use script_run::{Ending, RunFault, ending_of};
 
 /// The ending of an explanation that was written, or of the fault that it ended with: 3 where the
-/// script is refused, and, where the status is to tell, 6 where a call was refused or a domain
-/// isn't chosen. Neither is a fault that is told.
+/// script is refused, 4 where it isn't explained, and, where the status is to tell, 6 where a call
+/// was refused or a domain isn't chosen. None of them is a fault that is told.
 pub fn explained_ending(ended: Result<Outcome, RunFault>, is_strict: bool) -> Ending
     ensures status { result.status ≡ explained_code is_strict ended }
     ensures fault { result.fault ≡ explained_said ended }
@@ -17,6 +17,7 @@ pub fn explained_ending(ended: Result<Outcome, RunFault>, is_strict: bool) -> En
         Ok(Outcome::Faulty) if is_strict => told(6),
         Ok(Outcome::Faulty) => told(0),
         Ok(Outcome::Refused) => told(3),
+        Ok(Outcome::Untold) => told(4),
         Err(fault) => ending_of(Err(fault)),
     }
 }

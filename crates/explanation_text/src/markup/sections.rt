@@ -195,7 +195,7 @@ impl Sections<'_> {
 
 /// Whether an item is told of the term before it.
 fn joins(list: List, item: &Item) -> bool {
-    list == List::Terms && item.label == Label::Plain && !item.text.ends_with(':')
+    list == List::Terms && item.label == Label::Plain && !item.facts.contains(&Fact::Heads)
 }
 
 /// The kind of list in which an item with this label stands.

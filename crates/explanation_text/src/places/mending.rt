@@ -24,15 +24,15 @@ pub(crate) fn mend_of(
     match expected {
         Expected::Value => value_at(alloc, bytes, at, byte),
         Expected::Key => Ok(key_at(bytes, at, byte)),
-        Expected::Colon => colon_at(alloc, at, byte),
+        Expected::Colon => Ok(colon_at(at, byte)),
         Expected::CommaOrBrace | Expected::CommaOrBracket => {
             comma_at(alloc, machine, bytes, at, byte)
         }
-        Expected::Text => quote_at(alloc, bytes, at),
+        Expected::Text => Ok(quote_at(bytes, at)),
         Expected::NoDigit => Ok(blank(zeros_before(bytes, at))),
-        Expected::Null => written(alloc, word_at(bytes, at), "null"),
-        Expected::True => written(alloc, word_at(bytes, at), "true"),
-        Expected::False => written(alloc, word_at(bytes, at), "false"),
+        Expected::Null => word_begun(alloc, bytes, at, "null"),
+        Expected::True => word_begun(alloc, bytes, at, "true"),
+        Expected::False => word_begun(alloc, bytes, at, "false"),
         _ => Ok(None),
     }
 }
@@ -60,6 +60,14 @@ fn written(alloc: Global, span: Span, text: &str) -> Result<Option<Correction>, 
         span,
         meant: Meant::Written(text),
     }))
+}
+
+/// A mark in the place of a part.
+fn marked(span: Span, mark: char) -> Option<Correction> {
+    Some(Correction {
+        span,
+        meant: Meant::Mark(mark),
+    })
 }
 
 /// The byte at a place.
@@ -147,6 +155,27 @@ fn word_meant(alloc: Global, bytes: &[u8], at: usize) -> Result<Option<Correctio
     Ok(quoted(span))
 }
 
+/// A known word in the place of the one at a place, if that begins it, in capitals or not, or is
+/// `none`.
+fn word_begun(
+    alloc: Global,
+    bytes: &[u8],
+    at: usize,
+    known: &str,
+) -> Result<Option<Correction>, AllocError> {
+    let span = word_at(bytes, at);
+    let word = span.within(bytes);
+    let front = known
+        .as_bytes()
+        .get(..word.len())
+        .unwrap_or(known.as_bytes());
+    if word.eq_ignore_ascii_case(front) || word.eq_ignore_ascii_case(b"none") {
+        written(alloc, span, known)
+    } else {
+        Ok(None)
+    }
+}
+
 /// Where a key is due: what may be meant.
 fn key_at(bytes: &[u8], at: usize, byte: u8) -> Option<Correction> {
     match byte {
@@ -158,11 +187,11 @@ fn key_at(bytes: &[u8], at: usize, byte: u8) -> Option<Correction> {
 }
 
 /// After a key: `=` in the place of the colon, or none before a value.
-fn colon_at(alloc: Global, at: usize, byte: u8) -> Result<Option<Correction>, AllocError> {
+fn colon_at(at: usize, byte: u8) -> Option<Correction> {
     match byte {
-        b'=' => written(alloc, byte_at(at), ":"),
-        b'"' | b'{' | b'[' | b'-' | b'0'..=b'9' => written(alloc, before_byte(at), ":"),
-        _ => Ok(None),
+        b'=' => marked(byte_at(at), ':'),
+        b'"' | b'{' | b'[' | b'-' | b'0'..=b'9' => marked(before_byte(at), ':'),
+        _ => None,
     }
 }
 
@@ -176,9 +205,9 @@ fn comma_at(
 ) -> Result<Option<Correction>, AllocError> {
     match byte {
         b'"' | b'{' | b'[' | b'-' | b'0'..=b'9' | b't' | b'f' | b'n' | b'\'' => {
-            written(alloc, before_byte(machine.last_end()), ",")
+            Ok(marked(before_byte(machine.last_end()), ','))
         }
-        b';' => written(alloc, byte_at(at), ","),
+        b';' => Ok(marked(byte_at(at), ',')),
         b'}' | b']' => bracket_at(alloc, machine, bytes, at),
         b'x' | b'X' => Ok(hexadecimal_at(bytes, at)),
         _ => Ok(None),
@@ -201,8 +230,8 @@ fn bracket_at(
     }
     match machine.open().last() {
         Some(open) => {
-            let due = if open.is_list { "]" } else { "}" };
-            written(alloc, before_byte(machine.last_end()), due)
+            let due = if open.is_list { ']' } else { '}' };
+            Ok(marked(before_byte(machine.last_end()), due))
         }
         None => Ok(None),
     }
@@ -268,13 +297,11 @@ fn single_quoted(bytes: &[u8], at: usize) -> Option<Correction> {
 }
 
 /// The quote that ends a string, before the marks at the end of the line in which it stops.
-fn quote_at(alloc: Global, bytes: &[u8], at: usize) -> Result<Option<Correction>, AllocError> {
+fn quote_at(bytes: &[u8], at: usize) -> Option<Correction> {
     let front = bytes.get(..at).unwrap_or(&[]);
     let is_mark = |byte: u8| matches!(byte, b',' | b'}' | b']') || is_space(byte);
-    match front.iter().rposition(|byte| !is_mark(*byte)) {
-        Some(last) => written(alloc, before_byte(last.saturating_add(1)), "\""),
-        None => Ok(None),
-    }
+    let last = front.iter().rposition(|byte| !is_mark(*byte))?;
+    marked(before_byte(last.saturating_add(1)), '"')
 }
 
 /// The zeros before a digit.

@@ -5,19 +5,8 @@ use explanation_text::{Step, TextBuilder, value_at};
 use record_reading::{Code, Fault, read_platform};
 use serde_json::Value;
 use std::alloc::{AllocError, Global};
+use std::mem;
 use sysmem_sanitise::read_constraints;
-
-/// A copy of a value in which the list at a path has its first items alone, as many as are said.
-fn cut(alloc: Global, value: &Value, path: &[Step<'_>], most: usize) -> Result<Value, AllocError> {
-    let pointer = pointer_of(alloc, path).done()?;
-    let mut copy = value.clone()?;
-    if let Some(at) = copy.pointer_mut(&pointer) {
-        if let Some(list) = at.as_array_mut() {
-            list.truncate(most);
-        }
-    }
-    Ok(copy)
-}
 
 /// A path as a JSON pointer; a record's keys have no `/` and no `~`.
 fn pointer_of(alloc: Global, path: &[Step<'_>]) -> TextBuilder {
@@ -60,29 +49,57 @@ impl Narrowing {
         })
     }
 
-    /// Whether a record has this fault as its first one.
-    fn has_fault(&self, record: &Value) -> Result<bool, AllocError> {
-        match self.fault_of(record) {
+    /// Whether the record has this fault as its first one.
+    fn has_fault(&self) -> Result<bool, AllocError> {
+        match self.first_fault() {
             Some(found) if matches!(found.code, Code::WantOfMemory) => Err(AllocError),
             Some(found) => Ok(found == self.fault),
             None => Ok(false),
         }
     }
 
-    /// The first fault of a record.
-    fn fault_of(&self, record: &Value) -> Option<Fault> {
+    /// The first fault of the record.
+    fn first_fault(&self) -> Option<Fault> {
         if self.is_platform {
-            read_platform(self.alloc, record).err()
+            read_platform(self.alloc, &self.record).err()
         } else {
-            read_constraints(self.alloc, record).err()
+            read_constraints(self.alloc, &self.record).err()
         }
     }
 
-    /// The same of the record in which the list at a path has its first items alone, as many as are
-    /// said.
-    fn has_fault_within(&self, path: &[Step<'_>], most: usize) -> Result<bool, AllocError> {
-        let front = cut(self.alloc, &self.record, path, most)?;
-        self.has_fault(&front)
+    /// Puts copies of its first items, as many as are said, in the place of the list at a path, and
+    /// gives the list; `None` where there is none.
+    fn cut(&mut self, path: &[Step<'_>], most: usize) -> Result<Option<Vec<Value>>, AllocError> {
+        let alloc = self.alloc;
+        let pointer = pointer_of(alloc, path).done()?;
+        let Some(Value::Array(list)) = self.record.pointer_mut(&pointer) else {
+            return Ok(None);
+        };
+        let mut front = Vec::new(alloc);
+        for item in list.iter().take(most) {
+            front.push(item.clone()?)?;
+        }
+        Ok(Some(mem::replace(list, front)))
+    }
+
+    /// Puts a list back to where it was cut.
+    fn restore(&mut self, path: &[Step<'_>], whole: Vec<Value>) -> Result<(), AllocError> {
+        let pointer = pointer_of(self.alloc, path).done()?;
+        if let Some(Value::Array(list)) = self.record.pointer_mut(&pointer) {
+            *list = whole;
+        }
+        Ok(())
+    }
+
+    /// Whether the record has the fault where the list at a path has its first items alone, as many
+    /// as are said.
+    fn has_fault_within(&mut self, path: &[Step<'_>], most: usize) -> Result<bool, AllocError> {
+        let Some(whole) = self.cut(path, most)? else {
+            return self.has_fault();
+        };
+        let found = self.has_fault();
+        self.restore(path, whole)?;
+        found
     }
 
     /// How many items the list at a path has; 0 where there is none.
@@ -102,28 +119,30 @@ impl Narrowing {
         least: usize,
     ) -> Result<Option<usize>, AllocError> {
         let front = self.shortest_front(path, least)?;
-        let record = cut(self.alloc, &self.record, path, front)?;
-        if !self.has_fault(&record)? {
-            return Ok(None);
+        let whole = self.cut(path, front)?;
+        if self.has_fault()? {
+            return Ok(front.checked_sub(1));
         }
-        self.record = record;
-        Ok(front.checked_sub(1))
+        if let Some(whole) = whole {
+            self.restore(path, whole)?;
+        }
+        Ok(None)
     }
 
     /// The length of the shortest front, of at least `least` items, with which the list at a path
-    /// has the fault, if any has it.
-    fn shortest_front(&self, path: &[Step<'_>], least: usize) -> Result<usize, AllocError> {
+    /// has the fault, if any has it. Mostly an early item is faulty, so short fronts are tried first.
+    fn shortest_front(&mut self, path: &[Step<'_>], least: usize) -> Result<usize, AllocError> {
         let mut low = least;
         let mut high = self.len(path);
         for _halving in 0..64 {
             if low >= high {
                 break;
             }
-            let middle = low + (high - low) / 2;
+            let middle = low.saturating_mul(2).min(low + (high - low) / 2);
             if self.has_fault_within(path, middle)? {
                 high = middle;
             } else {
-                low = middle + 1;
+                low = middle.saturating_add(1);
             }
         }
         Ok(high)

@@ -186,7 +186,7 @@ impl<'a> Document<'a> {
     }
 
     /// Keeps with the last item that the object at a path may lack a member with this value, which
-    /// is written as JSON.
+    /// is written as JSON; but not one with escapes, which isn't told as it reads.
     pub(crate) fn add_member(
         &self,
         items: &mut Items,
@@ -194,6 +194,9 @@ impl<'a> Document<'a> {
         key: &str,
         written: &str,
     ) {
+        if written.contains('\\') {
+            return;
+        }
         match self.member_of(items.alloc(), path, key, written) {
             Ok(Some(correction)) => items.correct(correction),
             Ok(None) => {}

@@ -41,6 +41,31 @@ pub(crate) fn wrong_value(
     }
 }
 
+/// Whether a value is of a kind, or would be with the quotes or the brackets that are due.
+pub(crate) fn may_stand(kind: Kind, value: &Value) -> bool {
+    match kind {
+        Kind::Flag => value.as_bool().is_some() || flag_in(value).is_some(),
+        Kind::Number | Kind::Limit => match value {
+            Value::Number(_) => true,
+            Value::String(text) => text.parse::<u64>().is_ok(),
+            _ => false,
+        },
+        Kind::Sides | Kind::Object => value.is_object(),
+        Kind::Name => value.is_string(),
+        Kind::Names => value.is_array() || value.is_string(),
+        Kind::Objects => value.is_array() || value.is_object(),
+    }
+}
+
+/// True or false, where it is written as a text or as 1 or 0.
+pub(crate) fn flag_in(value: &Value) -> Option<bool> {
+    match (value.as_str(), value.as_u64()) {
+        (Some("true"), _) | (_, Some(1)) => Some(true),
+        (Some("false"), _) | (_, Some(0)) => Some(false),
+        _ => None,
+    }
+}
+
 /// `a string, where a list is due`.
 pub fn wrong_kind(alloc: Global, value: &Value, due: &str) -> TextBuilder {
     let mut words = TextBuilder::of(alloc, kind_of(value));

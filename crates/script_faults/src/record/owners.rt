@@ -44,6 +44,7 @@ pub(crate) fn places_in(
 ) -> Result<Moved, AllocError> {
     let mut moved = Moved {
         into: owner,
+        renamed: None,
         is_new: false,
         places: Vec::new(alloc),
     };

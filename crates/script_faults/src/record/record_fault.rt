@@ -1,19 +1,19 @@
 //! A record's first fault, in words.
 
-use crate::help::{Help, did_you_mean};
-use crate::record::alike::begins_alike;
+use crate::help::Help;
 use crate::record::document::{Document, RecordPart};
 use crate::record::firsts::put_first_like;
-use crate::record::keys::{SIZE, is_field_of, is_one_of, kind_at, names_of, put_allowed, range_of};
+use crate::record::keys::{SIZE, is_one_of, kind_at, names_of, put_allowed, range_of};
 use crate::record::kinds::{
-    is_number_within, nearest_within, wrong_kind, wrong_number, wrong_value,
+    flag_in, is_number_within, nearest_within, wrong_kind, wrong_number, wrong_value,
 };
 use crate::record::names::{hint_of_name, listed, names_for};
-use crate::record::owners::{OWNERS, fields_of, owner_of, places_in};
+use crate::record::owners::places_in;
 use crate::record::paths::{Path, joined, with};
 use crate::record::record_place::place_of;
 use crate::record::unknown::{first_unknown, key_of};
-use explanation_text::{Items, ListBuilder, Meant, Owner, Step, TextBuilder, nearest};
+use crate::record::unknown_key::{Elsewhere, KeyHelp, UnknownKey};
+use explanation_text::{Items, ListBuilder, Meant, Renamed, Step, TextBuilder};
 use record_reading::{
     Code, ENTRY_FIELDS, Fault, FaultPlace, HEAP_FIELDS, HEAP_NAME_FIELDS, MEMORY_FIELDS,
     PAIR_FIELDS, PLATFORM_FIELDS,
@@ -206,21 +206,41 @@ fn add_key(
     let document = faulty.document;
     let note = "unknown key";
     let key = key_of(path);
-    match owner_of(key, keys) {
-        Some(owner) if !faulty.is_platform => {
-            let mut words = TextBuilder::of(alloc, key);
-            words.put(" belongs in ").put(owner.words());
-            let help = Help::of(words);
-            document.advise(items, faulty.depth, path, RecordPart::Key, note, help);
-            move_to(items, faulty, path, owner)?;
+    let Some(value) = document.at(path) else {
+        return Ok(());
+    };
+    let unknown = UnknownKey {
+        key,
+        value,
+        keys,
+        is_platform: faulty.is_platform,
+    };
+    let KeyHelp { help, elsewhere } = unknown.help(alloc)?;
+    match help {
+        Some(help) => {
+            let help = unless_there(help, document.at(faulty.path));
+            document.advise(items, faulty.depth, path, RecordPart::Key, note, help)
         }
-        _ => match help_of_key(alloc, key, keys, faulty.is_platform)? {
-            Some(help) => document.advise(items, faulty.depth, path, RecordPart::Key, note, help),
-            None => document.point(items, faulty.depth, path, RecordPart::Key, note, &[]),
-        },
+        None => document.point(items, faulty.depth, path, RecordPart::Key, note, &[]),
+    }
+    if let Some(elsewhere) = elsewhere {
+        move_to(items, faulty, path, elsewhere)?;
     }
     leave_out(items, faulty, path);
     Ok(())
+}
+
+/// What helps, where no key is meant that the object has already.
+fn unless_there(help: Help, object: Option<&Value>) -> Help {
+    let is_there = match (&help.meant, object) {
+        (Some(Meant::Word(name)), Some(object)) => object.get(name.as_str()).is_some(),
+        _ => false,
+    };
+    if !is_there {
+        return help;
+    }
+    let Help { words, meant: _ } = help;
+    Help::of(words)
 }
 
 /// Keeps that the member at a path is meant in the object into which it belongs.
@@ -228,13 +248,21 @@ fn move_to(
     items: &mut Items,
     faulty: Faulty<'_, '_>,
     path: &[Step<'_>],
-    owner: Owner,
+    to: Elsewhere,
 ) -> Result<(), AllocError> {
+    let alloc = items.alloc();
     let document = faulty.document;
-    let moved = places_in(items.alloc(), document, faulty.base, faulty.path, owner)?;
-    if !moved.places.is_empty() {
-        document.mean(items, path, Meant::Moved(moved))
+    let mut moved = places_in(alloc, document, faulty.base, faulty.path, to.owner)?;
+    if moved.places.is_empty() {
+        return Ok(());
     }
+    if let Some(field) = to.renamed {
+        let Some(value) = document.span(alloc, path, RecordPart::Value)? else {
+            return Ok(());
+        };
+        moved.renamed = Some(Renamed { field, value });
+    }
+    document.mean(items, path, Meant::Moved(moved));
     Ok(())
 }
 
@@ -400,15 +428,10 @@ fn value_meant(
 
 /// True or false, where it is written as a text or as 1 or 0.
 fn flag_meant(at: FaultPlace, value: &Value) -> Option<Meant> {
-    let FaultPlace::At(field) = at else {
-        return None;
-    };
-    let is_set = match (value.as_str(), value.as_u64()) {
-        (Some("true"), _) | (_, Some(1)) => true,
-        (Some("false"), _) | (_, Some(0)) => false,
-        _ => return None,
-    };
-    Some(Meant::Flag(field, is_set))
+    match (at, flag_in(value)) {
+        (FaultPlace::At(field), Some(is_set)) => Some(Meant::Flag(field, is_set)),
+        _ => None,
+    }
 }
 
 /// Whether a value is one of the names that a field takes.
@@ -546,61 +569,4 @@ fn first_words(
     let is_found = put_first_like(&mut words, faulty.document.value, faulty.path, code);
     let first = words.done()?;
     Ok(if is_found { Some(first) } else { None })
-}
-
-/// What an unknown key may be that isn't one of another object.
-fn help_of_key(
-    alloc: Global,
-    key: &str,
-    keys: &[&'static str],
-    is_platform: bool,
-) -> Result<Option<Help>, AllocError> {
-    match nearest(alloc, key, keys)? {
-        Some(near) => Ok(Some(Help::near(alloc, near))),
-        None if is_platform => Ok(keys_here(alloc, keys)),
-        None => help_elsewhere(alloc, key, keys),
-    }
-}
-
-/// The keys that an object can have, where they are few.
-fn keys_here(alloc: Global, keys: &[&str]) -> Option<Help> {
-    if keys.len() > 5 {
-        return None;
-    }
-    Some(Help::of(listed(alloc, "keys here: ", keys, "and")))
-}
-
-/// A key of another object that is near, or one of these that begins alike; or else these.
-fn help_elsewhere(
-    alloc: Global,
-    key: &str,
-    keys: &[&'static str],
-) -> Result<Option<Help>, AllocError> {
-    if let Some((near, name)) = near_elsewhere(alloc, key, keys)? {
-        let mut words = did_you_mean(alloc, near);
-        words.put(" It belongs in ").put(name.words());
-        return Ok(Some(Help::of(words)));
-    }
-    Ok(match begins_alike(key, keys) {
-        Some(near) => Some(Help::near(alloc, near)),
-        None => keys_here(alloc, keys),
-    })
-}
-
-/// A key of another object that is near, with that object.
-fn near_elsewhere(
-    alloc: Global,
-    key: &str,
-    keys: &[&str],
-) -> Result<Option<(&'static str, Owner)>, AllocError> {
-    for owner in OWNERS {
-        let others = names_of(alloc, fields_of(owner))?;
-        if others.first() == keys.first() {
-            continue;
-        }
-        if let Some(near) = nearest(alloc, key, &others)? {
-            return Ok(Some((near, owner)));
-        }
-    }
-    Ok(None)
 }

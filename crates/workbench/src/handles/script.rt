@@ -35,10 +35,10 @@ pub(crate) fn all_stated(
 }
 
 fn stated(alloc: Global, act: &Act<'_>) -> Result<AskedConstraints, AllocError> {
-    let Act::SetConstraints(Some(value)) = *act else {
+    let Act::SetConstraints(Some(stated)) = *act else {
         return Ok(Ok(None));
     };
-    match read_constraints(alloc, value) {
+    match read_constraints(alloc, stated.value()) {
         Ok(asked) => Ok(Ok(Some(Arc::new(alloc, asked)?))),
         Err(fault) if fault.code == Code::WantOfMemory => Err(AllocError),
         Err(fault) => Ok(Err(fault)),

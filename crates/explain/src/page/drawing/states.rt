@@ -5,6 +5,7 @@ use bitflags::Flags;
 use explanation_text::wording::{put_count, put_few};
 use explanation_text::{Standing, TextBuilder};
 use negotiation_inputs::Constraints;
+use script_reading::Act;
 use script_story::{Became, Milestone, Story};
 use std::alloc::{AllocError, Global};
 use sysmem_counts::Usage;
@@ -63,7 +64,7 @@ fn put_end(text: &mut TextBuilder, story: &Story<'_>, node: usize) {
         return;
     };
     let how = match story.call(number) {
-        Some(call) if call.name() == "close" => "closed",
+        Some(call) if matches!(call.act, Act::Close) => "closed",
         _ => "released",
     };
     text.put(", ").put(how).put(" by call ").put_number(number);

@@ -1,0 +1,128 @@
+//! A count of buffers for camping that may be meant of all buffers.
+
+ghost use Rattle.std.specs.Prelude.{map};
+ghost use Rattle.script_reading.specs.Seen.{call_seen};
+ghost use Rattle.constraint_changes.specs.Edited.{IsPromised, edits_of};
+
+use crate::changes::Search;
+use crate::together::CombinedChange;
+use crate::told::{Rank, ToldChange};
+use crate::trials::{
+    EditedCall, Group, Promise, Trial, TrialResult, put_choice, put_promise, reached_by,
+};
+use constraint_edits::{Edit, edited, is_absurd};
+use domain_reasons::choices_in;
+use explanation_text::{Items, Label, TextBuilder};
+use serde_json::Value;
+use std::alloc::{AllocError, Global};
+use sysmem_counts::Field;
+use value_sources::NamedParticipant;
+
+const CAMPING: Edit = Edit::NoCount(Field::MinBufferCountForCamping);
+
+/// Tries a participant's count for camping as the least count of all buffers, where it states none
+/// of these, and others need fewer once its own is left out, by which this was found; tells it where
+/// so many are decided then.
+pub(crate) fn try_whole_count(
+    search: &mut Search<'_, '_>,
+    group: Group<'_, '_>,
+    trial: Trial<'_, '_>,
+    participant: &NamedParticipant<'_>,
+    edit: Edit,
+    found: &TrialResult,
+) -> Result<(), AllocError> {
+    let counts = participant.asked.counts();
+    let count = counts.min_buffer_count_for_camping;
+    let is_enough = reached_by(&found.outcome).count < count;
+    if edit != CAMPING || counts.min_buffer_count > 0 || !is_enough {
+        return Ok(());
+    }
+    let Some(value) = participant.stated else {
+        return Ok(());
+    };
+    search.tried = search.tried.saturating_add(1);
+    group.scenario.effort.change(trial.place, 2);
+    let edits = edits_to(search.alloc, trial.place, value, count)?;
+    let joint = CombinedChange {
+        group,
+        parties: search.parties,
+    };
+    match joint.promise_of(search.alloc, edits)? {
+        Some(promise) => tell_whole_count(search, group, participant, count, promise),
+        None => Ok(()),
+    }
+}
+
+/// The call at a place, where its record asks for so many buffers and for none for camping; none
+/// where it does so already.
+fn edits_to(
+    alloc: Global,
+    place: usize,
+    value: &Value,
+    count: u32,
+) -> Result<Vec<EditedCall>, AllocError> {
+    let mut edits = Vec::new(alloc);
+    let mut changes = Vec::new(alloc);
+    let Some(without) = edited(alloc, value, CAMPING, &[])? else {
+        return Ok(edits);
+    };
+    changes.push(without.change)?;
+    let left = without.into_value();
+    if let Some(whole) = edited(alloc, &left, Edit::LeastCount(count), &[])? {
+        changes.push(whole.change)?;
+        let value = whole.into_value();
+        edits.push(EditedCall {
+            place,
+            changes,
+            value,
+        })?;
+    }
+    Ok(edits)
+}
+
+/// Tells that a participant's count for camping helps as the count of all buffers, if so many are
+/// decided then.
+fn tell_whole_count(
+    search: &mut Search<'_, '_>,
+    group: Group<'_, '_>,
+    participant: &NamedParticipant<'_>,
+    count: u32,
+    promise: Promise,
+) -> Result<(), AllocError>
+    requires { IsPromised group.scenario.now.platform.now
+        (map call_seen group.scenario.now.calls.now) (edits_of promise.edits.items)
+        group.path.now promise.outcome }
+{
+    let alloc = search.alloc;
+    let reached = reached_by(&promise.outcome);
+    if reached.count != count || is_absurd(reached, search.is_sized) {
+        return Ok(());
+    }
+    let stated = promise.stated(alloc)?;
+    let Some(first) = stated.first() else {
+        return Ok(());
+    };
+    let who = group.who_changes(alloc, participant, CAMPING, &first.value)?;
+    let choice = choices_in(alloc, group.story, group.root, promise.outcome.selection())?;
+    let rank = Rank::of(group, &promise.outcome, true);
+    let mut words = TextBuilder::of_text(alloc, &who);
+    put_whole_count(&mut words, count);
+    let mut items = Items::new(alloc);
+    items.say(2, Label::Alone(0), words);
+    put_promise(&mut items, group, 3, promise);
+    put_choice(&mut items, 3, choice);
+    search.add(ToldChange::of(stated, rank, items))
+}
+
+/// Puts that a count for camping becomes the least one of all buffers after who states it.
+fn put_whole_count(text: &mut TextBuilder, count: u32) {
+    text.put(": ")
+        .field(Field::MinBufferCountForCamping)
+        .put(" ")
+        .put_number(count)
+        .put(" becomes ")
+        .field(Field::MinBufferCount)
+        .put(" ")
+        .put_number(count)
+        .put(" (a count of all buffers)");
+}

@@ -1,0 +1,75 @@
+//! Children of groups that come before the chosen ones.
+
+use crate::preferred::party::try_party;
+use crate::preferred::telling::Found;
+use crate::preferred::wish::Wish;
+use crate::trials::{Group, asked_with};
+use constraint_edits::Edit;
+use std::alloc::{AllocError, Global};
+
+/// Tries the earlier children of each group that is selected.
+pub(crate) fn try_groups(
+    found: &mut Found,
+    wish: Wish<'_, '_>,
+    edits: &[Edit],
+) -> Result<(), AllocError> {
+    let story = wish.group.story;
+    for node in 0..story.nodes.len() {
+        if story.is_group(node) && story.is_selected(node) && wish.group.is_inside(node) {
+            try_children(found, wish, edits, node)?;
+        }
+    }
+    Ok(())
+}
+
+/// Tries the children of a group before the chosen one.
+fn try_children(
+    found: &mut Found,
+    wish: Wish<'_, '_>,
+    edits: &[Edit],
+    above: usize,
+) -> Result<(), AllocError> {
+    let story = wish.group.story;
+    for child in &story.children(found.items.alloc(), above)? {
+        if story.is_selected(*child) || found.is_done(wish.group.scenario.effort) {
+            break;
+        }
+        try_child(found, wish, edits, above, *child)?;
+    }
+    Ok(())
+}
+
+/// Tries what would let a child of a group be chosen, beside the children of other groups that are
+/// chosen.
+fn try_child(
+    found: &mut Found,
+    wish: Wish<'_, '_>,
+    edits: &[Edit],
+    above: usize,
+    child: usize,
+) -> Result<(), AllocError> {
+    let alloc = found.items.alloc();
+    let chosen = chosen_with(alloc, wish.group, above, child)?;
+    let participants = asked_with(alloc, wish.group, &chosen)?;
+    try_party(found, wish, wish.group, participants, edits)
+}
+
+/// The children of groups that are chosen, of one group another child.
+fn chosen_with(
+    alloc: Global,
+    group: Group<'_, '_>,
+    above: usize,
+    child: usize,
+) -> Result<Vec<usize>, AllocError> {
+    let story = group.story;
+    let mut chosen = vec![in alloc; child]?;
+    for (node, known) in story.nodes.iter().enumerate() {
+        match known.parent {
+            Some(parent) if parent != above && known.is_selected && story.is_group(parent) => {
+                chosen.push(node)?;
+            }
+            _ => {}
+        }
+    }
+    Ok(chosen)
+}

@@ -1,0 +1,109 @@
+//! Participants who are asked together and leave no settings, where each change of one is tried.
+
+use crate::preferred::telling::{Found, put_wanted, trial_of, tried};
+use crate::preferred::wish::Wish;
+use crate::trials::{
+    Group, Party, RestatedConstraints, change_leaves_none, hindering, is_worth, leaves_none,
+};
+use constraint_edits::{Change, Edit, EditedConstraints, changes, edited};
+use std::alloc::{AllocError, Global};
+use std::slice::from_ref;
+use value_sources::NamedParticipant;
+
+/// Tries edits of participants who are asked together, on the platform of a group on which they
+/// leave no settings; nothing where they leave some.
+pub(crate) fn try_party<'a>(
+    found: &mut Found,
+    wish: Wish<'_, '_>,
+    scope: Group<'_, '_>,
+    participants: Vec<NamedParticipant<'a>>,
+    edits: &[Edit],
+) -> Result<(), AllocError> {
+    let Some(needed) = hindering(found.items.alloc(), scope, &participants)? else {
+        return Ok(());
+    };
+    let party = Party {
+        participants,
+        needed,
+    };
+    for edit in edits {
+        if wish.may_mean(*edit) {
+            try_edit(found, wish, scope, &party, *edit)?;
+        }
+    }
+    Ok(())
+}
+
+/// Tries an edit of each of a party who is in the way.
+fn try_edit(
+    found: &mut Found,
+    wish: Wish<'_, '_>,
+    scope: Group<'_, '_>,
+    party: &Party<'_>,
+    edit: Edit,
+) -> Result<(), AllocError> {
+    for participant in &party.participants {
+        if found.is_done(wish.group.scenario.effort) {
+            break;
+        }
+        if party.needs(participant.node) && is_worth(edit, participant, &party.participants, 1) {
+            try_one(found, wish, scope, party, participant, edit)?;
+        }
+    }
+    Ok(())
+}
+
+/// Tries an edit of one of a party, and tells the least change by which comes what is wanted.
+fn try_one(
+    found: &mut Found,
+    wish: Wish<'_, '_>,
+    scope: Group<'_, '_>,
+    party: &Party<'_>,
+    participant: &NamedParticipant<'_>,
+    edit: Edit,
+) -> Result<(), AllocError> {
+    let alloc = found.items.alloc();
+    let (Some(trial), Some(value)) = (trial_of(wish.group, participant), participant.stated) else {
+        return Ok(());
+    };
+    let heaps = wish.group.scenario.platform.heaps();
+    if !changes(alloc, value, edit, heaps)? {
+        return Ok(());
+    }
+    let Some(change) = edited(alloc, value, edit, heaps)? else {
+        return Ok(());
+    };
+    let place = trial.place;
+    if is_unmet_with(alloc, scope, party, participant, place, &change)? {
+        return Ok(());
+    }
+    let Some(one) = tried(alloc, found, wish, trial, change)? else {
+        return Ok(());
+    };
+    let least = trial.least(alloc, scope, from_ref(party), value, edit, one)?;
+    if !wish.is_met(&least.outcome) {
+        return Ok(());
+    }
+    let who = wish
+        .group
+        .who_changes(alloc, participant, edit, &least.value)?;
+    put_wanted(found, wish, trial, from_ref(&who), least)
+}
+
+/// Whether a party is known to leave no settings after a change of one of them.
+fn is_unmet_with(
+    alloc: Global,
+    scope: Group<'_, '_>,
+    party: &Party<'_>,
+    participant: &NamedParticipant<'_>,
+    place: usize,
+    change: &EditedConstraints,
+) -> Result<bool, AllocError> {
+    let plain = Change::plain(change.change.edit, None);
+    if let Some(is) = change_leaves_none(alloc, scope, from_ref(party), participant, plain)? {
+        return Ok(is);
+    }
+    let value = change.value.clone()?;
+    let stated = RestatedConstraints { place, value };
+    leaves_none(alloc, scope, from_ref(party), from_ref(&stated))
+}

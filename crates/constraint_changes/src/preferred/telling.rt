@@ -1,0 +1,116 @@
+//! Changes that are run, and those told by which comes what is wanted.
+
+ghost use Rattle.std.specs.Prelude.{map, IfOk, IfSome};
+ghost use Rattle.serde_json.specs.View.{view};
+ghost use Rattle.script_reading.specs.Seen.{call_seen};
+ghost use Rattle.constraint_changes.specs.Edited.{IsTried};
+
+use crate::changes::put_change;
+use crate::preferred::wish::Wish;
+use crate::trials::{Group, Trial, TrialResult, are_sized, put_choice, reached_by};
+use constraint_edits::{EditedConstraints, is_absurd};
+use domain_reasons::choices_in;
+use explanation_text::{Items, Label, Text};
+use script_story::{Effort, Milestone, Outcome};
+use std::alloc::{AllocError, Global};
+use value_sources::NamedParticipant;
+
+/// How many changes are told.
+const MOST: usize = 3;
+
+/// How many are run.
+const RUNS: usize = 12;
+
+/// What was found so far.
+#[derive(Drop)]
+pub(crate) struct Found {
+    pub(crate) items: Items,
+    pub(crate) count: usize,
+    pub(crate) runs: usize,
+}
+
+impl Found {
+    /// Whether enough were found or run.
+    pub(crate) fn is_done(&self, effort: &Effort) -> bool {
+        self.count >= MOST || self.runs >= RUNS || effort.is_spent()
+    }
+
+    /// The label of one more.
+    pub(crate) fn label(&mut self) -> Label {
+        let label = Label::Alone(self.count);
+        self.count = self.count.saturating_add(1);
+        label
+    }
+}
+
+/// Where the constraints of a participant are stated.
+pub(crate) fn trial_of<'a, 'b>(
+    group: Group<'a, 'b>,
+    participant: &NamedParticipant<'_>,
+) -> Option<Trial<'a, 'b>> {
+    let number = group
+        .story
+        .milestone(participant.node, Milestone::SetConstraints)?;
+    Some(Trial {
+        scenario: group.scenario,
+        path: group.path,
+        place: number.saturating_sub(1),
+    })
+}
+
+/// An edit of a call's constraints, run; `None` where what is wanted doesn't come by it.
+pub(crate) fn tried(
+    alloc: Global,
+    found: &mut Found,
+    wish: Wish<'_, '_>,
+    trial: Trial<'_, '_>,
+    change: EditedConstraints,
+) -> Result<Option<TrialResult>, AllocError>
+    ensures { IfOk result (λ said. IfSome said (λ one. IsTried
+        trial.entry.scenario.now.platform.now (map call_seen trial.entry.scenario.now.calls.now)
+        trial.entry.place (view one.value) trial.entry.path.now one.outcome)) }
+{
+    trial.scenario.effort.change(trial.place, 1);
+    found.runs = found.runs.saturating_add(1);
+    match trial.outcome(alloc, &change.value)? {
+        Some(outcome) if wish.is_met(&outcome) => Ok(Some(TrialResult::of(change, outcome))),
+        _ => Ok(None),
+    }
+}
+
+/// Tells a change by which comes what is wanted, if it may be meant and its record is read as what
+/// it asks then.
+#[tactic(auto, using(crate::proofs::Promises::promised_alone))]
+pub(crate) fn put_wanted(
+    found: &mut Found,
+    wish: Wish<'_, '_>,
+    trial: Trial<'_, '_>,
+    who: &[Text],
+    one: TrialResult,
+) -> Result<(), AllocError>
+    requires { IsTried trial.scenario.now.platform.now
+        (map call_seen trial.scenario.now.calls.now) trial.place (view one.value)
+        trial.path.now one.outcome }
+{
+    let is_sized = are_sized(wish.group.participants);
+    if is_absurd(reached_by(&one.outcome), is_sized) {
+        return Ok(());
+    }
+    let alloc = found.items.alloc();
+    if !trial.is_edit(alloc, &one.change, &one.value)? {
+        return Ok(());
+    }
+    let choice = choice_of(alloc, wish, &one.outcome)?;
+    let label = found.label();
+    put_change(&mut found.items, trial, label, who, one);
+    put_choice(&mut found.items, 3, choice);
+    Ok(())
+}
+
+/// The children that a decision chooses, if they are others than now.
+fn choice_of(alloc: Global, wish: Wish<'_, '_>, then: &Outcome) -> Result<Text, AllocError> {
+    if then.selection() == wish.now.selection() {
+        return Ok(Text::new(alloc));
+    }
+    choices_in(alloc, wish.group.story, wish.group.root, then.selection())
+}

@@ -1,0 +1,222 @@
+//! Values that may be meant in the place of one that is stated, by what is easily mistaken.
+
+ghost use Rattle.std.specs.Prelude.{◌≡◌, Some, IfOk, IfSome};
+
+use crate::amount::{Amount, amount_in, edited_as, has_one_amount};
+use crate::edits::{Edit, EditedConstraints};
+use serde_json::Value;
+use std::alloc::{AllocError, Global};
+use sysmem_counts::Field;
+
+/// A value that may be meant in the place of the one that is stated.
+#[derive(Clone, Copy)]
+pub struct Slip {
+    pub amount: Amount,
+    /// How the one may have come of the other, as it stands behind the value.
+    why: &'static str,
+}
+
+impl Slip {
+    /// The constraints with the value in the place of the one that is stated; `None` where none is.
+    pub fn changed(
+        &self,
+        alloc: Global,
+        value: &Value,
+        edit: Edit,
+    ) -> Result<Option<EditedConstraints>, AllocError>
+        ensures { IfOk result (λ made. IfSome made (λ changed. changed.change
+            ≡ record { edit = edit; amount = Some self.now.amount; start = 0; end = 0 })) }
+    {
+        edited_as(alloc, value, edit, self.amount, self.why)
+    }
+}
+
+/// Two units of which one was taken for the other.
+#[derive(Clone, Copy)]
+struct Factor {
+    times: u64,
+    /// How often what suffices goes into what is meant, at most.
+    room: u64,
+    more: &'static str,
+    less: &'static str,
+}
+
+/// Bits and bytes.
+const EIGHT: Factor = Factor {
+    times: 8,
+    room: 2,
+    more: " (8 times more)",
+    less: " (8 times less)",
+};
+
+/// Kilobytes and bytes.
+const THOUSAND: Factor = Factor {
+    times: 1000,
+    room: 16,
+    more: " (1,000 times more)",
+    less: " (1,000 times less)",
+};
+
+/// Kibibytes and bytes.
+const KIBI: Factor = Factor {
+    times: 1024,
+    room: 16,
+    more: " (1,024 times more)",
+    less: " (1,024 times less)",
+};
+
+/// How often what suffices goes at most into a number that was taken for a decimal one.
+const HEXADECIMAL_ROOM: u64 = 2;
+
+/// More digits than a number has.
+const DIGITS: usize = 20;
+
+/// Which way the number of a field has a unit that may be mistaken.
+#[derive(Clone, Copy)]
+enum Unit {
+    /// A greatest value, which has this limit.
+    Greatest(u64),
+    /// A least value, or a divisor.
+    Least,
+}
+
+/// The unit of a field; `None` of counts, which have none.
+fn unit_of(field: Field) -> Option<Unit> {
+    match field {
+        Field::MaxSizeBytes | Field::MaxWidthTimesHeight => Some(Unit::Greatest(u64::MAX)),
+        Field::MaxBytesPerRow => Some(Unit::Greatest(u64::from(u32::MAX))),
+        Field::MinSizeBytes
+        | Field::MinBytesPerRow
+        | Field::BytesPerRowDivisor
+        | Field::StartOffsetDivisor => Some(Unit::Least),
+        _ => None,
+    }
+}
+
+/// The values that may be meant in the place of the one of the field that a change leaves out,
+/// where this one suffices: at most four, the likely ones first. A width and a height are
+/// exchanged. A number is taken in another unit, or by hexadecimal digits, as far as it suffices
+/// then, and isn't far more than that: else about every value that is too tight would seem to be
+/// mistaken.
+pub fn slips_of(
+    alloc: Global,
+    value: &Value,
+    edit: Edit,
+    enough: Option<Amount>,
+) -> Result<Vec<Slip>, AllocError> {
+    let mut slips = Vec::new(alloc);
+    let (Some(field), Some(stated)) = (edit.left_out(), amount_in(value, edit)) else {
+        return Ok(slips);
+    };
+    if !has_one_amount(alloc, value, edit)? {
+        return Ok(slips);
+    }
+    match (stated, enough) {
+        (Amount::Sides(width, height), _) if width != height => {
+            slips.push(Slip {
+                amount: Amount::Sides(height, width),
+                why: " (width and height exchanged)",
+            })?;
+        }
+        (Amount::Number(number), Some(Amount::Number(enough))) => {
+            add_numbers(&mut slips, field, number, enough)?;
+        }
+        _ => {}
+    }
+    Ok(slips)
+}
+
+/// Adds what may be meant in the place of a number of a field, where another one suffices.
+fn add_numbers(
+    slips: &mut Vec<Slip>,
+    field: Field,
+    number: u64,
+    enough: u64,
+) -> Result<(), AllocError> {
+    let Some(unit) = unit_of(field) else {
+        return Ok(());
+    };
+    for factor in factors_of(number) {
+        let slip = match unit {
+            Unit::Greatest(most) => more(number, factor, enough, most),
+            Unit::Least => less(number, factor, enough),
+        };
+        if let Some(slip) = slip {
+            slips.push(slip)?;
+        }
+    }
+    if let Unit::Greatest(most) = unit
+        && let Some(slip) = hexadecimal(number, enough, most)
+    {
+        slips.push(slip)?;
+    }
+    Ok(())
+}
+
+/// The factors, the likely ones first: of a number that is round in decimal a thousand.
+fn factors_of(number: u64) -> [Factor; 3] {
+    if number % 10 == 0 {
+        [EIGHT, THOUSAND, KIBI]
+    } else {
+        [EIGHT, KIBI, THOUSAND]
+    }
+}
+
+/// A number times a factor, if that suffices, and isn't far more than what does, or than the most.
+fn more(number: u64, factor: Factor, enough: u64, most: u64) -> Option<Slip> {
+    let meant = number.checked_mul(factor.times)?;
+    if meant < enough || meant > enough.saturating_mul(factor.room).min(most) {
+        return None;
+    }
+    Some(Slip {
+        amount: Amount::Number(meant),
+        why: factor.more,
+    })
+}
+
+/// A number by a factor, where it divides evenly and suffices, and isn't far less than what does.
+fn less(number: u64, factor: Factor, enough: u64) -> Option<Slip> {
+    if number == 0 || number.checked_rem(factor.times)? != 0 {
+        return None;
+    }
+    let meant = number.checked_div(factor.times)?;
+    if meant > enough || meant.saturating_mul(factor.room) < enough {
+        return None;
+    }
+    Some(Slip {
+        amount: Amount::Number(meant),
+        why: factor.less,
+    })
+}
+
+/// The number whose hexadecimal digits are the decimal ones of a round number, if it suffices, and
+/// isn't far more than what does, or than the most.
+fn hexadecimal(number: u64, enough: u64, most: u64) -> Option<Slip> {
+    if number % 100 != 0 {
+        return None;
+    }
+    let meant = read_as_hexadecimal(number)?;
+    if meant < enough || meant > enough.saturating_mul(HEXADECIMAL_ROOM).min(most) {
+        return None;
+    }
+    Some(Slip {
+        amount: Amount::Number(meant),
+        why: " (hexadecimal written as decimal)",
+    })
+}
+
+/// The number that the decimal digits of a number are in hexadecimal; `None` where they are many.
+fn read_as_hexadecimal(number: u64) -> Option<u64> {
+    let mut rest = number;
+    let mut unit = 1u64;
+    let mut sum = 0u64;
+    for _digit in 0..DIGITS {
+        if rest == 0 {
+            break;
+        }
+        sum = sum.checked_add((rest % 10).checked_mul(unit)?)?;
+        unit = unit.checked_mul(16)?;
+        rest /= 10;
+    }
+    Some(sum)
+}

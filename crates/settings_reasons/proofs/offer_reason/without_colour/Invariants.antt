@@ -1,8 +1,0 @@
--- Those so far lack it.
-use Rattle.std.proofs.Common.{◌≡◌, filter, take}
-use Rattle.settings_reasons.specs.True.{lacks_colour}
-use Rattle.value_sources.specs.Sources.{all_asked}
-use Rattle.settings_reasons.proofs.offer_reason.without_colour.Given as goal
-
-abbrev pub invariant-loop-participant : goal.invariant-loop-participant
-invariant-loop-participant l = all_asked l.those.items ≡ filter (lacks_colour l.offer) (all_asked (take l.participant-index l.participants))
