@@ -156,13 +156,23 @@ def bracketed(text, _parts, fault, what):
     return [part.value], [(part.value, part.end, f"[{value}]")]
 
 
-def replaced(text, parts, fault, field, known, was):
-    """A value of a field stands in the place of another, or a name in that of the key or the value at the fault, or of
-    the call's actor; in that of a node's name as often as lines are told."""
+def sides_written(text, _parts, fault, sides, was):
+    """A width and a height stand in an object."""
     part = fault.part
-    actor = parts.get((*part.path[:2], "actor"), part)
-    spots = [(one.value, one.end) for one in (part, actor)]
-    if fault.note == "unknown key":
+    judge(visible(text[part.value : part.end]) == was, f"{was} isn't at {path_words(part.path)}")
+    return [part.value], [(part.value, part.end, sides)]
+
+
+def replaced(text, parts, fault, field, known, was):
+    """A value of a field stands in the place of another, or a name in that of the key or the value at the fault, of
+    the call, of its actor, or of a node on which no call is made; in that of a node's name as often as lines are
+    told."""
+    part = parts.get((*fault.part.path, field), fault.part)
+    if fault.note == "no earlier call makes this name" and text[part.value : part.end] == f'"{known}"':
+        part = next(one for one in parts.values() if one.path[2:] == ("as",) and text[one.value : one.end] == f'"{was}"')
+    near = [parts.get((*part.path[:2], key), part) for key in ("actor", "call")]
+    spots = [(one.value, one.end) for one in (part, *near)]
+    if fault.note == "unknown key" and part.path[-1] != "constraints":
         spots = [(part.start, DECODER.raw_decode(text, part.start)[1])]
     first = next((spot for spot in spots if visible(text[slice(*spot)]) == (was if field else f'"{was}"')), None)
     judge(first, f"{was} isn't at {path_words(part.path)}")
@@ -180,6 +190,7 @@ AT_FAULTS = {
     r"brackets around (.+)": bracketed,
     r"call (\d+) left out": call_left_out,
     r"(.*) left out": left_out,
+    r'(\{"width": \d+, "height": \d+\}) in the place of (.+)': sides_written,
     r"(?:(\w+) )?(\S+) in the place of (.*)": replaced,
 }
 

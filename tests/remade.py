@@ -144,7 +144,7 @@ def changed(script, words):
     if taken(constraints, what):
         return script
     lacks = re.fullmatch(r"(\w+) (.+) left out", what)
-    holds = re.fullmatch(r"(\w+) (false|\(absent, so false\)) becomes true", what)
+    holds = re.fullmatch(r"(\w+) (?:(true|false)|\(absent, so (?:true|false)\)) becomes (true|false)", what)
     whole = re.fullmatch(r"(\w+_for_camping) (\d+) becomes (min_buffer_count) \2 \(a count of all buffers\)", what)
     if whole:
         judge(whole[3] not in constraints, f"{whole[3]} is stated")
@@ -154,11 +154,9 @@ def changed(script, words):
         with_field(constraints, lacks[1], lacks[2], lambda place: place.pop(lacks[1]))
     elif holds:
         memory = constraints.setdefault(MEMORY, {})
-        judge(
-            memory.get(holds[1]) is (False if holds[2] == "false" else None),
-            f"{holds[1]} is told to be {holds[2]}, and is {memory.get(holds[1])}",
-        )
-        memory[holds[1]] = True
+        was = {"true": True, "false": False}.get(holds[2])
+        judge(memory.get(holds[1]) is was, f"{holds[1]} is told to be {holds[2]}, and is {memory.get(holds[1])}")
+        memory[holds[1]] = holds[3] == "true"
     else:
         field, was, value = re.fullmatch(rf"(\w+) (.+) becomes ([\dx]+){BESIDE}", what).groups()
         sides = [int(side) for side in value.split("x")]

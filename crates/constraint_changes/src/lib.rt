@@ -23,6 +23,6 @@ mod trials;
 mod walk;
 
 pub use changes::list_changes;
-pub use preferred::list_preferred;
+pub use preferred::{ToldChange, list_preferred};
 pub use together::add_together;
 pub use trials::{Group, RestatedConstraints, Trial, entry_place, line_at, put_choice, restated};

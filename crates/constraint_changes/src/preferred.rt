@@ -10,56 +10,77 @@ mod places;
 mod telling;
 mod wish;
 
-use crate::preferred::children::try_groups;
+use crate::preferred::children::{try_groups, try_late_groups};
 use crate::preferred::kinds::try_kinds;
 use crate::preferred::pairs::try_pairs;
-use crate::preferred::places::try_places;
+use crate::preferred::places::{try_other_domain, try_places};
 use crate::preferred::telling::Found;
+pub use crate::preferred::telling::ToldChange;
 use crate::preferred::wish::{Goal, Wish};
 use crate::trials::Group;
 use constraint_edits::Edit;
 use explanation_text::{Items, Label};
-use script_story::{Outcome, Story, asked_in};
+use script_story::asked_in;
 use std::alloc::AllocError;
 
-/// Tells of an initial domain that is chosen the changes of one field of one participant by which
-/// another would come: a child, a pair or a place that comes before the chosen one, or a heap that
-/// would do too and is contiguous or secure. Each with the decision that would come: the line of
-/// the report of the changed script.
+/// Tells of a domain that is chosen the changes of one field of one participant by which another
+/// would come: a child, a pair or a place that comes before the chosen one, or a place that would do
+/// too and is contiguous, secure, or of another coherency domain; of an attached domain, which has
+/// the initial one's image and place, a child alone. Each with the decision that would come: the
+/// line of the report of the changed script. Gives those with another count or size.
 pub fn list_preferred(
     items: &mut Items,
     group: Group<'_, '_>,
     index: usize,
     edits: &[Edit],
-) -> Result<(), AllocError> {
+) -> Result<Vec<ToldChange>, AllocError> {
     let alloc = items.alloc();
-    let Some(now) = initial(group.story, index) else {
-        return Ok(());
+    let Some(domain) = group.story.domains.get(index) else {
+        return Ok(Vec::new(alloc));
     };
-    let selected = asked_in(alloc, group.story, index, true)?;
-    let mut found = Found {
-        items: Items::new(alloc),
-        count: 0,
-        runs: 0,
+    if !domain.told.is_chosen() {
+        return Ok(Vec::new(alloc));
+    }
+    let mut found = Found::new(alloc);
+    let is_late = domain.host.is_some();
+    let wish = Wish {
+        group,
+        now: &domain.told,
+        goal: if is_late {
+            Goal::LateChild
+        } else {
+            Goal::Child
+        },
     };
-    let goal = Goal::Child;
-    let wish = Wish { group, now, goal };
-    try_groups(&mut found, wish, edits)?;
-    try_kinds(&mut found, wish, &selected)?;
-    try_pairs(&mut found, wish, &selected, edits)?;
-    try_places(&mut found, wish, &selected)?;
+    if is_late {
+        try_late_groups(&mut found, wish, edits)?;
+    } else {
+        try_groups(&mut found, wish, group, edits)?;
+        try_settings(&mut found, wish, index, edits)?;
+    }
     put_head(items, &found);
-    items.append(found.items);
-    Ok(())
+    let Found {
+        items: list,
+        told,
+        count: _,
+        runs: _,
+    } = found;
+    items.append(list);
+    Ok(told)
 }
 
-/// What was decided of the domain of an index, if that is an initial one that is chosen.
-fn initial<'b>(story: &'b Story<'_>, index: usize) -> Option<&'b Outcome> {
-    let domain = story.domains.get(index)?;
-    if domain.host.is_some() || !domain.told.is_chosen() {
-        return None;
-    }
-    Some(&domain.told)
+/// Tries what would let another pair or place be chosen in an initial domain.
+fn try_settings(
+    found: &mut Found,
+    wish: Wish<'_, '_>,
+    index: usize,
+    edits: &[Edit],
+) -> Result<(), AllocError> {
+    let selected = asked_in(found.items.alloc(), wish.group.story, index, true)?;
+    try_kinds(found, wish, &selected)?;
+    try_pairs(found, wish, &selected, edits)?;
+    try_places(found, wish, &selected)?;
+    try_other_domain(found, wish, &selected)
 }
 
 fn put_head(items: &mut Items, found: &Found) {

@@ -21,7 +21,7 @@ use Rattle.constraint_edits.specs.declared.edits.Edit.{Edit}
 use Rattle.constraint_edits.specs.declared.edits.Edit.TheVariants as edit
 use Rattle.constraint_edits.specs.EditedBounds.{bound_edited, bounds_exchanged}
 use Rattle.constraint_edits.specs.EditedNumbers.{counts_edited, counts_exchanged, memory_edited}
-use Rattle.constraint_edits.specs.EditedNumbers.{supporting, sizes_exchanged}
+use Rattle.constraint_edits.specs.EditedNumbers.{supporting, sizes_exchanged, unsupporting}
 
 -- CPUs don't use the buffers; where nothing else does, they are only allocated
 abbrev pub without_cpu : Usage → Usage
@@ -80,6 +80,7 @@ after heaps c (edit.MeansHeap index) p =
     (slice_get heaps index)
 after heaps c (edit.Exchanges least most) p = exchanged least most p
 after heaps c (edit.Supports f) p = with_memory p (supporting f p.memory)
+after heaps c (edit.NoSupport f) p = with_memory p (unsupporting f p.memory)
 after heaps c (edit.NoCount f) p = with_counts p (counts_edited f c.amount p.counts)
 after heaps c (edit.NoMemory f) p = with_memory p (memory_edited f c.amount p.memory)
 after heaps c (edit.NoBound f) p = with_entries p (bound_edited f c.amount p.entries)

@@ -57,6 +57,14 @@ supporting field.PhysicallyContiguousRequired m =
 supporting field.SecureRequired m = Some (record m { secure_required = true })
 supporting _ m = None
 
+-- the wishes with a coherency domain not supported
+abbrev pub unsupporting : Field → MemoryWishes → Option MemoryWishes
+unsupporting field.CpuDomainSupported m = Some (record m { cpu_domain_supported = false })
+unsupporting field.RamDomainSupported m = Some (record m { ram_domain_supported = false })
+unsupporting field.InaccessibleDomainSupported m =
+    Some (record m { inaccessible_domain_supported = false })
+unsupporting _ m = None
+
 -- the least size is the greatest, and the other way round
 abbrev pub sizes_exchanged : MemoryWishes → MemoryWishes
 sizes_exchanged m =

@@ -4,7 +4,7 @@ ghost use Rattle.std.specs.Prelude.{◌≡◌, [], ◌∷◌, map, set, slice_ge
 ghost use Rattle.sysmem_counts.specs.Usage.{uses_cpu};
 ghost use Rattle.constraint_edits.specs.Drafts.{drafted};
 ghost use Rattle.constraint_edits.specs.Edited.{edited, exchanged, naming, permitting, put_first, taking, with_counts, with_entries, with_heaps, with_memory, without_cpu};
-ghost use Rattle.constraint_edits.specs.EditedNumbers.{counts_edited, memory_edited, supporting};
+ghost use Rattle.constraint_edits.specs.EditedNumbers.{counts_edited, memory_edited, supporting, unsupporting};
 ghost use Rattle.constraint_edits.specs.EditedBounds.{bound_edited, bounds_exchanged};
 
 mod bounds;
@@ -79,6 +79,7 @@ impl Draft {
             Edit::PermitsHeap(index) => self.permit(heaps, index),
             Edit::Exchanges(least, most) => self.exchange(least, most),
             Edit::Supports(field) => Ok(self.support(field)),
+            Edit::NoSupport(field) => Ok(self.drop_support(field)),
             Edit::NoCount(field) => Ok(self.put_count(field, change.amount)),
             Edit::NoMemory(field) => Ok(self.put_memory(field, change.amount)),
             Edit::NoBound(field) => self.put_bound(field, change.amount),
@@ -175,6 +176,22 @@ impl Draft {
                 self.memory.physically_contiguous_required = true;
             }
             Field::SecureRequired => self.memory.secure_required = true,
+            _ => return false,
+        }
+        true
+    }
+
+    /// Has a coherency domain not supported.
+    fn drop_support(&mut self, field: Field) -> bool
+        ensures { IsTrue result → with_memory (drafted self.old)
+            (unsupporting field self.old.memory) ≡ Some (drafted self.new) }
+    {
+        match field {
+            Field::CpuDomainSupported => self.memory.cpu_domain_supported = false,
+            Field::RamDomainSupported => self.memory.ram_domain_supported = false,
+            Field::InaccessibleDomainSupported => {
+                self.memory.inaccessible_domain_supported = false;
+            }
             _ => return false,
         }
         true

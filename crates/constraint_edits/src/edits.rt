@@ -28,6 +28,8 @@ pub enum Edit {
     /// A flag of the memory is set: a coherency domain is supported, or contiguous or secure memory
     /// is needed.
     Supports(Field),
+    /// A coherency domain isn't supported.
+    NoSupport(Field),
     /// A field of the counts is left out.
     NoCount(Field),
     /// A field of the memory is left out.
@@ -240,7 +242,8 @@ fn record_after(
     match edit {
         Edit::MeansHeap(index) => meaning(alloc, value, heaps, index),
         Edit::Exchanges(least, most) => exchanged(alloc, value, least, most),
-        Edit::Supports(field) => supporting(alloc, value, field),
+        Edit::Supports(field) => setting(alloc, value, field, true),
+        Edit::NoSupport(field) => setting(alloc, value, field, false),
         Edit::NoCount(field) => without(alloc, value, field),
         Edit::NoMemory(field) => without_memory(alloc, value, field),
         Edit::NoBound(field) => without_bound(alloc, value, field),
@@ -263,7 +266,8 @@ pub fn changes(
     Ok(match edit {
         Edit::MeansHeap(index) => return means(alloc, value, heaps, index),
         Edit::Exchanges(least, most) => exchanges(value, least.name(), most.name()),
-        Edit::Supports(field) => is_unsupported(value, field),
+        Edit::Supports(field) => !has_flag(value, field),
+        Edit::NoSupport(field) => has_flag(value, field),
         Edit::NoCount(field) => value.get(field.name()).is_some(),
         Edit::NoMemory(field) => memory_of(value, field.name()).is_some(),
         Edit::NoBound(field) => have(value, field.name()),
@@ -276,33 +280,38 @@ pub fn changes(
     })
 }
 
-/// Whether a flag of the memory isn't set by constraints.
-fn is_unsupported(value: &Value, field: Field) -> bool {
+/// Whether a flag of the memory is set by constraints.
+fn has_flag(value: &Value, field: Field) -> bool {
     match memory_of(value, field.name()) {
-        Some(stated) => stated.as_bool() != Some(true),
-        None => field != Field::CpuDomainSupported,
+        Some(stated) => stated.as_bool() == Some(true),
+        None => field == Field::CpuDomainSupported,
     }
 }
 
-fn supporting(
+/// Gives a flag of the memory another value, which is this.
+fn setting(
     alloc: Global,
     value: &Value,
     field: Field,
+    is_set: bool,
 ) -> Result<Option<EditedRecord>, AllocError> {
+    if has_flag(value, field) == is_set {
+        return Ok(None);
+    }
     let key = field.name();
-    let (was, said) = match memory_of(value, key) {
-        Some(Value::Bool(true)) => return Ok(None),
-        Some(_) => ("false", Some(Said::Flag(false))),
-        None if field == Field::CpuDomainSupported => return Ok(None),
-        None => ("(absent, so false)", None),
-    };
-    let object = with(alloc, value.get(MEMORY), key, Value::Bool(true))?;
+    let stated = memory_of(value, key);
+    let object = with(alloc, value.get(MEMORY), key, Value::Bool(is_set))?;
     let mut words = TextBuilder::new(alloc);
-    words.field(field).put(" ").put(was).put(" becomes true");
+    words.field(field).put(match (stated, is_set) {
+        (Some(_), true) => " false becomes true",
+        (Some(_), false) => " true becomes false",
+        (None, true) => " (absent, so false) becomes true",
+        (None, false) => " (absent, so true) becomes false",
+    });
     words.tell(Fact::Change(Deed::Set {
         field,
-        was: said,
-        value: Said::Flag(true),
+        was: stated.map(|_stated| Said::Flag(!is_set)),
+        value: Said::Flag(is_set),
     }));
     Ok(Some(EditedRecord {
         value: with(alloc, Some(value), MEMORY, object)?,

@@ -1,5 +1,6 @@
 //! What was chosen in a domain, and what decided it.
 
+use crate::late_choices::add_late_left_out;
 use crate::passed_over::add_passed_over;
 use crate::room::add_left;
 use crate::selecting::{Choice, DomainView, add_left_out, choices_of};
@@ -13,7 +14,8 @@ use std::alloc::{AllocError, Global};
 /// How many choices are named.
 pub(crate) const MOST_CHOICES: usize = 6;
 
-/// Tells what was chosen in a domain, and why: of the initial one.
+/// Tells what was chosen in a domain, and why: of an attached one as far as it isn't the initial
+/// one's.
 pub(crate) fn add_choice(
     items: &mut Items,
     platform: &Platform,
@@ -22,15 +24,16 @@ pub(crate) fn add_choice(
     domain: &Domain,
 ) -> Result<(), AllocError> {
     add_children(items, story, domain)?;
-    if let Some(host) = domain.host {
-        add_from(items, story, host);
-        return add_left(items, story, index);
-    }
     let selections = DomainView {
         platform,
         story,
         root: domain.root,
     };
+    if let Some(host) = domain.host {
+        add_late_left_out(items, selections, index, domain)?;
+        add_from(items, story, host);
+        return add_left(items, story, index);
+    }
     add_left_out(items, selections)?;
     add_passed_over(items, selections)?;
     let participants = asked_in(items.alloc(), story, index, true)?;

@@ -7,13 +7,16 @@ use explanation_text::wording::put_few;
 use explanation_text::{Fact, Items, Kind, Label, ListBuilder, Text, TextBuilder};
 use negotiation_inputs::Platform;
 use script_reading::Act;
-use script_story::{Became, Domain, Milestone, Story, asked_in, put_domain};
+use script_story::{Became, Domain, Milestone, Story, asked_in, left_out, put_domain};
 use serde_json::Value;
 use std::alloc::{AllocError, Global};
 use value_sources::NamedParticipant;
 
 /// How many participants are named.
 const MOST_WHO: usize = 8;
+
+/// How many are named who take no part.
+const MOST_PARTLESS: usize = 4;
 
 /// Tells what became of the domain of an index, and why.
 pub fn add_domain(
@@ -53,7 +56,34 @@ fn add_chosen(
 ) -> Result<(), AllocError> {
     add_who(items, story, index, true)?;
     domain.told.tell(items, 1);
-    add_choice(items, platform, story, index, domain)
+    add_choice(items, platform, story, index, domain)?;
+    add_partless(items, story, index)
+}
+
+/// Tells who has constraints in a domain that is chosen and takes no part, since it stands below a
+/// child that isn't chosen.
+fn add_partless(items: &mut Items, story: &Story<'_>, index: usize) -> Result<(), AllocError> {
+    let alloc = items.alloc();
+    let mut left = MOST_PARTLESS;
+    for participant in &asked_in(alloc, story, index, false)? {
+        let node = participant.node;
+        if left == 0 || story.is_selected(node) || is_child(story, node) {
+            continue;
+        }
+        left = left.saturating_sub(1);
+        let mut words = left_out(alloc, story, node);
+        words.put(": it takes no part");
+        items.say(1, Label::Note, words);
+    }
+    Ok(())
+}
+
+/// Whether a node is the child of a group.
+fn is_child(story: &Story<'_>, node: usize) -> bool {
+    match story.parent(node) {
+        Some(parent) => story.is_group(parent),
+        None => false,
+    }
 }
 
 /// The title of a domain's section:

@@ -189,7 +189,7 @@ fn add_late(
 }
 
 /// Tells in which fields settings fail participants, where they fail one.
-fn add_unsuited(
+pub(crate) fn add_unsuited(
     items: &mut Items,
     platform: &Platform,
     participants: &[NamedParticipant<'_>],
@@ -206,7 +206,7 @@ fn add_unsuited(
 }
 
 /// Tells who takes fewer buffers than were decided.
-fn add_fewer(items: &mut Items, participants: &[NamedParticipant<'_>], count: u32) {
+pub(crate) fn add_fewer(items: &mut Items, participants: &[NamedParticipant<'_>], count: u32) {
     for participant in participants {
         let most = participant.asked.counts().max_buffer_count;
         if most < count {

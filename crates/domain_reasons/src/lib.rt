@@ -13,6 +13,7 @@ mod choosing;
 mod combinations;
 mod domains;
 mod failing;
+mod late_choices;
 mod passed_over;
 mod room;
 mod selecting;

@@ -28,7 +28,7 @@ pub(crate) fn add_passed_over(
 }
 
 /// The choice that was made of the first group of which these choose no child.
-fn next_chosen(
+pub(crate) fn next_chosen(
     alloc: Global,
     empty: DomainView<'_, '_>,
     choices: &[Choice],

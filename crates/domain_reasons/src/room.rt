@@ -189,7 +189,7 @@ pub(crate) fn add_lacking(
 }
 
 /// Tells the same of those who come together; whether more are needed than were decided.
-fn add_lacking_with<'a>(
+pub(crate) fn add_lacking_with<'a>(
     items: &mut Items,
     story: &Story<'a>,
     index: usize,

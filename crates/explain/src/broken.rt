@@ -1,7 +1,6 @@
 //! What a script means that is no JSON, once it is corrected where it stops being some.
 
-use crate::corrected::{add_answer, add_too_long, is_too_long};
-use crate::helping::LEVELS;
+use crate::corrected::{FARTHEST, add_answer, add_too_long, is_too_long};
 use crate::mended::mended;
 use crate::mended_words::put_corrections;
 use explanation_text::wording::put_few;
@@ -67,7 +66,7 @@ fn add_whole(
         None,
         Some(""),
         true,
-        LEVELS.saturating_sub(1),
+        FARTHEST.saturating_sub(1),
     )
 }
 

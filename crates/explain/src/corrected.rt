@@ -1,9 +1,9 @@
 //! What a script means once each part of it is corrected of which it is known what may be meant; and
 //! once its calls are made otherwise that were refused.
 
-ghost use Rattle.std.specs.Prelude.{◌≡◌};
+ghost use Rattle.std.specs.Prelude.{◌≡◌, ◌<◌, IfSome};
 
-use crate::helping::{LEVELS, add_help_then};
+use crate::helping::{HELPED, LEVELS, add_why, put_head};
 use crate::mended::mended;
 use crate::mended_words::put_corrections;
 use crate::not_chosen::add_not_chosen;
@@ -24,6 +24,10 @@ const MOST: usize = 13;
 /// How long a text may be that is corrected, or whose calls are made otherwise, in bytes: what comes
 /// then is one value more, of up to 175 bytes a byte.
 const LONGEST: usize = 262_144;
+
+/// How far a script goes on at most that is corrected, or whose calls are made otherwise: so often,
+/// and then as far as what would help does.
+pub(crate) const FARTHEST: usize = LEVELS + HELPED;
 
 /// Whether a script's text is too long to be made otherwise.
 pub(crate) fn is_too_long(document: &Document<'_>) -> bool {
@@ -73,12 +77,12 @@ pub(crate) fn corrected(
     now: &str,
 ) -> Result<Items, AllocError> {
     let mut items = Items::new(alloc);
-    let _is_told = add_corrected(&mut items, document, shown, effort, Some(now), LEVELS)?;
+    let _is_told = add_corrected(&mut items, document, shown, effort, Some(now), FARTHEST)?;
     Ok(items)
 }
 
-/// Tells the same; whether something is told. The story goes on so often at most.
-#[cycle(add_answer)]
+/// Tells the same; whether something is told. The story goes on so far at most.
+#[cycle(list_help)]
 fn add_corrected(
     items: &mut Items,
     document: &Document<'_>,
@@ -87,7 +91,7 @@ fn add_corrected(
     now: Option<&str>,
     levels: usize,
 ) -> Result<bool, AllocError> {
-    let Some(levels) = levels.checked_sub(1) else {
+    let Some(levels) = levels_after(levels) else {
         return add_no_more(items, shown);
     };
     let Some((bytes, value)) = meant_in(items, document, shown)? else {
@@ -101,6 +105,16 @@ fn add_corrected(
     };
     add_answer(items, &other, effort, now, true, levels)?;
     Ok(true)
+}
+
+/// How far the story of a script goes on once that is made otherwise; `None` where it ends there.
+fn levels_after(levels: usize) -> Option<usize>
+    ensures { IfSome result (λ less. less < levels) }
+{
+    match levels.checked_sub(1) {
+        Some(less) if less >= HELPED => Some(less),
+        _ => None,
+    }
 }
 
 /// Tells that it isn't told what comes once faults are corrected that are shown, if of each of them
@@ -183,8 +197,8 @@ struct Recalled {
 
 /// Tells what the script has once refused calls are made on the nodes that they may mean, if some
 /// do; else once calls are made that are missing; else once those are moved that stand too early.
-/// Whether something is told; the story goes on so often at most.
-#[cycle(add_answer)]
+/// Whether something is told; the story goes on so far at most.
+#[cycle(list_help)]
 pub(crate) fn add_called_otherwise(
     items: &mut Items,
     document: &Document<'_>,
@@ -192,9 +206,21 @@ pub(crate) fn add_called_otherwise(
     story: &Story<'_>,
     levels: usize,
 ) -> Result<bool, AllocError> {
-    let Some(levels) = levels.checked_sub(1) else {
-        return Ok(false);
-    };
+    match levels_after(levels) {
+        Some(less) => add_recalled(items, document, scenario, story, less),
+        None => Ok(false),
+    }
+}
+
+/// The same, with so far to go on then.
+#[cycle(list_help)]
+pub(crate) fn add_recalled(
+    items: &mut Items,
+    document: &Document<'_>,
+    scenario: &Scenario<'_>,
+    story: &Story<'_>,
+    levels: usize,
+) -> Result<bool, AllocError> {
     let Some(made) = called_otherwise(items, document, story)? else {
         return Ok(false);
     };
@@ -208,7 +234,7 @@ pub(crate) fn add_called_otherwise(
         value: &made.value,
         whole: document.whole,
     };
-    let is_first = levels.saturating_add(1) == LEVELS;
+    let is_first = levels.saturating_add(1) == FARTHEST;
     let now = if made.is_told_there && is_first {
         None
     } else {
@@ -261,8 +287,8 @@ fn is_one_pending(story: &Story<'_>) -> bool {
 /// Tells the answer of a script, which of its calls are refused, what would help its domains, and
 /// what is chosen unless that is said now, or it isn't to be told as nothing is given for now; or
 /// that it is refused itself. What is tried costs of this effort, if one is given. Faults are
-/// corrected where the document's text spells the script. The story goes on so often at most.
-#[cycle(add_answer)]
+/// corrected where the document's text spells the script. The story goes on so far at most.
+#[cycle(list_help)]
 pub(crate) fn add_answer(
     items: &mut Items,
     document: &Document<'_>,
@@ -286,7 +312,7 @@ pub(crate) fn add_answer(
 }
 
 /// Tells the same of a script that isn't refused, whose records are read once.
-#[cycle(add_answer)]
+#[cycle(list_help)]
 fn add_read(
     items: &mut Items,
     document: &Document<'_>,
@@ -308,7 +334,7 @@ fn add_read(
 }
 
 /// The same, where what is tried costs of this, or as much as of a script by itself.
-#[cycle(add_answer)]
+#[cycle(list_help)]
 fn add_weighed(
     items: &mut Items,
     document: &Document<'_>,
@@ -357,7 +383,7 @@ fn add_shown(items: &mut Items, shown: Vec<Item>) {
 }
 
 /// Puts items one deeper after others.
-fn add_one_deeper(items: &mut Items, below: Items) -> Result<(), AllocError> {
+pub(crate) fn add_one_deeper(items: &mut Items, below: Items) -> Result<(), AllocError> {
     for mut item in below.into_list()? {
         item.depth = item.depth.saturating_add(1);
         items.add(item);
@@ -368,7 +394,7 @@ fn add_one_deeper(items: &mut Items, below: Items) -> Result<(), AllocError> {
 /// Tells the answer of a script that isn't refused, which of its calls are, what would help its
 /// domains, and what is chosen unless that is said now; or what it has once faults are corrected, or
 /// its calls made otherwise that were refused.
-#[cycle(add_answer)]
+#[cycle(list_help)]
 fn add_script<'a>(
     items: &mut Items,
     document: &Document<'a>,
@@ -400,7 +426,7 @@ fn add_script<'a>(
     if add_called_otherwise(&mut below, document, &scenario, &story, levels)? {
         return add_one_deeper(items, below);
     }
-    add_domains_then(items, document, &scenario, &story, now)
+    add_domains_then(items, document, &scenario, &story, now, levels)
 }
 
 /// Tells the answer of a story, and which calls are refused: the first of them where there are many.
@@ -434,27 +460,46 @@ fn shown_calls(
 
 /// Tells why each domain has no settings, or none with an earlier child, and what would help; and
 /// what is chosen unless that is said now.
+#[cycle(list_help)]
 fn add_domains_then(
     items: &mut Items,
     document: &Document<'_>,
     scenario: &Scenario<'_>,
     story: &Story<'_>,
     now: Option<&str>,
+    levels: usize,
 ) -> Result<(), AllocError> {
     for (index, domain) in story.domains.iter().enumerate() {
-        if let Some(now) = now
-            && domain.became == Became::Chosen
-        {
-            add_chosen(items, scenario, story, index, now)?;
-            continue;
-        }
-        add_shortly(items, scenario.platform, story, index)?;
-        if domain.became != Became::Chosen && !scenario.effort.is_spent() {
-            let levels = LEVELS.saturating_sub(1);
-            add_help_then(items, document, scenario, story, index, levels, 1)?;
+        match now {
+            _ if domain.became != Became::Chosen => {
+                add_unmet(items, document, scenario, story, index, levels.min(HELPED))?
+            }
+            Some(now) => add_chosen(items, scenario, story, index, now)?,
+            None => add_shortly(items, scenario.platform, story, index)?,
         }
     }
     Ok(())
+}
+
+/// Tells why a domain has no settings, and what would help it; above that stands which it is, where
+/// there are several.
+#[cycle(list_help)]
+fn add_unmet(
+    items: &mut Items,
+    document: &Document<'_>,
+    scenario: &Scenario<'_>,
+    story: &Story<'_>,
+    index: usize,
+    levels: usize,
+) -> Result<(), AllocError> {
+    let Some(domain) = story.domains.get(index) else {
+        return Ok(());
+    };
+    if story.domains.len() < 2 {
+        return add_why(items, document, scenario, story, index, levels, 1);
+    }
+    put_head(items, story, domain);
+    add_why(items, document, scenario, story, index, levels, 2)
 }
 
 /// Tells what is chosen in the initial domain, unless that is said now, and what isn't: an attached

@@ -2,9 +2,9 @@
 
 use crate::entries::add_unused;
 use crate::helping::{LEVELS, index_at, list_help};
-use crate::not_chosen::add_not_chosen;
+use crate::not_chosen::{add_not_chosen, add_numbers};
 use constraint_changes::{
-    Group, RestatedConstraints, add_together, list_changes, list_preferred, restated,
+    Group, RestatedConstraints, ToldChange, add_together, list_changes, list_preferred, restated,
 };
 use constraint_edits::edits_on;
 use domain_reasons::add_domain;
@@ -14,7 +14,20 @@ use script_faults::Document;
 use script_reading::Call;
 use script_story::{Scenario, Story, asked_in, story_of};
 use std::alloc::AllocError;
+use std::slice::from_ref;
 use value_sources::NamedParticipant;
+
+/// How deep decisions by changes stand.
+const DEPTH: usize = 3;
+
+/// What is told of a decision by a change.
+#[derive(Clone, Copy)]
+enum Part {
+    /// How many buffers there are, and how large an image is.
+    Numbers,
+    /// That, and what isn't chosen.
+    All,
+}
 
 /// Tells each domain, in the order of the report.
 pub(crate) fn add_domains(
@@ -34,8 +47,8 @@ pub(crate) fn add_domains(
     Ok(())
 }
 
-/// Tells by which changes of a participant an initial domain that is chosen would have another
-/// child, image or place.
+/// Tells by which changes of a participant a domain that is chosen would have another child, image
+/// or place, and below each the numbers that it would have then, if they are others.
 fn add_preferred(
     items: &mut Items,
     document: &Document<'_>,
@@ -53,7 +66,30 @@ fn add_preferred(
         platform.colours(),
     )?;
     let group = group_of(document, scenario, story, index, &participants);
-    list_preferred(items, group, index, &edits)
+    let mut changes = Items::new(alloc);
+    let told = list_preferred(&mut changes, group, index, &edits)?;
+    let mut count = 0usize;
+    for item in changes.into_list()? {
+        items.add(item);
+        count = count.saturating_add(1);
+        add_numbers_by(items, group, &told, count)?;
+    }
+    Ok(())
+}
+
+/// Tells the numbers of the decision by that change which ends after so many items, if one does.
+fn add_numbers_by(
+    items: &mut Items,
+    group: Group<'_, '_>,
+    told: &[ToldChange],
+    count: usize,
+) -> Result<(), AllocError> {
+    for change in told {
+        if change.end == count {
+            add_of(items, group, from_ref(&change.stated), Part::Numbers, DEPTH)?;
+        }
+    }
+    Ok(())
 }
 
 /// Those whose constraints are changed, in the domain of this index.
@@ -122,7 +158,7 @@ fn add_changes(
         items.add(item);
         count = count.saturating_add(1);
         if count == end && !stated.is_empty() {
-            add_first(items, group, stated, depth)?;
+            add_of(items, group, stated, Part::All, depth)?;
         }
     }
     Ok(())
@@ -143,26 +179,28 @@ fn end_of_first(changes: &[Item]) -> usize {
     0
 }
 
-/// Tells at this depth what isn't chosen where calls state this, if nodes are numbered there as
-/// they are.
-fn add_first(
+/// Tells at this depth a part of what is chosen where calls state this, and isn't, if nodes are
+/// numbered there as they are.
+fn add_of(
     items: &mut Items,
     group: Group<'_, '_>,
     stated: &[RestatedConstraints],
+    part: Part,
     depth: usize,
 ) -> Result<(), AllocError> {
     if group.scenario.effort.is_spent() {
         return Ok(());
     }
     let calls = restated(items.alloc(), group.scenario.calls, stated)?;
-    add_first_of(items, group, &calls, depth)
+    add_with(items, group, &calls, part, depth)
 }
 
 /// The same of these calls.
-fn add_first_of(
+fn add_with(
     items: &mut Items,
     group: Group<'_, '_>,
     calls: &Vec<Call<'_>>,
+    part: Part,
     depth: usize,
 ) -> Result<(), AllocError> {
     let alloc = items.alloc();
@@ -178,7 +216,10 @@ fn add_first_of(
     let story = story_of(alloc, group.document.value, calls, &told)?;
     match index_at(&story, group.path) {
         Some(index) if story.nodes.len() == group.story.nodes.len() => {
-            add_not_chosen(items, &other, &story, index, depth)
+            match part {
+                Part::Numbers => add_numbers(items, &other, &story, index, depth),
+                Part::All => add_not_chosen(items, &other, &story, index, depth),
+            }
         }
         _ => Ok(()),
     }

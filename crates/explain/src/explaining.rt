@@ -6,9 +6,10 @@ ghost use Rattle.explain.specs.Lines.{IsToldBy, item_texts};
 ghost use Rattle.explain.specs.Wanted.{AreThere};
 
 use crate::broken::corrected_json;
-use crate::corrected::{add_called_otherwise, add_too_long, corrected, is_too_long, said_in};
+use crate::corrected::{
+    FARTHEST, add_called_otherwise, add_too_long, corrected, is_too_long, said_in,
+};
 use crate::domains::add_domains;
-use crate::helping::LEVELS;
 use crate::json::{PlayedScript, Scene, objects_of};
 use crate::lines::with_lines;
 use crate::page::page_of_scene;
@@ -367,7 +368,7 @@ fn add_story(
     );
     add_repeats(items, document)?;
     add_calls(items, document, story, scenario.effort)?;
-    let _is_told = add_called_otherwise(items, document, scenario, story, LEVELS)?;
+    let _is_told = add_called_otherwise(items, document, scenario, story, FARTHEST)?;
     add_domains(items, document, scenario, story)?;
     add_untold(items, document, scenario, story);
     Ok(())

@@ -3,7 +3,7 @@
 
 ghost use Rattle.std.specs.Prelude.{◌≡◌};
 
-use crate::corrected::add_few;
+use crate::corrected::{add_few, add_one_deeper, add_recalled};
 use crate::domains::add_edits;
 use crate::not_chosen::add_not_chosen;
 use constraint_changes::{RestatedConstraints, put_choice, restated};
@@ -11,7 +11,7 @@ use domain_reasons::{add_domain, choices_in};
 use explanation_text::{Items, Label, TextBuilder};
 use other_outcomes::{
     Otherwise, add_ended_earlier, add_groups_exchanged, add_later_children, add_released,
-    add_taken_pairs, add_then, add_without, reordered,
+    add_taken_pairs, add_then, add_without, reordered, with_calls,
 };
 use script_faults::Document;
 use script_reading::Call;
@@ -24,6 +24,8 @@ const MOST: usize = 12;
 
 /// How often a story goes on at most.
 pub(crate) const LEVELS: usize = 3;
+/// How often it goes on with what would help at most, once calls or the text are others.
+pub(crate) const HELPED: usize = 2;
 
 /// The domain at a path, whose story goes on so often at most.
 #[derive(Clone, Copy)]
@@ -134,7 +136,35 @@ fn add_replayed(
     let text = "with the first of these decisions the script has:";
     items.list_text(1, Label::Then, text);
     add_few(items, &story)?;
+    add_refused(items, document, &other, &story, levels)?;
     add_new(items, document, &other, &story, now, None, levels)
+}
+
+/// Tells what the script has once those of these calls are made otherwise too that are refused.
+#[cycle(list_help)]
+fn add_refused(
+    items: &mut Items,
+    document: &Document<'_>,
+    scenario: &Scenario<'_>,
+    story: &Story<'_>,
+    levels: usize,
+) -> Result<(), AllocError> {
+    let Some(levels) = levels.checked_sub(1) else {
+        return Ok(());
+    };
+    if refused_calls(story) == 0 || scenario.effort.is_spent() {
+        return Ok(());
+    }
+    let value = with_calls(items.alloc(), document.value, scenario.calls)?;
+    let other = Document {
+        file: document.file,
+        bytes: &[],
+        value: &value,
+        whole: document.whole,
+    };
+    let mut below = Items::new(items.alloc());
+    let _is_told = add_recalled(&mut below, &other, scenario, story, levels)?;
+    add_one_deeper(items, below)
 }
 
 /// Whether each domain has settings.
@@ -269,6 +299,7 @@ fn add_made(
     }
     if then.order.is_empty() && is_refused_otherwise(now, &story) {
         add_few(items, &story)?;
+        add_refused(items, document, &other, &story, place.levels)?;
     }
     add_new(items, document, &other, &story, now, own, place.levels)
 }
@@ -300,13 +331,30 @@ fn add_new(
         let is_told = is_other && domain.became != Became::Chosen;
         if is_told && !scenario.effort.is_spent() {
             put_head(items, story, domain);
-            let mut why = Items::new(items.alloc());
-            add_domain(&mut why, scenario.platform, story, index)?;
-            items.append_section(why, 2, MOST)?;
-            add_help_then(items, document, scenario, story, index, levels, 2)?;
+            add_why(items, document, scenario, story, index, levels, 2)?;
         }
     }
     Ok(())
+}
+
+/// Tells why a domain has no settings, so much deeper, and what would help it.
+#[cycle(list_help)]
+pub(crate) fn add_why(
+    items: &mut Items,
+    document: &Document<'_>,
+    scenario: &Scenario<'_>,
+    story: &Story<'_>,
+    index: usize,
+    levels: usize,
+    deeper: usize,
+) -> Result<(), AllocError> {
+    let mut why = Items::new(items.alloc());
+    add_domain(&mut why, scenario.platform, story, index)?;
+    items.append_section(why, deeper, MOST)?;
+    if scenario.effort.is_spent() {
+        return Ok(());
+    }
+    add_help_then(items, document, scenario, story, index, levels, deeper)
 }
 
 /// Whether there isn't a domain now, or it failed since the one to which it was attached has no
@@ -326,7 +374,7 @@ fn is_new(now: &Story<'_>, then: &Story<'_>, domain: &Domain) -> bool {
 }
 
 /// Puts what would become of a domain, above why.
-fn put_head(items: &mut Items, story: &Story<'_>, domain: &Domain) {
+pub(crate) fn put_head(items: &mut Items, story: &Story<'_>, domain: &Domain) {
     let mut words = TextBuilder::new(items.alloc());
     put_domain(&mut words, story, domain.root);
     words.put(" would be ").put(domain.became.word()).head();
@@ -359,10 +407,7 @@ fn add_index(
     if domain.became == Became::Chosen {
         return add_chosen(items, scenario, story, index, domain, place.is_chosen);
     }
-    let mut why = Items::new(items.alloc());
-    add_domain(&mut why, scenario.platform, story, index)?;
-    items.append_section(why, 1, MOST)?;
-    add_help_then(items, document, scenario, story, index, place.levels, 1)
+    add_why(items, document, scenario, story, index, place.levels, 1)
 }
 
 /// Tells which children a domain chooses then; and what isn't chosen, unless it is chosen as the

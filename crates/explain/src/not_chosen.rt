@@ -2,7 +2,7 @@
 //! what stands before it, and what would do too but stands after it.
 
 use domain_reasons::add_domain;
-use explanation_text::{Item, Items, Label};
+use explanation_text::{Item, Items, Label, Thing};
 use other_outcomes::{add_later_children, add_taken_pairs};
 use script_story::{Scenario, Story};
 use std::alloc::{AllocError, Global};
@@ -12,8 +12,8 @@ const MOST: usize = 12;
 
 /// Tells of the domain of an index, which is chosen, why there are so many buffers of that width and
 /// height, why children, places and offers before those that are chosen aren't, and which later ones
-/// would do too. It
-/// stands as deep as the decision, and right after the choice of children if there is one.
+/// would do too. It stands as deep as the decision, and right after the choice of children if there
+/// is one.
 pub(crate) fn add_not_chosen(
     items: &mut Items,
     scenario: &Scenario<'_>,
@@ -65,7 +65,7 @@ impl Kept {
     /// Begins with an item that others may stand below; keeps how many buffers there are and how
     /// large an image is, and why.
     fn begin(&mut self, item: Item) {
-        if is_number(item.label) {
+        if is_number(&item) {
             self.is_open = false;
             return self.items.add(item);
         }
@@ -76,12 +76,39 @@ impl Kept {
     }
 }
 
-/// Whether an item says how many buffers there are or how large an image is.
-fn is_number(label: Label) -> bool {
-    matches!(
-        label,
-        Label::Count | Label::Pixels | Label::Width | Label::Height
-    )
+/// Whether an item says how many buffers there are, how large an image is, or by whom a row is longer
+/// than its pixels.
+fn is_number(item: &Item) -> bool {
+    match item.label {
+        Label::Count | Label::Pixels | Label::Width | Label::Height => true,
+        Label::Row => item
+            .mentions
+            .iter()
+            .any(|one| matches!(one.thing, Thing::Node(_))),
+        _ => false,
+    }
+}
+
+/// Tells of the domain of an index, which is chosen, how many buffers there are and how large an
+/// image is, and why. It stands as deep as the decision, and right after the choice of children if
+/// there is one.
+pub(crate) fn add_numbers(
+    items: &mut Items,
+    scenario: &Scenario<'_>,
+    story: &Story<'_>,
+    index: usize,
+    depth: usize,
+) -> Result<(), AllocError> {
+    let alloc = items.alloc();
+    let mut section = Items::new(alloc);
+    add_domain(&mut section, scenario.platform, story, index)?;
+    let mut numbers = Items::new(alloc);
+    for item in section.into_list()? {
+        if is_number(&item) {
+            numbers.add(item);
+        }
+    }
+    items.append_section(numbers, depth.saturating_sub(1), MOST)
 }
 
 /// What the section of a chosen domain tells of children, places and offers that aren't chosen.

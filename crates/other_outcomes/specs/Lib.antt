@@ -2,3 +2,6 @@ pub mod Exchanged
 pub mod Moved
 pub mod Shorter
 pub mod Earlier
+pub mod Released
+pub mod Ended
+pub mod OtherPlatform

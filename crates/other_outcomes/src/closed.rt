@@ -1,10 +1,13 @@
 //! What would be decided of a domain that failed, had the call that closed one of its nodes released
 //! it.
 
+ghost use Rattle.std.specs.Prelude.{◌≡◌, IfOk};
+ghost use Rattle.other_outcomes.specs.Released.{IsPromisedReleased, releasing};
+
 use crate::otherwise::Otherwise;
 use explanation_text::{Items, Label, TextBuilder};
 use script_reading::{Act, Call};
-use script_story::{Scenario, Story};
+use script_story::{Outcome, Scenario, Story};
 use std::alloc::{AllocError, Global};
 
 /// Tells what the domain of an index, which failed by a close, would be with a release in its place,
@@ -20,7 +23,8 @@ pub fn add_released<'a>(
         return Ok(None);
     };
     let alloc = items.alloc();
-    let calls = released(alloc, scenario.calls, number.saturating_sub(1))?;
+    let place = number.saturating_sub(1);
+    let calls = released(alloc, scenario.calls, place)?;
     let Some(outcome) = scenario.outcome(alloc, &calls, path)? else {
         return Ok(None);
     };
@@ -28,7 +32,7 @@ pub fn add_released<'a>(
     words.call(number).put(" it would be:");
     items.say(1, Label::Then, words);
     let is_chosen = outcome.is_chosen();
-    outcome.promise(items, 2);
+    put_promised(items, scenario, place, path, outcome);
     Ok(Some(Otherwise {
         calls,
         order: Vec::new(alloc),
@@ -54,11 +58,27 @@ fn released<'a>(
     alloc: Global,
     calls: &[Call<'a>],
     place: usize,
-) -> Result<Vec<Call<'a>>, AllocError> {
+) -> Result<Vec<Call<'a>>, AllocError>
+    ensures { IfOk result (λ made. made.items ≡ releasing calls.now place) }
+{
     let mut made = Vec::from_slice(alloc, calls)?;
     if place >= calls.len() {
         return Ok(made);
     }
     made[place].act = Act::Release;
     Ok(made)
+}
+
+/// Puts the decision that comes with a release at a place.
+fn put_promised(
+    items: &mut Items,
+    scenario: &Scenario<'_>,
+    place: usize,
+    path: &str,
+    outcome: Outcome,
+)
+    requires { IsPromisedReleased scenario.now.platform.now scenario.now.calls.now place
+        path.now outcome }
+{
+    outcome.promise(items, 2)
 }

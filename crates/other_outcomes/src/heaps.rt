@@ -1,6 +1,9 @@
 //! A platform one of whose heaps is contiguous or secure, where participants need that, or has a
 //! coherency domain more.
 
+ghost use Rattle.std.specs.Prelude.{◌≡◌, IfOk, IfSome};
+ghost use Rattle.other_outcomes.specs.OtherPlatform.{IsPromisedOn, made_so, with_so};
+
 use crate::platforms::{heaps_of, outcome_on};
 use explanation_text::{Items, Label, TextBuilder};
 use script_story::{Outcome, Scenario};
@@ -55,14 +58,27 @@ impl Trait {
         }
     }
 
-    /// What says of a heap whether it is so.
-    fn flag_in(self, info: &mut HeapInfo) -> &mut bool {
+    /// Whether a heap is so.
+    fn is_of(self, info: &HeapInfo) -> bool {
         match self {
-            Trait::Contiguous => &mut info.contiguous,
-            Trait::Secure => &mut info.secure,
-            Trait::Domain(CoherencyDomain::Cpu) => &mut info.domains.cpu,
-            Trait::Domain(CoherencyDomain::Ram) => &mut info.domains.ram,
-            Trait::Domain(CoherencyDomain::Inaccessible) => &mut info.domains.inaccessible,
+            Trait::Contiguous => info.contiguous,
+            Trait::Secure => info.secure,
+            Trait::Domain(CoherencyDomain::Cpu) => info.domains.cpu,
+            Trait::Domain(CoherencyDomain::Ram) => info.domains.ram,
+            Trait::Domain(CoherencyDomain::Inaccessible) => info.domains.inaccessible,
+        }
+    }
+
+    /// Makes a heap so.
+    fn put_in(self, info: &mut HeapInfo)
+        ensures { info.new ≡ made_so self info.old }
+    {
+        match self {
+            Trait::Contiguous => info.contiguous = true,
+            Trait::Secure => info.secure = true,
+            Trait::Domain(CoherencyDomain::Cpu) => info.domains.cpu = true,
+            Trait::Domain(CoherencyDomain::Ram) => info.domains.ram = true,
+            Trait::Domain(CoherencyDomain::Inaccessible) => info.domains.inaccessible = true,
         }
     }
 }
@@ -99,7 +115,7 @@ fn add_firsts(
         }
         if let Some(outcome) = outcome_so(alloc, scenario, path, index, wanted)? {
             add_heap(items, &info.heap, wanted);
-            outcome.promise(items, 2);
+            put_promised(items, scenario, path, index, wanted, outcome);
             count = count.saturating_add(1);
         }
     }
@@ -129,16 +145,32 @@ fn outcome_so(
     path: &str,
     index: usize,
     wanted: Trait,
-) -> Result<Option<Outcome>, AllocError> {
+) -> Result<Option<Outcome>, AllocError>
+    ensures { IfOk result (λ said. IfSome said (λ what. IsPromisedOn scenario.now.platform.now
+        (with_so scenario.now.platform.now.heaps index wanted)
+        scenario.now.platform.now.pairs scenario.now.calls.now path.now what)) }
+{
     let mut heaps = heaps_of(alloc, scenario.platform)?;
-    let Some(info) = heaps.get_mut(index) else {
-        return Ok(None);
-    };
-    let has = wanted.flag_in(info);
-    if *has {
+    if index >= heaps.len() || wanted.is_of(&heaps[index]) {
         return Ok(None);
     }
-    *has = true;
+    wanted.put_in(&mut heaps[index]);
     let pairs = Vec::from_slice(alloc, scenario.platform.pairs())?;
     outcome_on(alloc, scenario, heaps, pairs, path)
+}
+
+/// Puts the decision that comes if the heap of an index is so.
+fn put_promised(
+    items: &mut Items,
+    scenario: &Scenario<'_>,
+    path: &str,
+    index: usize,
+    wanted: Trait,
+    outcome: Outcome,
+)
+    requires { IsPromisedOn scenario.now.platform.now
+        (with_so scenario.now.platform.now.heaps index wanted)
+        scenario.now.platform.now.pairs scenario.now.calls.now path.now outcome }
+{
+    outcome.promise(items, 2)
 }

@@ -1,9 +1,11 @@
 //! A platform that has another pair first, where participants list that before the chosen one, or
 //! all take it.
 
+ghost use Rattle.std.specs.Prelude.{◌≡◌, IfOk, IfSome};
+ghost use Rattle.other_outcomes.specs.OtherPlatform.{IsPromisedOn, with_first};
+
 use crate::platforms::{heaps_of, outcome_on};
-use explanation_text::{Items, Label, ListBuilder, TextBuilder};
-use negotiation_inputs::Platform;
+use explanation_text::{Items, Label, TextBuilder};
 use script_story::{Outcome, Scenario, Story, asked_in};
 use settings_reasons::{is_taken, listed_before};
 use std::alloc::{AllocError, Global};
@@ -113,7 +115,7 @@ fn try_pair_first(
         return Ok(());
     };
     add_pair(items, pair, chosen);
-    outcome.promise(items, 2);
+    put_promised(items, scenario, path, pair, outcome);
     Ok(())
 }
 
@@ -147,8 +149,12 @@ fn outcome_first(
     scenario: &Scenario<'_>,
     path: &str,
     pair: Pair,
-) -> Result<Option<Outcome>, AllocError> {
-    let pairs = pairs_from(alloc, scenario.platform, pair)?;
+) -> Result<Option<Outcome>, AllocError>
+    ensures { IfOk result (λ said. IfSome said (λ what. IsPromisedOn scenario.now.platform.now
+        scenario.now.platform.now.heaps (with_first scenario.now.platform.now.pairs pair)
+        scenario.now.calls.now path.now what)) }
+{
+    let pairs = pairs_from(alloc, scenario.platform.pairs(), pair)?;
     let heaps = heaps_of(alloc, scenario.platform)?;
     match outcome_on(alloc, scenario, heaps, pairs, path)? {
         Some(outcome) if is_of(&outcome, pair) => Ok(Some(outcome)),
@@ -157,15 +163,17 @@ fn outcome_first(
 }
 
 /// The pairs of a platform with one of them first.
-fn pairs_from(alloc: Global, platform: &Platform, first: Pair) -> Result<Vec<Pair>, AllocError> {
-    let mut pairs = ListBuilder::new(alloc);
-    pairs.add(first);
-    for other in platform.pairs() {
+fn pairs_from(alloc: Global, pairs: &[Pair], first: Pair) -> Result<Vec<Pair>, AllocError>
+    ensures { IfOk result (λ made. made.items ≡ with_first pairs.now first) }
+{
+    let mut made = Vec::new(alloc);
+    made.push(first)?;
+    for other in pairs {
         if *other != first {
-            pairs.add(*other);
+            made.push(*other)?;
         }
     }
-    pairs.done()
+    Ok(made)
 }
 
 /// Whether an image of a pair was chosen.
@@ -174,4 +182,18 @@ fn is_of(outcome: &Outcome, pair: Pair) -> bool {
         Some(chosen) => matches!(chosen.settings().offer, Offer::Image(other, _) if other == pair),
         None => false,
     }
+}
+
+/// Puts the decision that comes with a pair first.
+fn put_promised(
+    items: &mut Items,
+    scenario: &Scenario<'_>,
+    path: &str,
+    pair: Pair,
+    outcome: Outcome,
+)
+    requires { IsPromisedOn scenario.now.platform.now scenario.now.platform.now.heaps
+        (with_first scenario.now.platform.now.pairs pair) scenario.now.calls.now path.now outcome }
+{
+    outcome.promise(items, 2)
 }

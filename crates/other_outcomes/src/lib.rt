@@ -35,6 +35,6 @@ pub use heaps::add_heaps;
 pub use later_pairs::add_taken_pairs;
 pub use meant::list_meant;
 pub use moved::{add_then, list_moved};
-pub use otherwise::{Otherwise, reordered};
+pub use otherwise::{Otherwise, reordered, with_calls};
 pub use pending::add_without;
 pub use platforms::add_platform;

@@ -4,7 +4,7 @@ use crate::moved::is_read;
 use crate::unchosen::meant_for_left_out;
 use explanation_text::{Items, Label, ListBuilder, TextBuilder};
 use script_reading::Act;
-use script_story::{MadeCall, Milestone, Story};
+use script_story::{Became, MadeCall, Milestone, Story};
 use serde_json::{Map, Value};
 use std::alloc::{AllocError, Global};
 use sysmem_tree::{NodeKind, Refusal};
@@ -59,7 +59,7 @@ fn meant_for(
     call: &MadeCall<'_>,
     number: usize,
 ) -> Result<Option<MeantCall>, AllocError> {
-    if call.is_refused_as(Refusal::NotSelected) {
+    if call.is_refused_as(Refusal::NotSelected) || is_left_behind(story, call) {
         return meant_for_left_out(alloc, story, call, number);
     }
     if !call.is_refused_as(Refusal::WrongState) || is_too_early(story, call, number) {
@@ -72,6 +72,32 @@ fn meant_for(
             node: *node,
         })),
         _ => Ok(None),
+    }
+}
+
+/// Whether a call attaches a token to a node that wasn't selected later on, and a call on what it
+/// makes was refused since that domain failed.
+fn is_left_behind(story: &Story<'_>, call: &MadeCall<'_>) -> bool {
+    let (Act::AttachToken(name), Some(host)) = (call.act, call.node) else {
+        return false;
+    };
+    let is_chosen = match story.domain_of(host) {
+        Some(domain) => domain.became == Became::Chosen,
+        None => false,
+    };
+    is_chosen
+        && !story.is_selected(host)
+        && call.is_accepted()
+        && story.calls.iter().any(|other| {
+            other.is_refused_as(Refusal::DomainFailed) && name_of(story, other) == name
+        })
+}
+
+/// The name of the node on which a call is made.
+fn name_of<'a>(story: &Story<'a>, call: &MadeCall<'_>) -> &'a str {
+    match call.node {
+        Some(node) => story.name(node),
+        None => "",
     }
 }
 

@@ -1,11 +1,15 @@
 //! What would be decided of a domain without those who are awaited.
 
+ghost use Rattle.std.specs.Prelude.{◌≡◌, List, IfOk, IfSome, OnOk};
+ghost use Rattle.script_reading.specs.declared.call.Call.{Call as Called};
+ghost use Rattle.other_outcomes.specs.Ended.{IsEnded, IsPromisedEnded};
+
 use crate::otherwise::Otherwise;
 use domain_reasons::who_holds_up;
 use explanation_text::wording::{MOST_NAMES, put_few};
 use explanation_text::{Items, Label, ListBuilder, Text, TextBuilder};
 use script_reading::{Act, Call};
-use script_story::{Became, Scenario, Story};
+use script_story::{Became, Outcome, Scenario, Story};
 use std::alloc::{AllocError, Global};
 
 /// The names of children that are made of groups without one: each has the first that no call
@@ -50,13 +54,15 @@ fn add_with<'a>(
     awaited: &[usize],
     calls: Vec<Call<'a>>,
     path: &str,
-) -> Result<Option<Otherwise<'a>>, AllocError> {
+) -> Result<Option<Otherwise<'a>>, AllocError>
+    requires { IsEnded scenario.now.calls.now calls.items }
+{
     let alloc = items.alloc();
     match scenario.outcome(alloc, &calls, path)? {
         Some(outcome) if outcome.became() != Became::Pending => {
             add_ended(items, story, awaited, " it would be:")?;
             let is_chosen = outcome.is_chosen();
-            outcome.promise(items, 2);
+            put_promised(items, scenario, &calls, path, outcome);
             Ok(Some(Otherwise {
                 calls,
                 order: Vec::new(alloc),
@@ -158,7 +164,10 @@ fn without<'a>(
     scenario: &Scenario<'a>,
     story: &Story<'a>,
     awaited: &[usize],
-) -> Result<Option<Vec<Call<'a>>>, AllocError> {
+) -> Result<Option<Vec<Call<'a>>>, AllocError>
+    ensures { IfOk result (λ said. IfSome said (λ made.
+        IsEnded scenario.now.calls.now made.items)) }
+{
     let mut calls: Vec<Call<'a>> = Vec::from_slice(alloc, scenario.calls)?;
     for one in awaited {
         if !story.is_group(*one) {
@@ -200,7 +209,10 @@ fn add_child<'a>(
     story: &Story<'a>,
     group: usize,
     name: &'a str,
-) -> Result<(), AllocError> {
+) -> Result<(), AllocError>
+    ensures { OnOk result ((first : List Called) → IsEnded first calls.old.items
+        → IsEnded first calls.new.items) }
+{
     calls.push(call_on(story, group, Act::CreateChild(name)))?;
     let place = last_place(calls);
     calls.push(Call {
@@ -217,7 +229,10 @@ fn complete<'a>(
     calls: &mut Vec<Call<'a>>,
     story: &Story<'a>,
     awaited: &[usize],
-) -> Result<(), AllocError> {
+) -> Result<(), AllocError>
+    ensures { OnOk result ((first : List Called) → IsEnded first calls.old.items
+        → IsEnded first calls.new.items) }
+{
     for one in awaited.iter().rev() {
         if story.is_group(*one) {
             calls.push(call_on(story, *one, Act::AllChildrenPresent))?;
@@ -227,7 +242,9 @@ fn complete<'a>(
 }
 
 /// A call of this act on a node.
-fn call_on<'a>(story: &Story<'a>, node: usize, act: Act<'a>) -> Call<'a> {
+fn call_on<'a>(story: &Story<'a>, node: usize, act: Act<'a>) -> Call<'a>
+    ensures { result.act ≡ act.entry }
+{
     let place = match story.nodes.get(node) {
         Some(known) => place_of(story, known.made_by),
         None => 0,
@@ -260,4 +277,18 @@ pub(crate) fn place_of(story: &Story<'_>, number: Option<usize>) -> usize {
         }
     }
     place
+}
+
+/// Puts the decision that comes with these calls.
+fn put_promised(
+    items: &mut Items,
+    scenario: &Scenario<'_>,
+    calls: &[Call<'_>],
+    path: &str,
+    outcome: Outcome,
+)
+    requires { IsPromisedEnded scenario.now.platform.now scenario.now.calls.now calls.now
+        path.now outcome }
+{
+    outcome.promise(items, 2)
 }

@@ -1,6 +1,9 @@
 //! A platform with one pair more, where participants take a format that it lacks.
 
-use explanation_text::{Items, Label, ListBuilder, TextBuilder};
+ghost use Rattle.std.specs.Prelude.{◌≡◌, IfOk, IfSome};
+ghost use Rattle.other_outcomes.specs.OtherPlatform.{IsPromisedOn, with_pair};
+
+use explanation_text::{Items, Label, TextBuilder};
 use negotiation_inputs::Platform;
 use script_story::{Outcome, Scenario};
 use std::alloc::{AllocError, Global};
@@ -24,7 +27,7 @@ pub fn add_platform(
     for pair in lacked.iter().take(MOST) {
         if let Some(outcome) = outcome_with(alloc, scenario, path, *pair)? {
             add_pair(items, *pair);
-            outcome.promise(items, 2);
+            put_promised(items, scenario, path, *pair, outcome);
             return Ok(());
         }
     }
@@ -45,7 +48,11 @@ fn outcome_with(
     scenario: &Scenario<'_>,
     path: &str,
     pair: Pair,
-) -> Result<Option<Outcome>, AllocError> {
+) -> Result<Option<Outcome>, AllocError>
+    ensures { IfOk result (λ said. IfSome said (λ what. IsPromisedOn scenario.now.platform.now
+        scenario.now.platform.now.heaps (with_pair scenario.now.platform.now.pairs pair)
+        scenario.now.calls.now path.now what)) }
+{
     let mut pairs = Vec::from_slice(alloc, scenario.platform.pairs())?;
     pairs.push(pair)?;
     let heaps = heaps_of(alloc, scenario.platform)?;
@@ -76,20 +83,29 @@ fn lacked_pairs(
 }
 
 /// The platform's heaps.
-pub(crate) fn heaps_of(alloc: Global, platform: &Platform) -> Result<Vec<HeapInfo>, AllocError> {
-    let mut heaps = ListBuilder::new(alloc);
+pub(crate) fn heaps_of(alloc: Global, platform: &Platform) -> Result<Vec<HeapInfo>, AllocError>
+    ensures { IfOk result (λ made. made.items ≡ platform.now.heaps) }
+{
+    let mut heaps = Vec::new(alloc);
     for info in platform.heaps() {
-        heaps.add(HeapInfo {
-            heap: Heap {
-                heap_type: info.heap.heap_type.clone()?,
-                id: info.heap.id,
-            },
-            contiguous: info.contiguous,
-            secure: info.secure,
-            domains: info.domains,
-        });
+        heaps.push(same_info(info)?)?;
     }
-    heaps.done()
+    Ok(heaps)
+}
+
+/// The same heap, with what the platform says of it.
+fn same_info(info: &HeapInfo) -> Result<HeapInfo, AllocError>
+    ensures { IfOk result (λ same. same ≡ info.now) }
+{
+    Ok(HeapInfo {
+        heap: Heap {
+            heap_type: info.heap.heap_type.clone()?,
+            id: info.heap.id,
+        },
+        contiguous: info.contiguous,
+        secure: info.secure,
+        domains: info.domains,
+    })
 }
 
 /// What the domain at a path would be on the platform with these heaps and pairs, if it would be
@@ -100,7 +116,10 @@ pub(crate) fn outcome_on(
     heaps: Vec<HeapInfo>,
     pairs: Vec<Pair>,
     path: &str,
-) -> Result<Option<Outcome>, AllocError> {
+) -> Result<Option<Outcome>, AllocError>
+    ensures { IfOk result (λ said. IfSome said (λ what. IsPromisedOn scenario.now.platform.now
+        heaps.items pairs.items scenario.now.calls.now path.now what)) }
+{
     let colours = Vec::from_slice(alloc, scenario.platform.colours())?;
     let Ok(platform) = Platform::of(heaps, pairs, colours) else {
         return Ok(None);
@@ -114,4 +133,18 @@ pub(crate) fn outcome_on(
         Some(outcome) if outcome.is_chosen() => Ok(Some(outcome)),
         _ => Ok(None),
     }
+}
+
+/// Puts the decision that comes with one pair more.
+fn put_promised(
+    items: &mut Items,
+    scenario: &Scenario<'_>,
+    path: &str,
+    pair: Pair,
+    outcome: Outcome,
+)
+    requires { IsPromisedOn scenario.now.platform.now scenario.now.platform.now.heaps
+        (with_pair scenario.now.platform.now.pairs pair) scenario.now.calls.now path.now outcome }
+{
+    outcome.promise(items, 2)
 }

@@ -1,7 +1,7 @@
 //! The objects of domains.
 
 use crate::image_object::put_image;
-use crate::put::{put_name, put_number};
+use crate::put::{put_comma, put_name, put_number};
 use negotiation_inputs::Platform;
 use std::alloc::{AllocError, Global};
 use std::fmt::Write;
@@ -104,9 +104,7 @@ fn put_place(out: &mut String, platform: &Platform, place: Place) -> Result<(), 
 fn put_selection(out: &mut String, selection: &[u8]) -> Result<(), AllocError> {
     out.push_str(",\"selection\":[")?;
     for (index, choice) in selection.iter().enumerate() {
-        if index > 0 {
-            out.push_str(",")?;
-        }
+        put_comma(out, index > 0)?;
         let choice = *choice;
         write!(out, "{choice}")?;
     }

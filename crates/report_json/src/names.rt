@@ -1,13 +1,14 @@
 //! The names that a script has for nodes.
 
-use script_replay::{Event, ReplayedCalls, text_of_path};
+use script_replay::{Event, ReplayedCalls};
 use std::alloc::{AllocError, Global};
+use sysmem_tree::Path;
 
 /// A node's name in the script, and its path.
 #[derive(Drop)]
 struct NodeName<'a> {
     name: &'a str,
-    path: String,
+    path: Path,
 }
 
 /// The nodes of a collection, in the order in which they were made.
@@ -22,7 +23,7 @@ impl<'a> Names<'a> {
         let mut names = Names {
             list: Vec::new(alloc),
         };
-        names.add(alloc, replayed, 0, "root")?;
+        names.add(replayed, 0, "root")?;
         let mut place = 0usize;
         for event in replayed.events.as_slice() {
             let Event::Call(called) = event else {
@@ -30,7 +31,7 @@ impl<'a> Names<'a> {
             };
             if let Some(name) = called.call.act.name_made() {
                 place = place.saturating_add(1);
-                names.add(alloc, replayed, place, name)?;
+                names.add(replayed, place, name)?;
             }
         }
         Ok(names)
@@ -39,7 +40,6 @@ impl<'a> Names<'a> {
     /// Adds the node that the name at a place stands for, if there is one.
     fn add(
         &mut self,
-        alloc: Global,
         replayed: &ReplayedCalls<'a>,
         place: usize,
         name: &'a str,
@@ -49,16 +49,16 @@ impl<'a> Names<'a> {
             return Ok(());
         };
         if let Some(node) = tree.node(number) {
-            let path = text_of_path(alloc, &tree.path_of(node)?)?;
+            let path = tree.path_of(node)?;
             self.list.push(NodeName { name, path })?;
         }
         Ok(())
     }
 
-    /// The name of the node at a path, if there is one.
-    pub(crate) fn at(&self, path: &str) -> Option<&'a str> {
+    /// The name of the node at a path of these ordinals, if there is one.
+    pub(crate) fn at(&self, ordinals: &[u32]) -> Option<&'a str> {
         for named in &self.list {
-            if named.path.as_str() == path {
+            if named.path.ordinals() == ordinals {
                 return Some(named.name);
             }
         }

@@ -1,4 +1,4 @@
-//! Numbers and names, each put after the text so far.
+//! Numbers, names and commas, each put after the text so far.
 
 use std::alloc::AllocError;
 use std::fmt::Write;
@@ -22,4 +22,9 @@ pub(crate) fn put_name(out: &mut String, name: Option<&str>) -> Result<(), Alloc
         Some(name) => write!(out, "\"{name}\""),
         None => out.push_str("null"),
     }
+}
+
+/// Puts a comma before what isn't the first of its list.
+pub(crate) fn put_comma(out: &mut String, later: bool) -> Result<(), AllocError> {
+    if later { out.push_str(",") } else { Ok(()) }
 }

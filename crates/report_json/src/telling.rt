@@ -9,7 +9,6 @@ use script_replay::{Decision, DomainEvent, DomainFate, Event, ReplayedCalls, tex
 use std::alloc::{AllocError, Global};
 use std::fmt::Write;
 use sysmem_image::Corner;
-use sysmem_tree::Path;
 use verdict_claims::{Chosen, Verdict};
 
 /// The objects so far, with what is needed for the next.
@@ -56,24 +55,19 @@ impl Telling<'_, '_> {
         let path = text_of_path(*self.out.allocator(), &domain.path)?;
         let root = Root {
             path: path.as_str(),
-            name: self.names.at(path.as_str()),
+            name: self.names.at(domain.path.ordinals()),
         };
         match &domain.fate {
             DomainFate::Decided(one) => {
                 self.decided = self.decided.saturating_add(1);
-                self.add_decision(root, &domain.path, one)
+                self.add_decision(root, one)
             }
             DomainFate::Failed => put_word(&mut self.out, root, "failed"),
             DomainFate::Pending => put_word(&mut self.out, root, "pending"),
         }
     }
 
-    fn add_decision(
-        &mut self,
-        root: Root<'_>,
-        path: &Path,
-        one: &Decision,
-    ) -> Result<(), AllocError> {
+    fn add_decision(&mut self, root: Root<'_>, one: &Decision) -> Result<(), AllocError> {
         match one.verdict() {
             Some(Verdict::Chosen(chosen)) => {
                 put_chosen(
@@ -83,9 +77,7 @@ impl Telling<'_, '_> {
                     &choice_of(chosen, one.corner),
                 )
             }
-            Some(Verdict::IntersectionEmpty) => {
-                put_empty(&mut self.out, self.platform, &self.names, root, path, one)
-            }
+            Some(Verdict::IntersectionEmpty) => put_empty(&mut self.out, &self.names, root, one),
             Some(Verdict::TooMany) => put_word(&mut self.out, root, "too_many"),
             Some(Verdict::Failed) => put_word(&mut self.out, root, "failed"),
             Some(Verdict::NoMemory) | None => put_word(&mut self.out, root, "no_memory"),

@@ -302,8 +302,18 @@ fn add_key(
     keys: &'static [&'static str],
     path: &[Step<'_>],
 ) -> Result<(), AllocError> {
-    let help = help_of_key(items.alloc(), key_of(path), name, keys)?;
     let document = faulty.document;
+    if key_of(path) == "constraints" && is_to_state(faulty) {
+        let help = Help::of_text(
+            items.alloc(),
+            "did you mean call set_constraints? Only that has constraints",
+        );
+        document.advise(items, 1, path, RecordPart::Key, "unknown key", help);
+        let call = String::from_str(items.alloc(), "set_constraints")?;
+        faulty.mean_name(items, "call", Meant::Word(call));
+        return Ok(());
+    }
+    let help = help_of_key(items.alloc(), key_of(path), name, keys)?;
     document.advise(items, 1, path, RecordPart::Key, "unknown key", help);
     if is_field_of(key_of(path), &CONSTRAINTS_FIELDS) {
         let moved = in_constraints(items.alloc(), faulty)?;
@@ -314,6 +324,22 @@ fn add_key(
         document.leave_out(items, path);
     }
     Ok(())
+}
+
+/// Whether a call is likely meant to state its constraints: its node is bound by then, and no call
+/// states any for it.
+fn is_to_state(faulty: Faulty<'_, '_>) -> bool {
+    let on = faulty.text("on").unwrap_or("");
+    let earlier = faulty.calls.get(..faulty.index).unwrap_or(&[]);
+    earlier
+        .iter()
+        .any(|call| is_on(call, on) && is_called(call, "bind"))
+        && !faulty.calls.iter().any(|call| is_on(call, on) && is_called(call, "set_constraints"))
+}
+
+/// Whether a call has this name.
+fn is_called(call: &Value, name: &str) -> bool {
+    call.get("call").and_then(Value::as_str) == Some(name)
 }
 
 /// Where a member belongs that stands beside the constraints of a call.
@@ -389,7 +415,12 @@ fn add_name(items: &mut Items, faulty: Faulty<'_, '_>) -> Result<(), AllocError>
         );
         faulty.point(items, key, "a bad name", help);
         let name = good_name(items.alloc(), faulty.text(key).unwrap_or(""))?;
-        faulty.mean_name(items, key, Meant::Node(name));
+        let meant = if key == "actor" {
+            Meant::Name(name)
+        } else {
+            Meant::Node(name)
+        };
+        faulty.mean_name(items, key, meant);
         return Ok(());
     }
     let on = faulty.text("on").unwrap_or("");
@@ -525,24 +556,64 @@ fn makes(call: &Value, name: &str) -> bool {
 fn add_unmade(items: &mut Items, faulty: Faulty<'_, '_>, on: &str) -> Result<(), AllocError> {
     let alloc = items.alloc();
     let note = "no earlier call makes this name";
-    let help = match first_maker(faulty.calls, on) {
-        Some(index) if index == faulty.index => {
-            Help::of_text(alloc, "this call itself makes it")
-        }
-        Some(index) => {
-            let number = index.saturating_add(1);
-            let mut words = TextBuilder::of(alloc, "call ");
-            words
-                .put_number(number)
-                .put(" makes it, and that comes later");
-            Help::of(words)
-        }
-        None => hint_of_made(alloc, faulty, on)?,
+    let Some(maker) = first_maker(faulty.calls, on) else {
+        return add_never_made(items, faulty, on, note);
     };
+    if maker == faulty.index {
+        let help = Help::of_text(alloc, "this call itself makes it");
+        faulty.point(items, "on", note, help);
+        return Ok(());
+    }
+    let mut words = TextBuilder::of(alloc, "call ");
+    words
+        .put_number(maker.saturating_add(1))
+        .put(" makes it, and that comes later");
+    faulty.point(items, "on", note, Help::of(words));
+    mean_later(items, faulty, maker)
+}
+
+/// Tells a name that no call makes. It is likely meant where an earlier call makes one that is near,
+/// if no call is made on that, and several are on this.
+fn add_never_made(
+    items: &mut Items,
+    faulty: Faulty<'_, '_>,
+    on: &str,
+    note: &str,
+) -> Result<(), AllocError> {
+    let alloc = items.alloc();
+    let made = names_made(alloc, faulty)?;
+    if let Some(near) = nearest(alloc, on, &made)?
+        && let Some(maker) = misspelt_by(faulty, on, near)
+    {
+        let mut words = did_you_mean(alloc, on);
+        words
+            .put(" Call ")
+            .put_number(maker.saturating_add(1))
+            .put(" makes ")
+            .put(near)
+            .put(", on which no call is made");
+        faulty.point(items, "on", note, Help::of(words));
+        let source = Faulty {
+            index: maker,
+            ..faulty
+        };
+        source.mean_name(items, "as", Meant::Name(String::from_str(alloc, on)?));
+        return Ok(());
+    }
+    let help = hint_of_made(alloc, faulty, on, &made)?;
     faulty.point(items, "on", note, help);
-    match first_maker(faulty.calls, on) {
-        Some(maker) if maker > faulty.index => mean_later(items, faulty, maker),
-        _ => Ok(()),
+    Ok(())
+}
+
+/// The index of the call that makes a name which is likely misspelt: no call is made on it, and
+/// several are on one that is near.
+fn misspelt_by(faulty: Faulty<'_, '_>, on: &str, near: &str) -> Option<usize> {
+    let is_idle = !faulty.calls.iter().any(|call| is_on(call, near));
+    let uses = faulty.calls.iter().filter(|call| is_on(call, on)).count();
+    if is_idle && uses > 1 {
+        maker_of(faulty, near)
+    } else {
+        None
     }
 }
 
@@ -563,21 +634,53 @@ fn mean_later(items: &mut Items, faulty: Faulty<'_, '_>, maker: usize) -> Result
     Ok(())
 }
 
-/// The name that was made and is near, or the only one on which no call is made; or else the names
-/// that were made.
-fn hint_of_made(alloc: Global, faulty: Faulty<'_, '_>, on: &str) -> Result<Help, AllocError> {
-    let made = names_made(alloc, faulty)?;
-    if let Some(near) = nearest(alloc, on, &made)? {
+/// The one of the names made that is near, the only one on which an actor of the name makes calls, or
+/// the only one on which no call is made; or else these names.
+fn hint_of_made(
+    alloc: Global,
+    faulty: Faulty<'_, '_>,
+    on: &str,
+    made: &[&str],
+) -> Result<Help, AllocError> {
+    if let Some(near) = nearest(alloc, on, made)? {
         return Ok(Help::near_node(alloc, near));
     }
-    Ok(match only_idle(faulty.calls, &made) {
+    if let Some(node) = only_of_actor(faulty.calls, on)
+        && is_one_of(node, made)
+    {
+        let mut words = did_you_mean(alloc, node);
+        words
+            .put(" ")
+            .put(on)
+            .put(" is the actor that makes calls on it");
+        return Ok(Help::of_node(words, node));
+    }
+    Ok(match only_idle(faulty.calls, made) {
         Some(idle) => {
             let mut words = did_you_mean(alloc, idle);
             words.put(" No call is made on it");
             Help::of_node(words, idle)
         }
-        None => Help::of(names_so_far(alloc, &made)),
+        None => Help::of(names_so_far(alloc, made)),
     })
+}
+
+/// The only node on which an actor makes calls; `None` where there are more, or none.
+fn only_of_actor<'a>(calls: &'a [Value], actor: &str) -> Option<&'a str> {
+    let mut only = None;
+    for call in calls {
+        let Some(name) = call.get("on").and_then(Value::as_str) else {
+            continue;
+        };
+        if actor_of(call) != actor || name == actor || only == Some(name) {
+            continue;
+        }
+        if only.is_some() {
+            return None;
+        }
+        only = Some(name);
+    }
+    only
 }
 
 /// The only one of some names, but for the root's, on which none of these calls is made; `None`

@@ -3,7 +3,7 @@ use Rattle.std.proofs.Common.{◌≡◌, ℕ, ◌+◌, ◌<◌, ◌≤◌, max, 
 use Rattle.std.proofs.lemmas.List.{take_more}
 use Rattle.std.proofs.lemmas.List.Elements.{All-weaker}
 use Rattle.std.proofs.lemmas.List.Sums.{sum_by-cons, sum_by_push}
-use Rattle.sysmem_counts.proofs.Lists.{greatest_within, within_greatest}
+use Rattle.sysmem_counts.proofs.CallerLemmas.{greatest_within, within_greatest}
 use Rattle.sysmem_counts.specs.Counts.{greatest, held_together, own_buffers, needed}
 use Rattle.value_sources.specs.declared.counting.CountPart.TheVariants.{Camping, Dedicated, Shared, Minimum}
 use Rattle.value_sources.specs.declared.participant.NamedParticipant.{NamedParticipant}

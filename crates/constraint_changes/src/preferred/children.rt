@@ -1,22 +1,69 @@
 //! Children of groups that come before the chosen ones.
 
+use crate::preferred::pairs::with_pair;
 use crate::preferred::party::try_party;
 use crate::preferred::telling::Found;
-use crate::preferred::wish::Wish;
+use crate::preferred::wish::{Settled, Wish, settled_by};
 use crate::trials::{Group, asked_with};
 use constraint_edits::Edit;
+use negotiation_inputs::Platform;
+use script_story::Scenario;
 use std::alloc::{AllocError, Global};
+use sysmem_formats::Offer;
 
-/// Tries the earlier children of each group that is selected.
+/// Tries the earlier children of each group that is selected, where an attached domain has the
+/// initial one's image.
+pub(crate) fn try_late_groups(
+    found: &mut Found,
+    wish: Wish<'_, '_>,
+    edits: &[Edit],
+) -> Result<(), AllocError> {
+    let group = wish.group;
+    let Some(platform) = with_settled(found.items.alloc(), wish)? else {
+        return Ok(());
+    };
+    let scenario = Scenario {
+        platform: &platform,
+        calls: group.scenario.calls,
+        effort: group.scenario.effort,
+    };
+    let scope = Group {
+        document: group.document,
+        scenario: &scenario,
+        story: group.story,
+        path: group.path,
+        root: group.root,
+        participants: group.participants,
+    };
+    try_groups(found, wish, scope, edits)
+}
+
+/// The platform with the pair alone that was decided, if one was.
+fn with_settled(alloc: Global, wish: Wish<'_, '_>) -> Result<Option<Platform>, AllocError> {
+    let platform = wish.group.scenario.platform;
+    match settled_by(wish.now) {
+        Some(
+            Settled {
+                offer: Offer::Image(pair, _),
+                ..
+            },
+        ) => with_pair(alloc, platform, pair),
+        _ => Ok(None),
+    }
+}
+
+/// Tries the earlier children of each group that is selected, on the platform of a group of
+/// participants.
 pub(crate) fn try_groups(
     found: &mut Found,
     wish: Wish<'_, '_>,
+    scope: Group<'_, '_>,
     edits: &[Edit],
 ) -> Result<(), AllocError> {
     let story = wish.group.story;
     for node in 0..story.nodes.len() {
         if story.is_group(node) && story.is_selected(node) && wish.group.is_inside(node) {
-            try_children(found, wish, edits, node)?;
+            try_children(found, wish, scope, edits, node)?;
         }
     }
     Ok(())
@@ -26,6 +73,7 @@ pub(crate) fn try_groups(
 fn try_children(
     found: &mut Found,
     wish: Wish<'_, '_>,
+    scope: Group<'_, '_>,
     edits: &[Edit],
     above: usize,
 ) -> Result<(), AllocError> {
@@ -34,7 +82,7 @@ fn try_children(
         if story.is_selected(*child) || found.is_done(wish.group.scenario.effort) {
             break;
         }
-        try_child(found, wish, edits, above, *child)?;
+        try_child(found, wish, scope, edits, above, *child)?;
     }
     Ok(())
 }
@@ -44,6 +92,7 @@ fn try_children(
 fn try_child(
     found: &mut Found,
     wish: Wish<'_, '_>,
+    scope: Group<'_, '_>,
     edits: &[Edit],
     above: usize,
     child: usize,
@@ -51,7 +100,7 @@ fn try_child(
     let alloc = found.items.alloc();
     let chosen = chosen_with(alloc, wish.group, above, child)?;
     let participants = asked_with(alloc, wish.group, &chosen)?;
-    try_party(found, wish, wish.group, participants, edits)
+    try_party(found, wish, scope, participants, edits)
 }
 
 /// The children of groups that are chosen, of one group another child.

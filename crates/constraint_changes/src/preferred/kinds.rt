@@ -1,7 +1,7 @@
 //! Contiguous and secure memory that would do too.
 
 use crate::preferred::alike::try_alike;
-use crate::preferred::places::refusal;
+use crate::preferred::places::is_refused;
 use crate::preferred::telling::Found;
 use crate::preferred::wish::{Goal, Wish, is_of_kind, settled_by};
 use constraint_edits::Edit;
@@ -51,20 +51,6 @@ fn would_do(wish: Wish<'_, '_>, selected: &[NamedParticipant<'_>], field: Field)
 fn has_place(info: &HeapInfo, selected: &[NamedParticipant<'_>]) -> bool {
     for coherency in &CoherencyDomain::ALL {
         if info.domains.has(*coherency) && !is_refused(info, *coherency, selected) {
-            return true;
-        }
-    }
-    false
-}
-
-/// Whether one of some participants refuses a coherency domain of a heap.
-fn is_refused(
-    info: &HeapInfo,
-    coherency: CoherencyDomain,
-    selected: &[NamedParticipant<'_>],
-) -> bool {
-    for participant in selected {
-        if refusal(participant, info, coherency).is_some() {
             return true;
         }
     }

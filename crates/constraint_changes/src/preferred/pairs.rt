@@ -68,7 +68,7 @@ fn try_pair(
 }
 
 /// A platform with this pair alone.
-fn with_pair(
+pub(crate) fn with_pair(
     alloc: Global,
     platform: &Platform,
     pair: Pair,

@@ -90,6 +90,77 @@ fn try_place(
     )
 }
 
+/// Tries that somebody who uses no CPU doesn't support the chosen place's coherency domain, where
+/// nobody refuses a place of another one, which comes after it.
+pub(crate) fn try_other_domain(
+    found: &mut Found,
+    wish: Wish<'_, '_>,
+    selected: &[NamedParticipant<'_>],
+) -> Result<(), AllocError> {
+    let heaps = wish.group.scenario.platform.heaps();
+    let Some(settled) = settled_by(wish.now) else {
+        return Ok(());
+    };
+    let chosen = settled.place.coherency;
+    let Some(place) = first_in_another(heaps, selected, chosen) else {
+        return Ok(());
+    };
+    let edit = Edit::NoSupport(supported_by(chosen));
+    let goal = Goal::Place(place);
+    let wish = Wish { goal, ..wish };
+    let mut told: Vec<usize> = Vec::new(found.items.alloc());
+    for (k, participant) in selected.iter().enumerate() {
+        if !participant.asked.usage().uses_cpu() && !told.contains(&participant.node) {
+            let others = selected.get(k.saturating_add(1)..).unwrap_or(&[]);
+            try_alike(found, wish, &mut told, participant, others, edit)?;
+        }
+    }
+    Ok(())
+}
+
+/// The first place of another coherency domain that nobody refuses.
+fn first_in_another(
+    heaps: &[HeapInfo],
+    selected: &[NamedParticipant<'_>],
+    chosen: CoherencyDomain,
+) -> Option<Place> {
+    for (heap, info) in heaps.iter().enumerate() {
+        for coherency in &CoherencyDomain::ALL {
+            let coherency = *coherency;
+            if coherency != chosen
+                && info.domains.has(coherency)
+                && !is_refused(info, coherency, selected)
+            {
+                return Some(Place { heap, coherency });
+            }
+        }
+    }
+    None
+}
+
+/// The field by which a coherency domain is supported.
+fn supported_by(coherency: CoherencyDomain) -> Field {
+    match coherency {
+        CoherencyDomain::Cpu => Field::CpuDomainSupported,
+        CoherencyDomain::Ram => Field::RamDomainSupported,
+        CoherencyDomain::Inaccessible => Field::InaccessibleDomainSupported,
+    }
+}
+
+/// Whether one of some participants refuses a coherency domain of a heap.
+pub(crate) fn is_refused(
+    info: &HeapInfo,
+    coherency: CoherencyDomain,
+    selected: &[NamedParticipant<'_>],
+) -> bool {
+    for participant in selected {
+        if refusal(participant, info, coherency).is_some() {
+            return true;
+        }
+    }
+    false
+}
+
 /// The only one of participants who refuses a coherency domain of a heap, with the field; `None`
 /// where nobody does, or several do.
 fn only_refusal<'p, 'a>(

@@ -7,7 +7,9 @@ ghost use Rattle.constraint_changes.specs.Edited.{IsTried};
 
 use crate::changes::put_change;
 use crate::preferred::wish::Wish;
-use crate::trials::{Group, Trial, TrialResult, are_sized, put_choice, reached_by};
+use crate::trials::{
+    Group, RestatedConstraints, Trial, TrialResult, are_sized, put_choice, reached_by,
+};
 use constraint_edits::{EditedConstraints, is_absurd};
 use domain_reasons::choices_in;
 use explanation_text::{Items, Label, Text};
@@ -21,15 +23,37 @@ const MOST: usize = 3;
 /// How many are run.
 const RUNS: usize = 12;
 
+/// A change that was told.
+#[derive(Drop)]
+pub struct ToldChange {
+    /// How many items there are up to its decision and the children that this chooses, with the one
+    /// above all changes.
+    pub end: usize,
+    /// What a call states by it.
+    pub stated: RestatedConstraints,
+}
+
 /// What was found so far.
 #[derive(Drop)]
 pub(crate) struct Found {
     pub(crate) items: Items,
+    /// The changes among them whose decision has other numbers.
+    pub(crate) told: Vec<ToldChange>,
     pub(crate) count: usize,
     pub(crate) runs: usize,
 }
 
 impl Found {
+    /// Nothing yet.
+    pub(crate) fn new(alloc: Global) -> Found {
+        Found {
+            items: Items::new(alloc),
+            told: Vec::new(alloc),
+            count: 0,
+            runs: 0,
+        }
+    }
+
     /// Whether enough were found or run.
     pub(crate) fn is_done(&self, effort: &Effort) -> bool {
         self.count >= MOST || self.runs >= RUNS || effort.is_spent()
@@ -101,10 +125,31 @@ pub(crate) fn put_wanted(
         return Ok(());
     }
     let choice = choice_of(alloc, wish, &one.outcome)?;
+    let is_sized_otherwise = has_other_numbers(&one.outcome, wish.now);
+    let value = one.value.clone()?;
     let label = found.label();
     put_change(&mut found.items, trial, label, who, one);
     put_choice(&mut found.items, 3, choice);
+    if is_sized_otherwise {
+        let stated = RestatedConstraints {
+            place: trial.place,
+            value,
+        };
+        let end = found.items.len().saturating_add(1);
+        found.told.push(ToldChange { end, stated })?;
+    }
     Ok(())
+}
+
+/// Whether two decisions differ in the count of buffers, or in the size of one.
+fn has_other_numbers(one: &Outcome, other: &Outcome) -> bool {
+    match (one.chosen(), other.chosen()) {
+        (Some(one), Some(other)) => {
+            let (one, other) = (one.settings(), other.settings());
+            one.count != other.count || one.size_bytes != other.size_bytes
+        }
+        _ => false,
+    }
 }
 
 /// The children that a decision chooses, if they are others than now.

@@ -12,6 +12,8 @@ use sysmem_memory::{HeapInfo, Place};
 pub(crate) enum Goal {
     /// A child that comes before the chosen one.
     Child,
+    /// The same in an attached domain, which has the initial one's image.
+    LateChild,
     /// The same children, with this pair.
     Pair(Pair),
     /// The same children and image, in this place.
@@ -31,7 +33,7 @@ pub(crate) struct Wish<'a, 'b> {
 impl Wish<'_, '_> {
     /// Whether a decision has what is wanted.
     pub(crate) fn is_met(&self, then: &Outcome) -> bool {
-        if matches!(self.goal, Goal::Child) {
+        if matches!(self.goal, Goal::Child | Goal::LateChild) {
             return comes_before(then.selection(), self.now.selection());
         }
         match (settled_by(then), settled_by(self.now)) {
@@ -45,7 +47,7 @@ impl Wish<'_, '_> {
     /// The same of what it settles, where this was settled with the same children.
     fn is_met_by(&self, is: Settled, was: Settled) -> bool {
         match self.goal {
-            Goal::Child => false,
+            Goal::Child | Goal::LateChild => false,
             Goal::Pair(pair) => matches!(is.offer, Offer::Image(other, _) if other == pair),
             Goal::Place(place) => is.offer == was.offer && is.place == place,
             Goal::Kind(field) => {
@@ -68,7 +70,7 @@ impl Wish<'_, '_> {
                 Edit::TakesPair(pair) => !is_chosen(self.now, pair),
                 _ => keeps_demands(edit),
             },
-            Goal::Place(_) | Goal::Kind(_) => keeps_demands(edit),
+            Goal::LateChild | Goal::Place(_) | Goal::Kind(_) => keeps_demands(edit),
         }
     }
 }

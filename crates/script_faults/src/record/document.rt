@@ -154,7 +154,7 @@ impl<'a> Document<'a> {
     }
 
     /// Keeps with the last item what may be meant by a part of the value at a path.
-    fn correct(
+    pub(crate) fn correct(
         &self,
         items: &mut Items,
         path: &[Step<'_>],

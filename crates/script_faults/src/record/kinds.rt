@@ -1,6 +1,6 @@
 //! What is wrong with a value, in words.
 
-use crate::record::keys::{kind_at, range_of};
+use crate::record::keys::{is_one_of, kind_at, range_of};
 use explanation_text::TextBuilder;
 use serde_json::{Number, Value};
 use std::alloc::Global;
@@ -50,18 +50,48 @@ pub(crate) fn may_stand(kind: Kind, value: &Value) -> bool {
             Value::String(text) => text.parse::<u64>().is_ok(),
             _ => false,
         },
-        Kind::Sides | Kind::Object => value.is_object(),
+        Kind::Sides => value.is_object() || sides_in(value).is_some(),
+        Kind::Object => value.is_object(),
         Kind::Name => value.is_string(),
         Kind::Names => value.is_array() || value.is_string(),
         Kind::Objects => value.is_array() || value.is_object(),
     }
 }
 
+/// Texts that stand for true, and for false.
+const YES: &[&str] = &["true", "True", "TRUE", "yes", "Yes", "on"];
+
+const NO: &[&str] = &["false", "False", "FALSE", "no", "No", "off"];
+
 /// True or false, where it is written as a text or as 1 or 0.
 pub(crate) fn flag_in(value: &Value) -> Option<bool> {
     match (value.as_str(), value.as_u64()) {
-        (Some("true"), _) | (_, Some(1)) => Some(true),
-        (Some("false"), _) | (_, Some(0)) => Some(false),
+        (Some(text), _) => flag_of(text),
+        (_, Some(1)) => Some(true),
+        (_, Some(0)) => Some(false),
+        _ => None,
+    }
+}
+
+fn flag_of(text: &str) -> Option<bool> {
+    if is_one_of(text, YES) {
+        Some(true)
+    } else if is_one_of(text, NO) {
+        Some(false)
+    } else {
+        None
+    }
+}
+
+/// Width and height, where they are written as a list of two numbers, or as `640x512`.
+pub(crate) fn sides_in(value: &Value) -> Option<(u64, u64)> {
+    if let Some(text) = value.as_str() {
+        let (width, height) = text.split_once('x')?;
+        return Some((width.parse::<u64>().ok()?, height.parse::<u64>().ok()?));
+    }
+    let list = value.as_array()?;
+    match (list.get(0), list.get(1)) {
+        (Some(width), Some(height)) if list.len() == 2 => Some((width.as_u64()?, height.as_u64()?)),
         _ => None,
     }
 }

@@ -5,7 +5,7 @@ use crate::record::document::{Document, RecordPart};
 use crate::record::firsts::put_first_like;
 use crate::record::keys::{SIZE, is_one_of, kind_at, names_of, put_allowed, range_of};
 use crate::record::kinds::{
-    flag_in, is_number_within, nearest_within, wrong_kind, wrong_number, wrong_value,
+    flag_in, is_number_within, nearest_within, sides_in, wrong_kind, wrong_number, wrong_value,
 };
 use crate::record::names::{hint_of_name, listed, names_for};
 use crate::record::owners::places_in;
@@ -23,6 +23,10 @@ use std::alloc::{AllocError, Global};
 use sysmem_counts::{Field, Kind};
 use sysmem_formats::PixelFormat;
 use sysmem_sanitise::CONSTRAINTS_FIELDS;
+
+const HEAP_TYPE: &str = "heap_type";
+
+const ID: &str = "id";
 
 /// The first fault of a record, and where it is.
 #[derive(Clone, Copy)]
@@ -407,8 +411,8 @@ fn add_kind(items: &mut Items, faulty: Faulty<'_, '_>, value: &Value) -> Result<
 }
 
 /// What may be meant by a value of a wrong kind, which is an item of a list or not: the nearest
-/// number that is allowed; true or false that is written otherwise; or a list of a name or an object
-/// that stands without brackets.
+/// number that is allowed; true or false, or a width and a height, that are written otherwise; or a
+/// list of a name or an object that stands without brackets.
 fn value_meant(
     alloc: Global,
     faulty: Faulty<'_, '_>,
@@ -419,6 +423,7 @@ fn value_meant(
     let is_list = match kind_at(at.name()) {
         Kind::Number | Kind::Limit => return Ok(number_meant(at, value, range_of(at.name()))),
         Kind::Flag => return Ok(flag_meant(at, value)),
+        Kind::Sides => return sides_meant(alloc, value),
         Kind::Names if !is_item => is_known(alloc, at, value, faulty.is_platform)?,
         Kind::Objects if !is_item => value.is_object(),
         _ => false,
@@ -432,6 +437,15 @@ fn flag_meant(at: FaultPlace, value: &Value) -> Option<Meant> {
         (FaultPlace::At(field), Some(is_set)) => Some(Meant::Flag(field, is_set)),
         _ => None,
     }
+}
+
+/// A width and a height, where they are written as a list or as a text.
+fn sides_meant(alloc: Global, value: &Value) -> Result<Option<Meant>, AllocError> {
+    let Some((width, height)) = sides_in(value) else {
+        return Ok(None);
+    };
+    let written = format!(in alloc; "{{\"width\": {width}, \"height\": {height}}}")?;
+    Ok(Some(Meant::Written(written)))
 }
 
 /// Whether a value is one of the names that a field takes.
@@ -482,11 +496,58 @@ fn add_list(items: &mut Items, faulty: Faulty<'_, '_>, value: &Value) -> Result<
         &note,
         &helps,
     );
-    if faulty.fault.code == Code::TiledMisfit {
-        leave_out_modifier(items, faulty)?;
+    match faulty.fault.code {
+        Code::TiledMisfit => leave_out_modifier(items, faulty)?,
+        Code::BadPlatformList if !is_empty => mean_free_id(items, faulty, value)?,
+        _ => {}
     }
     leave_out(items, faulty, faulty.path);
     Ok(())
+}
+
+/// Keeps that a heap which is given twice may be meant to have an id that no other of its type has.
+fn mean_free_id(items: &mut Items, faulty: Faulty<'_, '_>, heap: &Value) -> Result<(), AllocError> {
+    let Some((_, list)) = faulty.path.split_last() else {
+        return Ok(());
+    };
+    let heaps = faulty.document.at(list).and_then(Value::as_array);
+    let (Some(heaps), Some(_)) = (heaps, heap.get(HEAP_TYPE)) else {
+        return Ok(());
+    };
+    let id = free_id(heaps, heap);
+    if heap.get(ID).is_none() {
+        let written = format!(in items.alloc(); "{id}")?;
+        faulty.document.add_member(items, faulty.path, ID, &written);
+        return Ok(());
+    }
+    let path = with(items.alloc(), faulty.path, Step::Key(ID))?;
+    let meant = Some(Meant::Value(Field::Id, id));
+    faulty
+        .document
+        .correct(items, &path, RecordPart::Value, meant);
+    Ok(())
+}
+
+/// The least id that no heap of the type of one has.
+fn free_id(heaps: &[Value], heap: &Value) -> u64 {
+    let mut id = 0u64;
+    for _heap in heaps {
+        if !heaps.iter().any(|other| has_id(other, heap, id)) {
+            break;
+        }
+        id = id.saturating_add(1);
+    }
+    id
+}
+
+/// Whether a heap has the type of another, and this id.
+fn has_id(other: &Value, heap: &Value, id: u64) -> bool {
+    let known = match other.get(ID) {
+        Some(known) => known.as_u64(),
+        None => Some(0),
+    };
+    let (a, b) = (other.get(HEAP_TYPE), heap.get(HEAP_TYPE));
+    known == Some(id) && a.and_then(Value::as_str) == b.and_then(Value::as_str)
 }
 
 /// Keeps that the modifier beside a format may be left out.
