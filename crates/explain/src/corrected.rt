@@ -4,6 +4,7 @@
 ghost use Rattle.std.specs.Prelude.{◌≡◌, ◌<◌, IfSome};
 
 use crate::helping::{HELPED, LEVELS, add_why, put_head};
+use crate::idle_modifiers::add_idle_modifiers;
 use crate::mended::mended;
 use crate::mended_words::put_corrections;
 use crate::not_chosen::add_not_chosen;
@@ -474,7 +475,7 @@ fn add_domains_then(
             _ if domain.became != Became::Chosen => {
                 add_unmet(items, document, scenario, story, index, levels.min(HELPED))?
             }
-            Some(now) => add_chosen(items, scenario, story, index, now)?,
+            Some(now) => add_chosen(items, document, scenario, story, index, now)?,
             None => add_shortly(items, scenario.platform, story, index)?,
         }
     }
@@ -506,6 +507,7 @@ fn add_unmet(
 /// one has its settings.
 fn add_chosen(
     items: &mut Items,
+    document: &Document<'_>,
     scenario: &Scenario<'_>,
     story: &Story<'_>,
     index: usize,
@@ -527,5 +529,6 @@ fn add_chosen(
     }
     let choice = choices_in(alloc, story, domain.root, domain.told.selection())?;
     put_choice(items, 2, choice);
-    add_not_chosen(items, scenario, story, index, 2)
+    add_not_chosen(items, scenario, story, index, 2)?;
+    add_idle_modifiers(items, document, story, index, 2)
 }

@@ -2,6 +2,7 @@
 
 use crate::entries::add_unused;
 use crate::helping::{LEVELS, index_at, list_help};
+use crate::idle_modifiers::add_idle_modifiers;
 use crate::not_chosen::{add_not_chosen, add_numbers};
 use constraint_changes::{
     Group, RestatedConstraints, ToldChange, add_together, list_changes, list_preferred, restated,
@@ -40,6 +41,7 @@ pub(crate) fn add_domains(
         if !story.order.get(..k).unwrap_or(&[]).contains(index) {
             add_domain(items, scenario.platform, story, *index)?;
             add_unused(items, document, scenario, story, *index)?;
+            add_idle_modifiers(items, document, story, *index, 1)?;
             list_help(items, document, scenario, story, *index, LEVELS)?;
             add_preferred(items, document, scenario, story, *index)?;
         }

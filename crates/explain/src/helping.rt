@@ -8,7 +8,7 @@ use crate::domains::add_edits;
 use crate::not_chosen::add_not_chosen;
 use constraint_changes::{RestatedConstraints, put_choice, restated};
 use domain_reasons::{add_domain, choices_in};
-use explanation_text::{Items, Label, TextBuilder};
+use explanation_text::{Items, Label, TextBuilder, are_same};
 use other_outcomes::{
     Otherwise, add_ended_earlier, add_groups_exchanged, add_later_children, add_released,
     add_taken_pairs, add_then, add_without, reordered, with_calls,
@@ -137,7 +137,56 @@ fn add_replayed(
     items.list_text(1, Label::Then, text);
     add_few(items, &story)?;
     add_refused(items, document, &other, &story, levels)?;
-    add_new(items, document, &other, &story, now, None, levels)
+    add_new(items, document, &other, &story, now, None, levels)?;
+    add_empty_otherwise(items, document, &other, &story, now, levels)
+}
+
+/// Tells of the late domains that are empty now and then, for other reasons, why that is then, and
+/// what would help.
+#[cycle(list_help)]
+fn add_empty_otherwise(
+    items: &mut Items,
+    document: &Document<'_>,
+    scenario: &Scenario<'_>,
+    story: &Story<'_>,
+    now: &Story<'_>,
+    levels: usize,
+) -> Result<(), AllocError> {
+    for (index, domain) in story.domains.iter().enumerate() {
+        let is_told = is_empty_otherwise(items.alloc(), scenario, now, story, index)?;
+        if is_told && !scenario.effort.is_spent() {
+            put_head(items, story, domain);
+            add_why(items, document, scenario, story, index, levels, 2)?;
+        }
+    }
+    Ok(())
+}
+
+/// Whether the late domain of an index is empty now and then, for other reasons.
+fn is_empty_otherwise(
+    alloc: Global,
+    scenario: &Scenario<'_>,
+    now: &Story<'_>,
+    then: &Story<'_>,
+    index: usize,
+) -> Result<bool, AllocError> {
+    let Some(domain) = then.domains.get(index) else {
+        return Ok(false);
+    };
+    let Some(before) = index_at(now, then.path(domain.root)) else {
+        return Ok(false);
+    };
+    let was_empty = matches!(now.domains.get(before), Some(known) if known.became == Became::Empty);
+    if domain.host.is_none() || domain.became != Became::Empty || !was_empty {
+        return Ok(false);
+    }
+    let mut reasons = Items::new(alloc);
+    add_domain(&mut reasons, scenario.platform, now, before)?;
+    let mut others = Items::new(alloc);
+    add_domain(&mut others, scenario.platform, then, index)?;
+    let is_same = are_same(&reasons, &others);
+    let _told = (reasons.into_list()?, others.into_list()?);
+    Ok(!is_same)
 }
 
 /// Tells what the script has once those of these calls are made otherwise too that are refused.
@@ -314,8 +363,9 @@ fn is_refused_otherwise(now: &Story<'_>, then: &Story<'_>) -> bool {
     })
 }
 
-/// Tells of the domains that there aren't now, or that failed now and not for themselves, which have
-/// no settings, why that is, and what would help; but of that one whose story it is.
+/// Tells of the domains that there aren't now, or that are chosen now, or failed now and not for
+/// themselves, which have no settings then, why that is, and what would help; but of that one whose
+/// story it is.
 #[cycle(list_help)]
 fn add_new(
     items: &mut Items,
@@ -348,29 +398,41 @@ pub(crate) fn add_why(
     levels: usize,
     deeper: usize,
 ) -> Result<(), AllocError> {
-    let mut why = Items::new(items.alloc());
-    add_domain(&mut why, scenario.platform, story, index)?;
-    items.append_section(why, deeper, MOST)?;
+    add_reasons(items, scenario, story, index, deeper)?;
     if scenario.effort.is_spent() {
         return Ok(());
     }
     add_help_then(items, document, scenario, story, index, levels, deeper)
 }
 
-/// Whether there isn't a domain now, or it failed since the one to which it was attached has no
-/// settings, and doesn't then.
+/// Tells why a domain has no settings, so much deeper.
+fn add_reasons(
+    items: &mut Items,
+    scenario: &Scenario<'_>,
+    story: &Story<'_>,
+    index: usize,
+    deeper: usize,
+) -> Result<(), AllocError> {
+    let mut why = Items::new(items.alloc());
+    add_domain(&mut why, scenario.platform, story, index)?;
+    items.append_section(why, deeper, MOST)
+}
+
+/// Whether there isn't a domain now, or it is chosen, or it failed since the one to which it was
+/// attached has no settings, and doesn't then.
 fn is_new(now: &Story<'_>, then: &Story<'_>, domain: &Domain) -> bool {
-    let Some(index) = index_at(now, then.path(domain.root)) else {
-        return true;
-    };
-    match now.domains.get(index) {
-        Some(known) => {
-            known.host.is_some()
-                && known.became == Became::Failed
-                && domain.became != Became::Failed
+    match domain_now(now, then, domain) {
+        Some(known) if known.became == Became::Failed => {
+            known.host.is_some() && domain.became != Became::Failed
         }
-        None => false,
+        Some(known) => known.became == Became::Chosen,
+        None => true,
     }
+}
+
+/// The domain now whose path another has then.
+fn domain_now<'b>(now: &'b Story<'_>, then: &Story<'_>, domain: &Domain) -> Option<&'b Domain> {
+    now.domains.get(index_at(now, then.path(domain.root))?)
 }
 
 /// Puts what would become of a domain, above why.
@@ -407,6 +469,9 @@ fn add_index(
     if domain.became == Became::Chosen {
         return add_chosen(items, scenario, story, index, domain, place.is_chosen);
     }
+    if place.is_chosen {
+        return add_reasons(items, scenario, story, index, 1);
+    }
     add_why(items, document, scenario, story, index, place.levels, 1)
 }
 
@@ -441,9 +506,18 @@ pub(crate) fn add_help_then(
     deeper: usize,
 ) -> Result<(), AllocError> {
     if levels == 0 {
+        put_end(items, story, index, deeper);
         return Ok(());
     }
     let mut help = Items::new(items.alloc());
     list_help(&mut help, document, scenario, story, index, levels)?;
     items.append_section(help, deeper, usize::MAX)
+}
+
+/// Tells that the story of an empty domain ends here.
+fn put_end(items: &mut Items, story: &Story<'_>, index: usize, deeper: usize) {
+    if matches!(story.domains.get(index), Some(domain) if domain.became == Became::Empty) {
+        let text = "what would help then isn't told";
+        items.list_text(deeper.saturating_add(1), Label::Note, text);
+    }
 }

@@ -16,6 +16,7 @@ mod domains;
 mod entries;
 mod explaining;
 mod helping;
+mod idle_modifiers;
 mod json;
 mod lines;
 mod mended;

@@ -77,11 +77,11 @@ impl Kept {
 }
 
 /// Whether an item says how many buffers there are, how large an image is, or by whom a row is longer
-/// than its pixels.
+/// than its pixels, or a buffer larger than its image.
 fn is_number(item: &Item) -> bool {
     match item.label {
         Label::Count | Label::Pixels | Label::Width | Label::Height => true,
-        Label::Row => item
+        Label::Row | Label::Size => item
             .mentions
             .iter()
             .any(|one| matches!(one.thing, Thing::Node(_))),

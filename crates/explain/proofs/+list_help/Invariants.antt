@@ -32,6 +32,9 @@ decreases-helping::add_replayed l = twelve l.levels + 6
 abbrev pub decreases-helping::add_new : goal.decreases-helping::add_new
 decreases-helping::add_new l = twelve l.levels + 5
 
+abbrev pub decreases-helping::add_empty_otherwise : goal.decreases-helping::add_empty_otherwise
+decreases-helping::add_empty_otherwise l = twelve l.levels + 5
+
 abbrev pub decreases-corrected::add_unmet : goal.decreases-corrected::add_unmet
 decreases-corrected::add_unmet l = twelve l.levels + 5
 
