@@ -5,7 +5,7 @@ ghost use Rattle.settings_reasons.specs.True.{IsGround};
 ghost use Rattle.sysmem_memory.specs.PlaceTable.{place_fields};
 ghost use Rattle.sysmem_merge.specs.Failing.{FailsOn};
 
-use crate::amounts::{amount_at, put_amount};
+use crate::amounts::{Amount, amount_at, put_amount};
 use crate::misfit::Misfit;
 use crate::offer_reason::{OfferGround, OfferReason};
 use crate::offer_words::{offer_name, put_offer_reason};
@@ -242,9 +242,22 @@ fn put_bound(text: &mut TextBuilder, misfit: &Misfit<'_, '_>) {
     if let Some(entry) = entry_for(participant.asked.entries(), &settings.offer) {
         put_amount(text, amount_at(&entry.bounds.asked, field));
     }
+    let decided = amount_at(&settings.bounds, field);
+    if is_unlimited(decided) {
+        text.put(", but nobody limited that before the decision, and whoever comes late can't");
+        return;
+    }
     text.put(", but ").put(how(field));
-    put_amount(text, amount_at(&settings.bounds, field));
+    put_amount(text, decided);
     text.put(" was decided before");
+}
+
+/// Whether an amount is that of a greatest value that nobody states.
+fn is_unlimited(amount: Amount) -> bool {
+    match amount {
+        Amount::Number(number) => number >= u64::from(u32::MAX),
+        Amount::Sides(size) => size.width == u32::MAX && size.height == u32::MAX,
+    }
 }
 
 macro_rules! merged_to {
