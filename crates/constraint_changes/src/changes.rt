@@ -7,6 +7,7 @@ ghost use Rattle.constraint_changes.specs.Edited.{IsPromised, IsTried};
 
 use crate::camping::try_whole_count;
 use crate::exchanges::try_exchanges;
+use crate::together::add_together;
 use crate::told::{Rank, ToldChange, joined, place_like, place_of, put_told};
 use crate::trials::{
     Group, Party, RestatedConstraints, Trial, TrialResult, are_sized, can_help, change_leaves_none,
@@ -35,7 +36,7 @@ pub(crate) struct Search<'a, 'b> {
     /// Those of the group of whom one is asked whatever is selected.
     pub(crate) parties: &'b [Party<'a>],
     /// How many help.
-    count: usize,
+    pub(crate) count: usize,
     pub(crate) tried: usize,
     /// How many help and can't be meant.
     pub(crate) absurd: usize,
@@ -76,8 +77,9 @@ impl Search<'_, '_> {
 
 /// Tells the changes of one field of one participant with which the domain at a path would have
 /// settings, each with the decision that would come: the line of the report of the changed script;
-/// of one participant an entry put first, and of two the exchange. Gives what calls state by the
-/// first of them; nothing where there is none.
+/// of one participant an entry put first. Where there is none, of two participants the exchange,
+/// after several changes that do together. Gives what calls state by the first that is told; nothing
+/// where none is.
 pub fn list_changes(
     items: &mut Items,
     group: Group<'_, '_>,
@@ -95,11 +97,43 @@ pub fn list_changes(
         is_sized: are_sized(group.participants),
     };
     try_all(&mut search, group, index, edits)?;
+    if search.count == 0 {
+        try_exchanges(&mut search, group, index)?;
+        return list_exchanges(items, search, group, edits);
+    }
     put_head(items, &search, group.scenario.effort);
     Ok(put_told(items, search.told))
 }
 
-/// Tries all changes, those first that are likely meant.
+/// Tells the exchanges that help, where no other change does alone: after several that do together,
+/// if some do.
+fn list_exchanges(
+    items: &mut Items,
+    search: Search<'_, '_>,
+    group: Group<'_, '_>,
+    edits: &[Edit],
+) -> Result<Vec<RestatedConstraints>, AllocError> {
+    let mut together = Items::new(search.alloc);
+    let first = if search.told.is_empty() {
+        Vec::new(search.alloc)
+    } else {
+        add_together(&mut together, group, edits)?
+    };
+    if first.is_empty() {
+        put_head(items, &search, group.scenario.effort);
+        return Ok(put_told(items, search.told));
+    }
+    items.append(together);
+    let words = match search.count {
+        1 => "or this exchange suffices:",
+        _ => "or one of these exchanges suffices:",
+    };
+    items.list_text(1, Label::Change, words);
+    let _exchanged = put_told(items, search.told);
+    Ok(first)
+}
+
+/// Tries all changes of one participant, those first that are likely meant.
 fn try_all(
     search: &mut Search<'_, '_>,
     group: Group<'_, '_>,
@@ -113,7 +147,7 @@ fn try_all(
     for edit in edits {
         try_edit(search, group, *edit)?;
     }
-    try_exchanges(search, group, index)
+    Ok(())
 }
 
 /// Tries that more buffers are asked for in the initial domain, where those that were decided don't
@@ -238,7 +272,7 @@ fn try_edit(
         if search.is_done(group.scenario.effort) {
             break;
         }
-        if is_worth(edit, participant, group.participants, few) {
+        if is_worth(edit, participant, group.participants, group.scenario, few) {
             try_one(search, group, participant, edit)?;
         }
     }

@@ -20,6 +20,8 @@ use value_sources::NamedParticipant;
 
 /// How many pairs of participants are tried.
 const MOST: usize = 24;
+/// How many exchanges are told.
+const TOLD: usize = 2;
 
 /// Another participant, with the index of its domain.
 #[derive(Clone, Copy)]
@@ -40,7 +42,7 @@ pub(crate) fn try_exchanges(
     let mut pairs = 0usize;
     for participant in group.participants {
         for partner in &partners {
-            if pairs >= MOST || search.is_done(group.scenario.effort) {
+            if pairs >= MOST || search.count >= TOLD || search.is_done(group.scenario.effort) {
                 return Ok(());
             }
             if can_matter(story, *participant, *partner, index) {
@@ -67,7 +69,8 @@ fn partners_in<'a>(alloc: Global, story: &Story<'a>) -> Result<Vec<Partner<'a>>,
 }
 
 /// Whether a participant of the domain of an index can gain by another's constraints: in one domain
-/// only where one of them lies below a group, and each two once.
+/// only where one of them lies below a group, and each two once; and never where one of them was
+/// released or closed before the decision.
 fn can_matter(
     story: &Story<'_>,
     participant: NamedParticipant<'_>,
@@ -75,9 +78,25 @@ fn can_matter(
     index: usize,
 ) -> bool {
     let other = partner.participant;
+    if is_gone(story, participant.node, index) || is_gone(story, other.node, index) {
+        return false;
+    }
     partner.domain != index
         || (participant.node < other.node
             && (is_below_group(story, participant.node) || is_below_group(story, other.node)))
+}
+
+/// Whether a node was released or closed before the decision on the domain of an index.
+fn is_gone(story: &Story<'_>, node: usize, index: usize) -> bool {
+    let Some(domain) = story.domains.get(index) else {
+        return false;
+    };
+    match domain.ended {
+        Some(number) => story
+            .milestone_before(node, Milestone::End, number)
+            .is_some(),
+        None => false,
+    }
 }
 
 /// Whether a node lies below a group.

@@ -3,6 +3,8 @@
 
 mod alike;
 mod children;
+mod colours;
+mod counts;
 mod kinds;
 mod pairs;
 mod party;
@@ -11,6 +13,7 @@ mod telling;
 mod wish;
 
 use crate::preferred::children::{try_groups, try_late_groups};
+use crate::preferred::colours::try_colours;
 use crate::preferred::kinds::try_kinds;
 use crate::preferred::pairs::try_pairs;
 use crate::preferred::places::{try_other_domain, try_places};
@@ -24,10 +27,10 @@ use script_story::asked_in;
 use std::alloc::AllocError;
 
 /// Tells of a domain that is chosen the changes of one field of one participant by which another
-/// would come: a child, a pair or a place that comes before the chosen one, or a place that would do
-/// too and is contiguous, secure, or of another coherency domain; of an attached domain, which has
-/// the initial one's image and place, a child alone. Each with the decision that would come: the
-/// line of the report of the changed script. Gives those with another count or size.
+/// would come: a child, a pair, its colour space or a place that comes before the chosen one, or a
+/// place that would do too and is contiguous, secure, or of another coherency domain; of an attached
+/// domain, which has the initial one's image and place, a child alone. Each with the decision that
+/// would come: the line of the report of the changed script. Gives those with another count or size.
 pub fn list_preferred(
     items: &mut Items,
     group: Group<'_, '_>,
@@ -62,6 +65,7 @@ pub fn list_preferred(
     let Found {
         items: list,
         told,
+        made: _,
         count: _,
         runs: _,
     } = found;
@@ -79,6 +83,7 @@ fn try_settings(
     let selected = asked_in(found.items.alloc(), wish.group.story, index, true)?;
     try_kinds(found, wish, &selected)?;
     try_pairs(found, wish, &selected, edits)?;
+    try_colours(found, wish, &selected)?;
     try_places(found, wish, &selected)?;
     try_other_domain(found, wish, &selected)
 }

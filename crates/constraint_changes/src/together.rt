@@ -159,7 +159,7 @@ impl CombinedChange<'_, '_> {
                 continue;
             };
             if parts.len() < MOST
-                && is_worth(edit, one, self.group.participants, FEW)
+                && is_worth(edit, one, self.group.participants, self.group.scenario, FEW)
                 && changes(alloc, value, edit, heaps)?
             {
                 parts.push(PartyChange {

@@ -12,6 +12,8 @@ const MOST: usize = 4;
 /// How far a decision is from what was preferred.
 #[derive(Clone, Copy)]
 pub(crate) struct Rank {
+    /// Whether its change is likely meant: then it comes before all others.
+    is_likely: bool,
     /// The numbers of the chosen children of groups, in sum.
     children: usize,
     /// The place of the chosen pair on the platform, from 0.
@@ -19,16 +21,18 @@ pub(crate) struct Rank {
 }
 
 impl Rank {
-    /// That of a decision on those of a group; the least, if its change is likely meant.
+    /// That of a decision on those of a group, whose change is likely meant or not.
     pub(crate) fn of(group: Group<'_, '_>, outcome: &Outcome, is_likely: bool) -> Rank {
         if is_likely {
             return Rank {
+                is_likely,
                 children: 0,
                 pair: 0,
             };
         }
         let pairs = group.scenario.platform.pairs();
         Rank {
+            is_likely,
             children: sum_of(outcome.selection()),
             pair: match outcome.chosen() {
                 Some(chosen) => place_of_pair(pairs, chosen.settings().offer),
@@ -39,6 +43,9 @@ impl Rank {
 
     /// Whether it is farther than another.
     fn is_after(self, other: Rank) -> bool {
+        if self.is_likely != other.is_likely {
+            return other.is_likely;
+        }
         self.children > other.children
             || (self.children == other.children && self.pair > other.pair)
     }

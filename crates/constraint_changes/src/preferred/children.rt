@@ -4,12 +4,16 @@ use crate::preferred::pairs::with_pair;
 use crate::preferred::party::try_party;
 use crate::preferred::telling::Found;
 use crate::preferred::wish::{Settled, Wish, settled_by};
-use crate::trials::{Group, asked_with};
+use crate::trials::{Group, asked_with, first_open};
 use constraint_edits::Edit;
 use negotiation_inputs::Platform;
 use script_story::Scenario;
 use std::alloc::{AllocError, Global};
 use sysmem_formats::Offer;
+
+/// How many selections of children below an earlier one are looked at, those among them that lack
+/// some children counted too.
+const STEPS: usize = 16;
 
 /// Tries the earlier children of each group that is selected, where an attached domain has the
 /// initial one's image.
@@ -99,8 +103,48 @@ fn try_child(
 ) -> Result<(), AllocError> {
     let alloc = found.items.alloc();
     let chosen = chosen_with(alloc, wish.group, above, child)?;
-    let participants = asked_with(alloc, wish.group, &chosen)?;
-    try_party(found, wish, scope, participants, edits)
+    for selection in &selections_of(alloc, wish.group, chosen)? {
+        let participants = asked_with(alloc, wish.group, selection)?;
+        try_party(found, wish, scope, participants, edits)?;
+    }
+    Ok(())
+}
+
+/// Children of groups that are chosen, each time with one of each further group that has its place
+/// then, as one below an earlier child has: those first that are made first, as far as they are few.
+fn selections_of(
+    alloc: Global,
+    group: Group<'_, '_>,
+    chosen: Vec<usize>,
+) -> Result<Vec<Vec<usize>>, AllocError> {
+    let mut settled: Vec<Vec<usize>> = Vec::new(alloc);
+    let mut left: Vec<Vec<usize>> = vec![in alloc; chosen]?;
+    for _step in 0..STEPS {
+        let Some(selection) = left.pop() else {
+            break;
+        };
+        match first_open(alloc, group, &selection)? {
+            Some(open) => add_longer(&mut left, group, &selection, open)?,
+            None => settled.push(selection)?,
+        }
+    }
+    Ok(settled)
+}
+
+/// Adds a selection with each child of a group, the first child's last.
+fn add_longer(
+    left: &mut Vec<Vec<usize>>,
+    group: Group<'_, '_>,
+    selection: &[usize],
+    open: usize,
+) -> Result<(), AllocError> {
+    let alloc = *left.allocator();
+    for child in group.story.children(alloc, open)?.iter().rev() {
+        let mut longer = Vec::from_slice(alloc, selection)?;
+        longer.push(*child)?;
+        left.push(longer)?;
+    }
+    Ok(())
 }
 
 /// The children of groups that are chosen, of one group another child.

@@ -1,7 +1,8 @@
 //! Participants who are asked together and leave no settings, where each change of one is tried.
 
+use crate::preferred::counts::try_counts;
 use crate::preferred::telling::{Found, put_wanted, trial_of, tried};
-use crate::preferred::wish::Wish;
+use crate::preferred::wish::{Goal, Wish};
 use crate::trials::{
     Group, Party, RestatedConstraints, change_leaves_none, hindering, is_worth, leaves_none,
 };
@@ -11,7 +12,8 @@ use std::slice::from_ref;
 use value_sources::NamedParticipant;
 
 /// Tries edits of participants who are asked together, on the platform of a group on which they
-/// leave no settings; nothing where they leave some.
+/// leave no settings. Where they leave some, an attached domain may have too few buffers for them;
+/// else nothing is tried then.
 pub(crate) fn try_party<'a>(
     found: &mut Found,
     wish: Wish<'_, '_>,
@@ -20,7 +22,10 @@ pub(crate) fn try_party<'a>(
     edits: &[Edit],
 ) -> Result<(), AllocError> {
     let Some(needed) = hindering(found.items.alloc(), scope, &participants)? else {
-        return Ok(());
+        return match wish.goal {
+            Goal::LateChild => try_counts(found, wish, &participants, edits),
+            _ => Ok(()),
+        };
     };
     let party = Party {
         participants,
@@ -46,7 +51,8 @@ fn try_edit(
         if found.is_done(wish.group.scenario.effort) {
             break;
         }
-        if party.needs(participant.node) && is_worth(edit, participant, &party.participants, 1) {
+        let others = &party.participants;
+        if party.needs(participant.node) && is_worth(edit, participant, others, scope.scenario, 1) {
             try_one(found, wish, scope, party, participant, edit)?;
         }
     }

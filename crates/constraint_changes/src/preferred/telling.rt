@@ -10,7 +10,7 @@ use crate::preferred::wish::Wish;
 use crate::trials::{
     Group, RestatedConstraints, Trial, TrialResult, are_sized, put_choice, reached_by,
 };
-use constraint_edits::{EditedConstraints, is_absurd};
+use constraint_edits::{Change, EditedConstraints, is_absurd};
 use domain_reasons::choices_in;
 use explanation_text::{Items, Label, Text};
 use script_story::{Effort, Milestone, Outcome};
@@ -33,12 +33,21 @@ pub struct ToldChange {
     pub stated: RestatedConstraints,
 }
 
+/// A change that was told, by the place of its call.
+#[derive(Clone, Copy, PartialEq, Eq)]
+pub(crate) struct MadeChange {
+    place: usize,
+    change: Change,
+}
+
 /// What was found so far.
 #[derive(Drop)]
 pub(crate) struct Found {
     pub(crate) items: Items,
     /// The changes among them whose decision has other numbers.
     pub(crate) told: Vec<ToldChange>,
+    /// All of them.
+    pub(crate) made: Vec<MadeChange>,
     pub(crate) count: usize,
     pub(crate) runs: usize,
 }
@@ -49,6 +58,7 @@ impl Found {
         Found {
             items: Items::new(alloc),
             told: Vec::new(alloc),
+            made: Vec::new(alloc),
             count: 0,
             runs: 0,
         }
@@ -102,8 +112,8 @@ pub(crate) fn tried(
     }
 }
 
-/// Tells a change by which comes what is wanted, if it may be meant and its record is read as what
-/// it asks then.
+/// Tells a change by which comes what is wanted, if it may be meant, isn't told yet, and its record
+/// is read as what it asks then.
 #[tactic(auto, using(crate::proofs::Promises::promised_alone))]
 pub(crate) fn put_wanted(
     found: &mut Found,
@@ -116,8 +126,11 @@ pub(crate) fn put_wanted(
         (map call_seen trial.scenario.now.calls.now) trial.place (view one.value)
         trial.path.now one.outcome }
 {
-    let is_sized = are_sized(wish.group.participants);
-    if is_absurd(reached_by(&one.outcome), is_sized) {
+    let made = MadeChange {
+        place: trial.place,
+        change: one.change,
+    };
+    if found.made.contains(&made) || !may_be_meant(wish, &one.outcome) {
         return Ok(());
     }
     let alloc = found.items.alloc();
@@ -130,6 +143,7 @@ pub(crate) fn put_wanted(
     let label = found.label();
     put_change(&mut found.items, trial, label, who, one);
     put_choice(&mut found.items, 3, choice);
+    found.made.push(made)?;
     if is_sized_otherwise {
         let stated = RestatedConstraints {
             place: trial.place,
@@ -139,6 +153,13 @@ pub(crate) fn put_wanted(
         found.told.push(ToldChange { end, stated })?;
     }
     Ok(())
+}
+
+/// Whether a decision may be meant in the place of the one that came: of a tiny image only where
+/// that is tiny too.
+fn may_be_meant(wish: Wish<'_, '_>, then: &Outcome) -> bool {
+    let is_sized = are_sized(wish.group.participants) && !is_absurd(reached_by(wish.now), true);
+    !is_absurd(reached_by(then), is_sized)
 }
 
 /// Whether two decisions differ in the count of buffers, or in the size of one.

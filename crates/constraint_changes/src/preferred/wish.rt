@@ -4,7 +4,7 @@ use crate::trials::Group;
 use constraint_edits::Edit;
 use script_story::Outcome;
 use sysmem_counts::Field;
-use sysmem_formats::{Offer, Pair};
+use sysmem_formats::{ColourSpace, Offer, Pair};
 use sysmem_memory::{HeapInfo, Place};
 
 /// What is wanted in the place of what was decided.
@@ -16,6 +16,8 @@ pub(crate) enum Goal {
     LateChild,
     /// The same children, with this pair.
     Pair(Pair),
+    /// The same children and pair, in this colour space.
+    Colour(ColourSpace),
     /// The same children and image, in this place.
     Place(Place),
     /// The same children and image, in memory of the kind that a field asks for.
@@ -49,6 +51,7 @@ impl Wish<'_, '_> {
         match self.goal {
             Goal::Child | Goal::LateChild => false,
             Goal::Pair(pair) => matches!(is.offer, Offer::Image(other, _) if other == pair),
+            Goal::Colour(colour) => is_recoloured(is.offer, was.offer, colour),
             Goal::Place(place) => is.offer == was.offer && is.place == place,
             Goal::Kind(field) => {
                 let heaps = self.group.scenario.platform.heaps();
@@ -70,8 +73,18 @@ impl Wish<'_, '_> {
                 Edit::TakesPair(pair) => !is_chosen(self.now, pair),
                 _ => keeps_demands(edit),
             },
-            Goal::LateChild | Goal::Place(_) | Goal::Kind(_) => keeps_demands(edit),
+            Goal::LateChild | Goal::Colour(_) | Goal::Place(_) | Goal::Kind(_) => {
+                keeps_demands(edit)
+            }
         }
+    }
+}
+
+/// Whether one offer is another one's pair in a colour space.
+fn is_recoloured(is: Offer, was: Offer, colour: ColourSpace) -> bool {
+    match (is, was) {
+        (Offer::Image(pair, found), Offer::Image(before, _)) => pair == before && found == colour,
+        _ => false,
     }
 }
 

@@ -155,17 +155,44 @@ fn with_firsts(
     let story = group.story;
     let mut longer = Vec::from_slice(alloc, chosen)?;
     for node in 0..story.nodes.len() {
-        if !story.is_group(node) || !group.is_inside(node) || !is_asked(group, &longer, node) {
+        if !is_open(alloc, group, &longer, node)? {
             continue;
         }
-        let children = story.children(alloc, node)?;
-        if !has_one_of(&longer, &children) {
-            if let Some(first) = children.first() {
-                longer.push(*first)?;
-            }
+        if let Some(first) = story.children(alloc, node)?.first() {
+            longer.push(*first)?;
         }
     }
     Ok(longer)
+}
+
+/// The first group that has its place where these children are selected, and none of its own
+/// selected, if there is one.
+pub fn first_open(
+    alloc: Global,
+    group: Group<'_, '_>,
+    chosen: &[usize],
+) -> Result<Option<usize>, AllocError> {
+    for node in 0..group.story.nodes.len() {
+        if is_open(alloc, group, chosen, node)? {
+            return Ok(Some(node));
+        }
+    }
+    Ok(None)
+}
+
+/// Whether a node is a group that has its place where these children are selected, and none of its
+/// own among them.
+fn is_open(
+    alloc: Global,
+    group: Group<'_, '_>,
+    chosen: &[usize],
+    node: usize,
+) -> Result<bool, AllocError> {
+    let story = group.story;
+    if !story.is_group(node) || !group.is_inside(node) || !is_asked(group, chosen, node) {
+        return Ok(false);
+    }
+    Ok(!has_one_of(chosen, &story.children(alloc, node)?))
 }
 
 /// Whether one of some children is among those that are chosen.

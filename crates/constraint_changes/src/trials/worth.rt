@@ -1,6 +1,7 @@
 //! Which changes of a participant's formats and colour spaces are worth a try.
 
 use constraint_edits::Edit;
+use script_story::Scenario;
 use settings_reasons::is_taken;
 use sysmem_formats::{ColourSpace, Pair};
 use sysmem_image::Entry;
@@ -12,6 +13,7 @@ pub fn is_worth(
     edit: Edit,
     participant: &NamedParticipant<'_>,
     participants: &[NamedParticipant<'_>],
+    scenario: &Scenario<'_>,
     few: usize,
 ) -> bool {
     match edit {
@@ -19,13 +21,45 @@ pub fn is_worth(
             0 => !is_named(participants, pair),
             lacking => lacking <= few && lacks_pair(participant, pair),
         },
-        Edit::TakesColour(colour) => match lacking_colour(participants, colour) {
-            0 => !is_colour_named(participants, colour),
-            lacking => lacking <= few && lacks_colour(participant, colour),
-        },
+        Edit::TakesColour(colour) => {
+            is_colour_worth(colour, participant, participants, few)
+                || is_image_worth(colour, participant, participants, scenario, few)
+        }
         Edit::NoCpu => is_secure_required(participants),
         _ => true,
     }
+}
+
+/// The same of a colour space, with whatever pair.
+fn is_colour_worth(
+    colour: ColourSpace,
+    participant: &NamedParticipant<'_>,
+    participants: &[NamedParticipant<'_>],
+    few: usize,
+) -> bool {
+    match lacking_colour(participants, colour) {
+        0 => !is_colour_named(participants, colour),
+        lacking => lacking <= few && lacks_colour(participant, colour),
+    }
+}
+
+/// The same of a colour space with a pair of the platform, which the participant takes otherwise.
+fn is_image_worth(
+    colour: ColourSpace,
+    participant: &NamedParticipant<'_>,
+    participants: &[NamedParticipant<'_>],
+    scenario: &Scenario<'_>,
+    few: usize,
+) -> bool {
+    for pair in scenario.platform.pairs() {
+        if !lacks_pair(participant, *pair) && lacks_image(participant, *pair, colour) {
+            scenario.effort.ask(participants.len());
+            if lacking_image(participants, *pair, colour) <= few {
+                return true;
+            }
+        }
+    }
+    false
 }
 
 /// How many participants have entries, and none for a pair.
@@ -42,6 +76,15 @@ fn lacking_colour(participants: &[NamedParticipant<'_>], colour: ColourSpace) ->
     let mut lacking = 0usize;
     for participant in participants {
         lacking = lacking.saturating_add(usize::from(lacks_colour(participant, colour)));
+    }
+    lacking
+}
+
+/// How many participants have entries, none of which takes a pair in a colour space.
+fn lacking_image(participants: &[NamedParticipant<'_>], pair: Pair, colour: ColourSpace) -> usize {
+    let mut lacking = 0usize;
+    for participant in participants {
+        lacking = lacking.saturating_add(usize::from(lacks_image(participant, pair, colour)));
     }
     lacking
 }
@@ -83,6 +126,17 @@ fn lacks_pair(participant: &NamedParticipant<'_>, pair: Pair) -> bool {
     let entries = participant.asked.entries();
     for entry in entries {
         if is_taken(entry, pair) {
+            return false;
+        }
+    }
+    !entries.is_empty()
+}
+
+/// Whether a participant has entries, and none of them takes a pair in a colour space.
+pub fn lacks_image(participant: &NamedParticipant<'_>, pair: Pair, colour: ColourSpace) -> bool {
+    let entries = participant.asked.entries();
+    for entry in entries {
+        if is_taken(entry, pair) && entry.colours.accepts(colour) {
             return false;
         }
     }

@@ -1,0 +1,79 @@
+//! Colour spaces that stand before the chosen one on the platform.
+
+use crate::preferred::alike::try_alike;
+use crate::preferred::telling::Found;
+use crate::preferred::wish::{Goal, Settled, Wish, settled_by};
+use crate::trials::lacks_image;
+use constraint_edits::Edit;
+use std::alloc::AllocError;
+use sysmem_formats::{ColourSpace, Offer, Pair};
+use value_sources::NamedParticipant;
+
+/// Tries the colour spaces before the chosen one on the platform, until one helps.
+pub(crate) fn try_colours(
+    found: &mut Found,
+    wish: Wish<'_, '_>,
+    selected: &[NamedParticipant<'_>],
+) -> Result<(), AllocError> {
+    let Some(
+        Settled {
+            offer: Offer::Image(pair, chosen),
+            ..
+        },
+    ) = settled_by(wish.now)
+    else {
+        return Ok(());
+    };
+    let before = found.count;
+    for colour in wish.group.scenario.platform.colours() {
+        let is_done = found.is_done(wish.group.scenario.effort);
+        if *colour == chosen || found.count > before || is_done {
+            break;
+        }
+        try_colour(found, wish, selected, pair, *colour)?;
+    }
+    Ok(())
+}
+
+/// Tries that the only one of participants who doesn't take a pair in a colour space does so.
+fn try_colour(
+    found: &mut Found,
+    wish: Wish<'_, '_>,
+    selected: &[NamedParticipant<'_>],
+    pair: Pair,
+    colour: ColourSpace,
+) -> Result<(), AllocError> {
+    let Some(participant) = only_lacking(selected, pair, colour) else {
+        return Ok(());
+    };
+    let goal = Goal::Colour(colour);
+    let edit = Edit::TakesColour(colour);
+    let mut told: Vec<usize> = Vec::new(found.items.alloc());
+    try_alike(
+        found,
+        Wish { goal, ..wish },
+        &mut told,
+        participant,
+        &[],
+        edit,
+    )
+}
+
+/// The only one of participants who doesn't take a pair in a colour space; `None` where all do, or
+/// several don't.
+fn only_lacking<'p, 'a>(
+    selected: &'p [NamedParticipant<'a>],
+    pair: Pair,
+    colour: ColourSpace,
+) -> Option<&'p NamedParticipant<'a>> {
+    let mut only = None;
+    for participant in selected {
+        if lacks_image(participant, pair, colour) {
+            if only.is_some() {
+                return None;
+            }
+            only = Some(participant);
+        }
+    }
+    only
+}
