@@ -30,7 +30,7 @@ use std::alloc::AllocError;
 /// would come: a child, a pair, its colour space or a place that comes before the chosen one, or a
 /// place that would do too and is contiguous, secure, or of another coherency domain; of an attached
 /// domain, which has the initial one's image and place, a child alone. Each with the decision that
-/// would come: the line of the report of the changed script. Gives those with another count or size.
+/// would come: the line of the report of the changed script. Gives them.
 pub fn list_preferred(
     items: &mut Items,
     group: Group<'_, '_>,

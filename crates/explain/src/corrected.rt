@@ -499,7 +499,7 @@ fn add_unmet(
     if story.domains.len() < 2 {
         return add_why(items, document, scenario, story, index, levels, 1);
     }
-    put_head(items, story, domain);
+    put_head(items, story, domain, 2);
     add_why(items, document, scenario, story, index, levels, 2)
 }
 

@@ -1,7 +1,7 @@
 //! What became of each domain, why, and what would help.
 
 use crate::entries::add_unused;
-use crate::helping::{LEVELS, index_at, list_help};
+use crate::helping::{LEVELS, add_reasons, index_at, is_lost, list_help, put_head};
 use crate::idle_modifiers::add_idle_modifiers;
 use crate::not_chosen::{add_not_chosen, add_numbers};
 use constraint_changes::{
@@ -24,9 +24,11 @@ const DEPTH: usize = 3;
 /// What is told of a decision by a change.
 #[derive(Clone, Copy)]
 enum Part {
-    /// How many buffers there are, and how large an image is.
+    /// Which other domains lose theirs by it.
+    Lost,
+    /// That, and how many buffers there are, and how large an image is.
     Numbers,
-    /// That, and what isn't chosen.
+    /// These numbers, and what isn't chosen.
     All,
 }
 
@@ -50,7 +52,8 @@ pub(crate) fn add_domains(
 }
 
 /// Tells by which changes of a participant a domain that is chosen would have another child, image
-/// or place, and below each the numbers that it would have then, if they are others.
+/// or place; and below each the numbers that it would have then, if they are others, and which other
+/// domains have no settings then.
 fn add_preferred(
     items: &mut Items,
     document: &Document<'_>,
@@ -74,21 +77,27 @@ fn add_preferred(
     for item in changes.into_list()? {
         items.add(item);
         count = count.saturating_add(1);
-        add_numbers_by(items, group, &told, count)?;
+        add_below(items, group, &told, count)?;
     }
     Ok(())
 }
 
-/// Tells the numbers of the decision by that change which ends after so many items, if one does.
-fn add_numbers_by(
+/// Tells what comes with that change which ends after so many items, if one does.
+fn add_below(
     items: &mut Items,
     group: Group<'_, '_>,
     told: &[ToldChange],
     count: usize,
 ) -> Result<(), AllocError> {
+    let is_alone = group.story.domains.len() < 2;
     for change in told {
-        if change.end == count {
-            add_of(items, group, from_ref(&change.stated), Part::Numbers, DEPTH)?;
+        let part = if change.is_sized_otherwise {
+            Part::Numbers
+        } else {
+            Part::Lost
+        };
+        if change.end == count && (change.is_sized_otherwise || !is_alone) {
+            add_of(items, group, from_ref(&change.stated), part, DEPTH)?;
         }
     }
     Ok(())
@@ -219,10 +228,29 @@ fn add_with(
     match index_at(&story, group.path) {
         Some(index) if story.nodes.len() == group.story.nodes.len() => {
             match part {
-                Part::Numbers => add_numbers(items, &other, &story, index, depth),
-                Part::All => add_not_chosen(items, &other, &story, index, depth),
+                Part::Lost => {}
+                Part::Numbers => add_numbers(items, &other, &story, index, depth)?,
+                Part::All => return add_not_chosen(items, &other, &story, index, depth),
             }
+            add_lost(items, &other, &story, group.story, depth)
         }
         _ => Ok(()),
     }
+}
+
+/// Tells so deep which domains have no settings that are chosen now, and why.
+fn add_lost(
+    items: &mut Items,
+    scenario: &Scenario<'_>,
+    story: &Story<'_>,
+    now: &Story<'_>,
+    depth: usize,
+) -> Result<(), AllocError> {
+    for (index, domain) in story.domains.iter().enumerate() {
+        if is_lost(now, story, domain) {
+            put_head(items, story, domain, depth);
+            add_reasons(items, scenario, story, index, depth)?;
+        }
+    }
+    Ok(())
 }

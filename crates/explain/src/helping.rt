@@ -155,7 +155,7 @@ fn add_empty_otherwise(
     for (index, domain) in story.domains.iter().enumerate() {
         let is_told = is_empty_otherwise(items.alloc(), scenario, now, story, index)?;
         if is_told && !scenario.effort.is_spent() {
-            put_head(items, story, domain);
+            put_head(items, story, domain, 2);
             add_why(items, document, scenario, story, index, levels, 2)?;
         }
     }
@@ -380,7 +380,7 @@ fn add_new(
         let is_other = own != Some(index) && is_new(now, story, domain);
         let is_told = is_other && domain.became != Became::Chosen;
         if is_told && !scenario.effort.is_spent() {
-            put_head(items, story, domain);
+            put_head(items, story, domain, 2);
             add_why(items, document, scenario, story, index, levels, 2)?;
         }
     }
@@ -406,7 +406,7 @@ pub(crate) fn add_why(
 }
 
 /// Tells why a domain has no settings, so much deeper.
-fn add_reasons(
+pub(crate) fn add_reasons(
     items: &mut Items,
     scenario: &Scenario<'_>,
     story: &Story<'_>,
@@ -425,9 +425,16 @@ fn is_new(now: &Story<'_>, then: &Story<'_>, domain: &Domain) -> bool {
         Some(known) if known.became == Became::Failed => {
             known.host.is_some() && domain.became != Became::Failed
         }
-        Some(known) => known.became == Became::Chosen,
+        Some(_) => is_lost(now, then, domain),
         None => true,
     }
+}
+
+/// Whether a domain is chosen now, and isn't then.
+pub(crate) fn is_lost(now: &Story<'_>, then: &Story<'_>, domain: &Domain) -> bool {
+    let was_chosen =
+        matches!(domain_now(now, then, domain), Some(known) if known.became == Became::Chosen);
+    was_chosen && domain.became != Became::Chosen
 }
 
 /// The domain now whose path another has then.
@@ -435,12 +442,12 @@ fn domain_now<'b>(now: &'b Story<'_>, then: &Story<'_>, domain: &Domain) -> Opti
     now.domains.get(index_at(now, then.path(domain.root))?)
 }
 
-/// Puts what would become of a domain, above why.
-pub(crate) fn put_head(items: &mut Items, story: &Story<'_>, domain: &Domain) {
+/// Puts so deep what would become of a domain, above why.
+pub(crate) fn put_head(items: &mut Items, story: &Story<'_>, domain: &Domain, depth: usize) {
     let mut words = TextBuilder::new(items.alloc());
     put_domain(&mut words, story, domain.root);
     words.put(" would be ").put(domain.became.word()).head();
-    items.say(2, Label::Plain, words)
+    items.say(depth, Label::Plain, words)
 }
 
 /// The domain at a path, by index.

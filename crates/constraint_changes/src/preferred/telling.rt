@@ -31,6 +31,8 @@ pub struct ToldChange {
     pub end: usize,
     /// What a call states by it.
     pub stated: RestatedConstraints,
+    /// Whether its decision has another count or size.
+    pub is_sized_otherwise: bool,
 }
 
 /// A change that was told, by the place of its call.
@@ -44,9 +46,9 @@ pub(crate) struct MadeChange {
 #[derive(Drop)]
 pub(crate) struct Found {
     pub(crate) items: Items,
-    /// The changes among them whose decision has other numbers.
+    /// The changes among them.
     pub(crate) told: Vec<ToldChange>,
-    /// All of them.
+    /// The same by their calls.
     pub(crate) made: Vec<MadeChange>,
     pub(crate) count: usize,
     pub(crate) runs: usize,
@@ -144,15 +146,15 @@ pub(crate) fn put_wanted(
     put_change(&mut found.items, trial, label, who, one);
     put_choice(&mut found.items, 3, choice);
     found.made.push(made)?;
-    if is_sized_otherwise {
-        let stated = RestatedConstraints {
-            place: trial.place,
-            value,
-        };
-        let end = found.items.len().saturating_add(1);
-        found.told.push(ToldChange { end, stated })?;
-    }
-    Ok(())
+    let stated = RestatedConstraints {
+        place: trial.place,
+        value,
+    };
+    found.told.push(ToldChange {
+        end: found.items.len().saturating_add(1),
+        stated,
+        is_sized_otherwise,
+    })
 }
 
 /// Whether a decision may be meant in the place of the one that came: of a tiny image only where
