@@ -6,10 +6,10 @@ import re
 from explained import ENTRIES, MEMORY, STEERS, judge
 
 # Words of an outcome below which stands what the script has then; those of them that correct its text, and those of
-# calls on other nodes.
+# calls on other nodes, or that make children.
 ANSWERED = re.compile(r"^with .* the script has(?:, its calls numbered anew)?:$")
 CORRECTED = re.compile(r"with (.* \(lines? [\d, and]+\))( and \d+ more)? the script has:")
-CALLED = re.compile(r"with call \d+ on .* the script has:")
+CALLED = re.compile(r"with calls? \d+(?: on .*|[\d, and]* as create_child) the script has:")
 DECODER = json.JSONDecoder()
 COLON, COMMA, BEHIND = re.compile(r"\s*:\s*"), re.compile(r"\s*,?\s*"), re.compile(r"\s*,")
 
@@ -306,7 +306,11 @@ def edited(text, edits):
 
 
 def called_on(text, words):
-    """The text of a script in which calls are made on other nodes."""
+    """The text of a script in which calls are made on other nodes, or make children."""
     parts = parts_of(text)
-    nodes = {parts["calls", int(number) - 1, "on"]: node for number, node in re.findall(r"call (\d+) on (\S+)", words)}
-    return edited(text, [(part.value, part.end, f'"{node}"') for part, node in nodes.items()])
+    on_nodes = [(number, "on", node) for number, node in re.findall(r"call (\d+) on (\S+)", words)]
+    children = re.search(r"calls? ([\d, and]+) as create_child", words)
+    numbers = re.findall(r"\d+", children[1]) if children else []
+    whats = on_nodes + [(number, "call", "create_child") for number in numbers]
+    spots = [(parts["calls", int(number) - 1, key], word) for number, key, word in whats]
+    return edited(text, [(part.value, part.end, f'"{word}"') for part, word in spots])

@@ -17,10 +17,18 @@ BESIDE = (
 WHO = r"\S+ \(call \d+(?:, lines? [^)]*)?\)"
 
 
+# Calls of which one is enough, or all are needed, and what comes with the first of them.
+OF_SEVERAL = r"(.* calls ([\d, and]+).*, (?:of which one is enough|all of which it needs); with call )\d+( .*)"
+
+
 def each_alone(words):
-    """The words of a change that one of several may make, of each of them alone; of another one as they are."""
-    several = re.fullmatch(rf"({WHO}(?:, {WHO})* or {WHO}): (.*)", words)
-    return [f"{who}: {several[2]}" for who in re.findall(WHO, several[1])] if several else [words]
+    """The words of a change that one of several may make, or of what one of several calls does, of each of them alone;
+    of another one as they are."""
+    if several := re.fullmatch(rf"({WHO}(?:, {WHO})* or {WHO}): (.*)", words):
+        return [f"{who}: {several[2]}" for who in re.findall(WHO, several[1])]
+    if several := re.fullmatch(OF_SEVERAL, words):
+        return [f"{several[1]}{number}{several[3]}" for number in re.findall(r"\d+", several[2])]
+    return [words]
 
 
 def entry_like(other, pair):
@@ -297,16 +305,28 @@ def other_heap(script, words):
     return script
 
 
-def ended_before(script, words):
-    """A script in which calls that release or close somebody come before another call."""
-    ends, before = re.search(r"; with calls? ([\d, and]+) before call (\d+) it would be:", words).groups()
-    calls, numbers = script["calls"], [int(number) for number in re.findall(r"\d+", ends)]
-    carried = [calls[number - 1] for number in numbers]
-    names = re.split(r", | and ", re.sub(r" and \d+ more$", "", re.match(r"(.*) still counts? here, and ", words)[1]))
+def names_end(calls, names, numbers, words):
+    """Judges that calls of these numbers release or close those who are named."""
+    ends = [calls[number - 1] for number in numbers]
+    named = re.split(r", | and ", re.sub(r" and \d+ more$", "", names))
     judge(
-        set(names) <= {call["on"] for call in carried} and {call["call"] for call in carried} <= {"release", "close"},
+        set(named) <= {call["on"] for call in ends} and {call["call"] for call in ends} <= {"release", "close"},
         f"{words}: these calls end others",
     )
+
+
+def ended_before(script, words):
+    """A script in which calls that release or close somebody come before another call."""
+    names, ends, one, early, before = re.fullmatch(
+        r"(.*) still counts? here, and .* only later, by calls? ([\d, and]+?)(, of which one is enough)?; "
+        r"with calls? ([\d, and]+) before call (\d+) it would be:",
+        words,
+    ).groups()
+    calls, numbers = script["calls"], [int(number) for number in re.findall(r"\d+", early)]
+    all_ends = [int(number) for number in re.findall(r"\d+", ends)]
+    judge(len(numbers) == 1 and numbers[0] in all_ends if one else numbers == all_ends, f"{words}: others are moved")
+    names_end(calls, names, all_ends, words)
+    carried = [calls[number - 1] for number in numbers]
     rest = [call for number, call in enumerate(calls, 1) if number not in numbers]
     place = int(before) - 1
     script["calls"] = rest[:place] + carried + rest[place:]
@@ -327,18 +347,17 @@ def names_exchanged(script, words):
 def ended_after(script, words):
     """A script in which calls that release or close somebody come after another call; without these calls the domain is
     the same, where that is said."""
-    ends, names, after, never = re.fullmatch(
-        r"it has room only since calls? ([\d, and]+) (?:released or closed|released|closed) (.*); "
-        r"with calls? [\d, and]+ after call (\d+)(, or left out,)? it would be:",
+    ends, names, each, late, after, never = re.fullmatch(
+        r"it has room only since calls? ([\d, and]+?) (?:together )?(?:released or closed|released|closed) (.*?)"
+        r"(, all of which it needs)?; with calls? ([\d, and]+) after call (\d+)(, or left out,)? it would be, with the "
+        r"calls numbered anew:",
         words,
     ).groups()
-    calls, numbers = script["calls"], [int(number) for number in re.findall(r"\d+", ends)]
+    calls, numbers = script["calls"], [int(number) for number in re.findall(r"\d+", late)]
+    all_ends = [int(number) for number in re.findall(r"\d+", ends)]
+    judge(len(numbers) == 1 and numbers[0] in all_ends if each else numbers == all_ends, f"{words}: others are moved")
+    names_end(calls, names, all_ends, words)
     carried = [calls[number - 1] for number in numbers]
-    names = re.split(r", | and ", re.sub(r" and \d+ more$", "", names))
-    judge(
-        set(names) <= {call["on"] for call in carried} and {call["call"] for call in carried} <= {"release", "close"},
-        f"{words}: these calls end others",
-    )
     rest = [(number, call) for number, call in enumerate(calls, 1) if number not in numbers]
     place = next(k for k, (number, _) in enumerate(rest) if number == int(after)) + 1
     rest = [call for _, call in rest]

@@ -128,6 +128,31 @@ fn first_early(story: &Story<'_>, node: usize) -> usize {
     usize::MAX
 }
 
+/// Whether a bind is missing before the call of a number, which attaches a token, since constraints
+/// were refused on the same node for that too: then the call isn't meant for another node.
+pub(crate) fn lacks_bind(
+    alloc: Global,
+    story: &Story<'_>,
+    call: &MadeCall<'_>,
+    number: usize,
+) -> Result<bool, AllocError> {
+    match missing_for(alloc, story, call, number)? {
+        Some(one) if matches!(one.kind, ActionKind::Bind) => Ok(states_early(story, one.node)),
+        _ => Ok(false),
+    }
+}
+
+/// Whether constraints were refused on a node since that wants a collection.
+fn states_early(story: &Story<'_>, node: usize) -> bool {
+    for call in &story.calls {
+        let states = matches!(call.act, Act::SetConstraints(_));
+        if call.node == Some(node) && states && call.is_refused_as(Refusal::WrongState) {
+            return true;
+        }
+    }
+    false
+}
+
 /// The call that makes the last child of a group, by number; beyond all where it has none.
 fn last_child(alloc: Global, story: &Story<'_>, group: usize) -> Result<usize, AllocError> {
     match story.children(alloc, group)?.last() {

@@ -5,7 +5,7 @@ ghost use Rattle.script_reading.specs.declared.call.Call.{Call as Called};
 ghost use Rattle.other_outcomes.specs.Shorter.{IsPromisedShorter, IsShorter, leaving_out};
 
 use crate::ended_later::{End, ended_by, ending, put_calls, put_names};
-use crate::moved::{outcome_moved, put_promised, with_moves};
+use crate::moved::{ending_of, outcome_moved, put_promised, with_moves};
 use crate::otherwise::Otherwise;
 use domain_reasons::{accepted_before, count_above, gone_before};
 use explanation_text::{Items, Label, TextBuilder};
@@ -18,9 +18,17 @@ use value_sources::{NamedParticipant, needed};
 /// How many who ended before are looked at.
 const MOST: usize = 8;
 
+/// Those without whose end so many buffers wouldn't do.
+#[derive(Drop)]
+struct NeededEnds {
+    ends: Vec<End>,
+    /// Whether each of them is needed by itself; else they are only together.
+    are_each: bool,
+}
+
 /// Tells who was released or closed before an attached domain was chosen that has room only since
-/// then, and what the domain at a path would be if that came after it: of one of them if that is
-/// enough, else of all. Says with which calls that would be so.
+/// then, and what the domain at a path would be if that came after it: of the first of them without
+/// whom it has no room, else of all. Says with which calls that would be so.
 pub fn add_ended_earlier<'a>(
     items: &mut Items,
     scenario: &Scenario<'a>,
@@ -36,34 +44,71 @@ pub fn add_ended_earlier<'a>(
     let (Some(decided), Some(count)) = (decided, count_above(story, index)) else {
         return Ok(None);
     };
-    let ends = needed_ends(alloc, story, index, decided, u64::from(count))?;
-    if ends.is_empty() {
-        return Ok(None);
+    let needed = needed_ends(alloc, story, index, decided, u64::from(count))?;
+    if !needed.are_each {
+        return add_after(
+            items,
+            scenario,
+            story,
+            &needed.ends,
+            &needed.ends,
+            decided,
+            path,
+        );
     }
-    add_after(items, scenario, story, &ends, decided, path)
+    let ends = roomless_without(alloc, scenario, &needed.ends, decided, path)?;
+    match ends.first() {
+        Some(first) => add_after(
+            items,
+            scenario,
+            story,
+            &ends,
+            from_ref(first),
+            decided,
+            path,
+        ),
+        None => Ok(None),
+    }
 }
 
-/// Those without whose end so many buffers wouldn't do for an attached domain: one, or all if one
-/// isn't enough; none if they would do.
+/// Those without whose end so many buffers wouldn't do for an attached domain: each by itself, or all
+/// if one isn't enough; none if they would do.
 fn needed_ends(
     alloc: Global,
     story: &Story<'_>,
     index: usize,
     decided: usize,
     count: u64,
-) -> Result<Vec<End>, AllocError> {
+) -> Result<NeededEnds, AllocError> {
     let mut all = accepted_before(alloc, story, index)?;
     all.extend_from_slice(&asked_in(alloc, story, index, true)?)?;
     let gone = gone_before(alloc, story, index)?;
-    for one in &gone {
-        if needs_with(alloc, &all, from_ref(one))? > count {
-            return ends_of(alloc, story, from_ref(one), decided);
+    let alone = needed_alone(alloc, &all, &gone, count)?;
+    let are_each = !alone.is_empty();
+    let ends = if are_each {
+        ends_of(alloc, story, &alone, decided)?
+    } else if gone.len() <= MOST && needs_with(alloc, &all, &gone)? > count {
+        ends_of(alloc, story, &gone, decided)?
+    } else {
+        Vec::new(alloc)
+    };
+    Ok(NeededEnds { ends, are_each })
+}
+
+/// Those of some who are gone with each of whom alone participants need more than so many buffers.
+fn needed_alone<'a>(
+    alloc: Global,
+    participants: &[NamedParticipant<'a>],
+    gone: &[NamedParticipant<'a>],
+    count: u64,
+) -> Result<Vec<NamedParticipant<'a>>, AllocError> {
+    let mut alone = Vec::new(alloc);
+    for one in gone {
+        if alone.len() < MOST && needs_with(alloc, participants, from_ref(one))? > count {
+            alone.push(*one)?;
         }
     }
-    if gone.len() > MOST || needs_with(alloc, &all, &gone)? <= count {
-        return Ok(Vec::new(alloc));
-    }
-    ends_of(alloc, story, &gone, decided)
+    Ok(alone)
 }
 
 /// How many buffers participants need with some more.
@@ -93,23 +138,54 @@ fn ends_of(
     Ok(ends)
 }
 
-/// Tells what the domain at a path would be if those ended after the call of a number, if nothing
-/// would be chosen then, and says with which calls.
+/// Those of some ends after which alone nothing would be chosen in the domain at a path, if they came
+/// after the call of a number.
+fn roomless_without(
+    alloc: Global,
+    scenario: &Scenario<'_>,
+    ends: &[End],
+    decided: usize,
+    path: &str,
+) -> Result<Vec<End>, AllocError> {
+    let mut roomless = Vec::new(alloc);
+    for end in ends {
+        let moves = moves_of(alloc, from_ref(end), decided)?;
+        match outcome_moved(alloc, scenario, &moves, path)? {
+            Some(outcome) if is_roomless(&outcome) => roomless.push(*end)?,
+            _ => {}
+        }
+    }
+    Ok(roomless)
+}
+
+/// Whether a domain is decided, and nothing is chosen.
+fn is_roomless(outcome: &Outcome) -> bool {
+    !matches!(outcome.became(), Became::Chosen | Became::Pending)
+}
+
+/// Tells since whose ends the domain at a path has room, and what it would be if some of them came
+/// after the call of a number, if nothing would be chosen then, and says with which calls.
 fn add_after<'a>(
     items: &mut Items,
     scenario: &Scenario<'a>,
     story: &Story<'_>,
     ends: &[End],
+    late: &[End],
     decided: usize,
     path: &str,
 ) -> Result<Option<Otherwise<'a>>, AllocError> {
+    if late.is_empty() {
+        return Ok(None);
+    }
     let alloc = items.alloc();
-    let moves = moves_of(alloc, ends, decided)?;
+    let moves = moves_of(alloc, late, decided)?;
     match outcome_moved(alloc, scenario, &moves, path)? {
-        Some(outcome) if !matches!(outcome.became(), Became::Chosen | Became::Pending) => {
+        Some(outcome) if is_roomless(&outcome) => {
             let then = with_moves(alloc, scenario, &moves, &outcome)?;
-            let never = is_so_without(alloc, scenario, ends, path, &outcome)?;
-            put_head(items, story, ends, decided, never);
+            let never = is_so_without(alloc, scenario, late, path, &outcome)?;
+            let mut text = since_text(alloc, story, ends, late);
+            put_tried(&mut text, late, decided, never);
+            items.say(1, Label::Then, text);
             put_promised(items, scenario, path, outcome);
             Ok(Some(then))
         }
@@ -143,19 +219,32 @@ fn is_so_without(
     }
 }
 
-/// Puts what is tried: `it has room only since call 11 released first; with call 11 after call 12, or
-/// left out, it would be:`.
-fn put_head(items: &mut Items, story: &Story<'_>, ends: &[End], decided: usize, never: bool) {
-    let mut text = TextBuilder::of(items.alloc(), "it has room only since ");
+/// Since when it has room: `it has room only since call 11 released first`; of those that come late in
+/// what is tried, which are all of them, or else the first of several that are all needed.
+fn since_text(alloc: Global, story: &Story<'_>, ends: &[End], late: &[End]) -> TextBuilder {
+    let are_each = late.len() < ends.len();
+    let are_together = !are_each && ends.len() > 1;
+    let mut text = TextBuilder::of(alloc, "it has room only since ");
     put_calls(&mut text, ends);
-    text.put(" ").put(ending(story, ends)).put(" ");
+    text.put(if are_together { " together " } else { " " });
+    text.put(ending(story, ends)).put(" ");
     put_names(&mut text, story, ends);
+    text.put(if are_each {
+        ", all of which it needs"
+    } else {
+        ""
+    });
+    text
+}
+
+/// Puts what is tried after a text: `; with call 11 after call 12, or left out, it would be, with the
+/// calls numbered anew:`.
+fn put_tried(text: &mut TextBuilder, late: &[End], decided: usize, never: bool) {
     text.put("; with ");
-    put_calls(&mut text, ends);
+    put_calls(text, late);
     text.put(" after call ").call(decided);
     text.put(if never { ", or left out," } else { "" });
-    text.put(" it would be:");
-    items.say(1, Label::Then, text)
+    text.put(ending_of(false));
 }
 
 /// What the domain at a path becomes without the calls that end those.

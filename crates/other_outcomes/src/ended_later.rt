@@ -11,6 +11,7 @@ use explanation_text::{Items, Label, ListBuilder, TextBuilder};
 use script_reading::{Act, Call};
 use script_story::{Milestone, Outcome, Scenario, Story};
 use std::alloc::{AllocError, Global};
+use std::slice::from_ref;
 use value_sources::NamedParticipant;
 
 /// Over how many calls one is moved at most: for each of these the calls are gone through.
@@ -26,8 +27,8 @@ pub(crate) struct End {
 }
 
 /// Tells who takes room in an attached domain's decision and is released or closed only after it,
-/// and what the domain at a path would be if that came before: of one of them if that is enough,
-/// else of all.
+/// and what the domain at a path would be if that came before: of the first of them of whom one is
+/// enough, else of all.
 pub fn add_ended_later(
     items: &mut Items,
     scenario: &Scenario<'_>,
@@ -60,32 +61,76 @@ fn add_ends(
     decided: usize,
     path: &str,
 ) -> Result<(), AllocError> {
-    for end in ends {
-        if add_before(items, scenario, story, &[*end], decided, path)? {
-            return Ok(());
-        }
-    }
-    if ends.is_empty() || add_before(items, scenario, story, ends, decided, path)? {
+    if ends.is_empty() {
         return Ok(());
     }
-    items.say(1, Label::Note, still_text(items.alloc(), story, ends));
+    let enough = enough_alone(items.alloc(), scenario, ends, decided, path)?;
+    let is_told = match enough.first() {
+        Some(first) => {
+            add_before(
+                items,
+                scenario,
+                story,
+                &enough,
+                from_ref(first),
+                decided,
+                path,
+            )?
+        }
+        None => add_before(items, scenario, story, ends, ends, decided, path)?,
+    };
+    if !is_told {
+        items.say(1, Label::Note, still_text(items.alloc(), story, ends));
+    }
     Ok(())
 }
 
-/// Tells what the domain at a path would be if those ended before the call of a number, if it would
-/// be chosen, and says whether it would.
+/// Those of some ends of which each alone, before the call of a number, would be enough for the domain
+/// at a path: as what it would be with the first.
+fn enough_alone(
+    alloc: Global,
+    scenario: &Scenario<'_>,
+    ends: &[End],
+    decided: usize,
+    path: &str,
+) -> Result<Vec<End>, AllocError> {
+    let mut said: Option<String> = None;
+    let mut enough = Vec::new(alloc);
+    for end in ends {
+        match outcome_before(alloc, scenario, from_ref(end), decided, path)? {
+            Some(outcome) if is_as(&said, &outcome) => {
+                said = Some(outcome.said.clone()?);
+                enough.push(*end)?;
+            }
+            _ => {}
+        }
+    }
+    Ok(enough)
+}
+
+/// Whether the report says this of a domain, if it says something.
+fn is_as(said: &Option<String>, outcome: &Outcome) -> bool {
+    match said {
+        Some(said) => said.as_str() == outcome.said.as_str(),
+        None => true,
+    }
+}
+
+/// Tells that those still count, and what the domain at a path would be if some of them ended before
+/// the call of a number, if it would be chosen, and says whether it would.
 fn add_before(
     items: &mut Items,
     scenario: &Scenario<'_>,
     story: &Story<'_>,
     ends: &[End],
+    early: &[End],
     decided: usize,
     path: &str,
 ) -> Result<bool, AllocError> {
-    let Some(outcome) = outcome_before(items.alloc(), scenario, ends, decided, path)? else {
+    let Some(outcome) = outcome_before(items.alloc(), scenario, early, decided, path)? else {
         return Ok(false);
     };
-    put_head(items, story, ends, decided);
+    put_head(items, story, ends, early, decided);
     put_promised(items, scenario, path, outcome);
     Ok(true)
 }
@@ -130,9 +175,12 @@ pub(crate) fn ended_by(
 
 /// Puts what is tried: `recorder still counts here, since call 18 releases it only after call 16;
 /// with call 18 before call 16 it would be:`.
-fn put_head(items: &mut Items, story: &Story<'_>, ends: &[End], decided: usize) {
+fn put_head(items: &mut Items, story: &Story<'_>, ends: &[End], early: &[End], decided: usize) {
     let mut text = still_text(items.alloc(), story, ends);
-    put_tried(&mut text, ends, decided);
+    if early.len() < ends.len() {
+        text.put(", of which one is enough");
+    }
+    put_tried(&mut text, early, decided);
     items.say(1, Label::Then, text)
 }
 

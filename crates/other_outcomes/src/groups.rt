@@ -73,12 +73,14 @@ fn is_behind(alloc: Global, story: &Story<'_>, group: usize) -> Result<bool, All
     }
 }
 
-/// Adds a group with each one of its parent that was made before it.
+/// Adds a group with each one of its parent that was made before it, the nearest first: so the least
+/// move that chooses others is told.
 fn add_pairs(pairs: &mut Vec<Groups>, story: &Story<'_>, second: usize) -> Result<(), AllocError> {
     let (Some(parent), Some(later)) = (story.parent(second), story.maker(second)) else {
         return Ok(());
     };
-    for first in &story.children(*pairs.allocator(), parent)? {
+    let siblings = story.children(*pairs.allocator(), parent)?;
+    for first in siblings.iter().rev() {
         let first = *first;
         match story.maker(first) {
             Some(made) if is_before(made, later) && story.is_group(first) => pairs.push(Groups {

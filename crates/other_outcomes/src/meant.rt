@@ -1,26 +1,48 @@
-//! What a script has once calls that were refused are made on the nodes that they may mean.
+//! What a script has once calls that were refused are made on the nodes that they may mean, or as
+//! what they may mean.
 
+use crate::added::lacks_bind;
 use crate::moved::is_read;
 use crate::unchosen::meant_for_left_out;
+use explanation_text::wording::mark_after;
 use explanation_text::{Items, Label, ListBuilder, TextBuilder};
 use script_reading::Act;
 use script_story::{Became, MadeCall, Milestone, Story};
 use serde_json::{Map, Value};
 use std::alloc::{AllocError, Global};
-use sysmem_tree::{NodeKind, Refusal};
+use sysmem_tree::{ActionKind, NodeKind, Refusal};
 
 /// How many calls may be meant otherwise.
 const MOST: usize = 4;
 
-/// A call, by number, and the node that it may mean.
+/// A call, by number, and what it may mean.
 #[derive(Clone, Copy)]
 pub(crate) struct MeantCall {
-    pub(crate) number: usize,
-    pub(crate) node: usize,
+    number: usize,
+    meaning: Meaning,
 }
 
-/// Tells which calls may mean another node, if some do, and gives the script in which they are made
-/// on it, if that isn't refused.
+/// What a call may mean.
+#[derive(Clone, Copy)]
+enum Meaning {
+    /// The same on this node.
+    Node(usize),
+    /// The next child of the group on which it is made.
+    Child,
+}
+
+impl MeantCall {
+    /// The call of a number, which may mean a node.
+    pub(crate) fn on(number: usize, node: usize) -> MeantCall {
+        MeantCall {
+            number,
+            meaning: Meaning::Node(node),
+        }
+    }
+}
+
+/// Tells which calls may mean another node, or a child, if some do, and gives the script in which
+/// they are made so, if that isn't refused.
 pub fn list_meant(
     items: &mut Items,
     value: &Value,
@@ -39,20 +61,21 @@ pub fn list_meant(
     Ok(Some(other))
 }
 
-/// The calls that may mean another node since one was refused: each where just one node suits it.
+/// The calls that may mean something else since one was refused: a child, or another node where just
+/// one suits it.
 fn meant_in(alloc: Global, story: &Story<'_>) -> Result<Vec<MeantCall>, AllocError> {
     let mut meant = Vec::new(alloc);
     for (index, call) in story.calls.iter().enumerate() {
         let number = index.saturating_add(1);
         match meant_for(alloc, story, call, number)? {
-            Some(one) if node_of(&meant, one.number).is_none() => meant.push(one)?,
+            Some(one) if meaning_of(&meant, one.number).is_none() => meant.push(one)?,
             _ => {}
         }
     }
     Ok(meant)
 }
 
-/// The call that may mean another node since the call of a number was refused, if one does.
+/// The call that may mean something else since the call of a number was refused, if one does.
 fn meant_for(
     alloc: Global,
     story: &Story<'_>,
@@ -65,14 +88,31 @@ fn meant_for(
     if !call.is_refused_as(Refusal::WrongState) || is_too_early(story, call, number) {
         return Ok(None);
     }
+    if is_child(story, call, number) {
+        return Ok(Some(MeantCall {
+            number,
+            meaning: Meaning::Child,
+        }));
+    }
+    if lacks_bind(alloc, story, call, number)? {
+        return Ok(None);
+    }
     let nodes = suited(alloc, story, call, number)?;
     match nodes.as_slice() {
-        [node] => Ok(Some(MeantCall {
-            number: misplaced(story, call, number),
-            node: *node,
-        })),
+        [node] => Ok(Some(MeantCall::on(misplaced(story, call, number), *node))),
         _ => Ok(None),
     }
+}
+
+/// Whether a call duplicates a group that hasn't all its children yet, as if it were a token.
+fn is_child(story: &Story<'_>, call: &MadeCall<'_>, number: usize) -> bool {
+    let (Act::Duplicate(_), Some(group)) = (call.act, call.node) else {
+        return false;
+    };
+    let is_complete = story
+        .milestone_before(group, Milestone::Complete, number)
+        .is_some();
+    !is_complete && is_open(story, group, NodeKind::Group, number)
 }
 
 /// Whether a call attaches a token to a node that wasn't selected later on, and a call on what it
@@ -203,7 +243,7 @@ fn misplaced(story: &Story<'_>, call: &MadeCall<'_>, number: usize) -> usize {
     }
 }
 
-/// The script with calls made on the nodes that they may mean.
+/// The script with calls made as they may be meant.
 fn with_meant(
     alloc: Global,
     value: &Value,
@@ -212,14 +252,14 @@ fn with_meant(
 ) -> Result<Value, AllocError> {
     let mut copy = value.clone()?;
     if let Some(Value::Array(calls)) = copy.get_mut("calls") {
-        let list = made_on(alloc, calls, story, meant)?;
+        let list = all_meant(alloc, calls, story, meant)?;
         *calls = list;
     }
     Ok(copy)
 }
 
-/// Calls, of which some are made on the nodes that they may mean.
-fn made_on(
+/// Calls, of which some are made as they may be meant.
+fn all_meant(
     alloc: Global,
     calls: &[Value],
     story: &Story<'_>,
@@ -227,8 +267,11 @@ fn made_on(
 ) -> Result<Vec<Value>, AllocError> {
     let mut list = ListBuilder::new(alloc);
     for (index, call) in calls.iter().enumerate() {
-        let made = match node_of(meant, index.saturating_add(1)) {
-            Some(node) => on_node(alloc, call, story.name(node))?,
+        let made = match meaning_of(meant, index.saturating_add(1)) {
+            Some(Meaning::Node(node)) => with_word(alloc, call, "on", story.name(node))?,
+            Some(Meaning::Child) => {
+                with_word(alloc, call, "call", ActionKind::CreateChild.name())?
+            }
             None => call.clone()?,
         };
         list.add(made);
@@ -236,41 +279,77 @@ fn made_on(
     list.done()
 }
 
-/// The node that the call of a number may mean, if it is one of these.
-fn node_of(meant: &[MeantCall], number: usize) -> Option<usize> {
+/// What the call of a number may mean, if it is one of these.
+fn meaning_of(meant: &[MeantCall], number: usize) -> Option<Meaning> {
     for one in meant {
         if one.number == number {
-            return Some(one.node);
+            return Some(one.meaning);
         }
     }
     None
 }
 
-/// A call, made on the node of a name.
-fn on_node(alloc: Global, call: &Value, name: &str) -> Result<Value, AllocError> {
+/// A call, with a word for one of its members.
+fn with_word(alloc: Global, call: &Value, key: &str, word: &str) -> Result<Value, AllocError> {
     let mut members = Map::new(alloc);
     let Value::Object(others) = call else {
         return Ok(Value::Object(members));
     };
-    for (key, member) in others.iter() {
-        let made = if key.as_str() == "on" {
-            Value::String(String::from_str(alloc, name)?)
+    for (name, member) in others.iter() {
+        let made = if name.as_str() == key {
+            Value::String(String::from_str(alloc, word)?)
         } else {
             member.clone()?
         };
-        let _before = members.insert(key.clone()?, made)?;
+        let _before = members.insert(name.clone()?, made)?;
     }
     Ok(Value::Object(members))
 }
 
-/// Tells on which nodes calls are made.
+/// Tells on which nodes calls are made, and which make children.
 fn add_meant(items: &mut Items, story: &Story<'_>, meant: &[MeantCall]) {
     let mut words = TextBuilder::of(items.alloc(), "with ");
-    for (k, one) in meant.iter().enumerate() {
-        words.put(if k > 0 { " and call " } else { "call " });
-        words.call(one.number).put(" on ");
-        words.name(story.called(one.node));
-    }
+    let are_some = put_on_nodes(&mut words, story, meant);
+    put_children(&mut words, meant, if are_some { " and " } else { "" });
     words.put(" the script has:");
     items.say(1, Label::Then, words)
+}
+
+/// Puts on which nodes calls are made after a text: `call 5 on camera and call 6 on display`; whether
+/// some are.
+fn put_on_nodes(text: &mut TextBuilder, story: &Story<'_>, meant: &[MeantCall]) -> bool {
+    let mut are_some = false;
+    for one in meant {
+        if let Meaning::Node(node) = one.meaning {
+            text.put(if are_some { " and call " } else { "call " });
+            text.call(one.number).put(" on ");
+            text.name(story.called(node));
+            are_some = true;
+        }
+    }
+    are_some
+}
+
+/// Puts which calls make children after a text with a mark, if some do: `calls 2 and 3 as
+/// create_child`.
+fn put_children(text: &mut TextBuilder, meant: &[MeantCall], mark: &str) {
+    let count = meant.iter().filter(|one| makes_child(one)).count();
+    if count == 0 {
+        return;
+    }
+    text.put(mark)
+        .put(if count == 1 { "call " } else { "calls " });
+    let mut put = 0usize;
+    for one in meant {
+        if makes_child(one) {
+            text.call(one.number).put(mark_after(put, count));
+            put = put.saturating_add(1);
+        }
+    }
+    text.put(" as ").put(ActionKind::CreateChild.name());
+}
+
+/// Whether a call may mean a child.
+fn makes_child(one: &MeantCall) -> bool {
+    matches!(one.meaning, Meaning::Child)
 }

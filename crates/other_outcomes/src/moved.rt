@@ -196,7 +196,7 @@ pub fn add_then<'a>(
 
 /// What stands before the decision that comes once calls are moved, and before what is told of these
 /// calls where nothing is chosen.
-fn ending_of(is_chosen: bool) -> &'static str {
+pub(crate) fn ending_of(is_chosen: bool) -> &'static str {
     if is_chosen {
         " it would be:"
     } else {

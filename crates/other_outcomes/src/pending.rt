@@ -9,8 +9,9 @@ use domain_reasons::who_holds_up;
 use explanation_text::wording::{MOST_NAMES, put_few};
 use explanation_text::{Items, Label, ListBuilder, Text, TextBuilder};
 use script_reading::{Act, Call};
-use script_story::{Became, Outcome, Scenario, Story};
+use script_story::{Became, MadeCall, Outcome, Scenario, Story};
 use std::alloc::{AllocError, Global};
+use sysmem_tree::Refusal;
 
 /// The names of children that are made of groups without one: each has the first that no call
 /// makes.
@@ -27,7 +28,7 @@ const CHILDREN: [&str; 8] = [
 
 /// Tells what the domain of an index would be if nobody who is awaited stated anything, and says
 /// with which calls. It isn't told where a call on one of them is to be corrected first, which is
-/// told of groups elsewhere if it's said so.
+/// told of groups elsewhere if it's said so, but for groups that only want a child.
 pub fn add_without<'a>(
     items: &mut Items,
     scenario: &Scenario<'a>,
@@ -36,13 +37,37 @@ pub fn add_without<'a>(
     path: &str,
     are_groups_told: bool,
 ) -> Result<Option<Otherwise<'a>>, AllocError> {
-    let awaited = who_holds_up(items.alloc(), story, index, are_groups_told)?;
+    let counts_groups = are_groups_told && is_one_mended(story);
+    let awaited = who_holds_up(items.alloc(), story, index, counts_groups)?;
     if awaited.is_empty() || scenario.effort.is_spent() {
         return Ok(None);
     }
     match without(items.alloc(), scenario, story, &awaited)? {
         Some(calls) => add_with(items, scenario, story, &awaited, calls, path),
         None => Ok(None),
+    }
+}
+
+/// Whether a call on a group was refused of which it may be told elsewhere how it is to be made: any
+/// but one that only wants a child, where no child was to be made.
+fn is_one_mended(story: &Story<'_>) -> bool {
+    for call in &story.calls {
+        let on_group = match call.node {
+            Some(node) if story.is_group(node) => !call.is_accepted(),
+            _ => false,
+        };
+        if on_group && !wants_child(story, call) {
+            return true;
+        }
+    }
+    false
+}
+
+/// Whether a call was refused since its group has no child, and it has none later on either.
+fn wants_child(story: &Story<'_>, call: &MadeCall<'_>) -> bool {
+    match call.node {
+        Some(group) => call.is_refused_as(Refusal::NoChildren) && is_childless(story, group),
+        None => false,
     }
 }
 

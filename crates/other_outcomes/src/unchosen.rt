@@ -28,7 +28,7 @@ pub(crate) fn meant_for_left_out(
         return Ok(None);
     }
     match host_for(alloc, story, node, left, number)? {
-        Some(node) => Ok(Some(MeantCall { number, node })),
+        Some(node) => Ok(Some(MeantCall::on(number, node))),
         None => Ok(None),
     }
 }
@@ -43,10 +43,7 @@ fn made_above(story: &Story<'_>, node: usize, left: LeftOut) -> Option<MeantCall
     let is_of_another = binder(story, left.below)? != owner;
     let is_duplicate = matches!(story.call(number)?.act, Act::Duplicate(_));
     if is_duplicate && is_of_another && is_open(story, parent, NodeKind::Token, number) {
-        return Some(MeantCall {
-            number,
-            node: parent,
-        });
+        return Some(MeantCall::on(number, parent));
     }
     None
 }
