@@ -6,12 +6,18 @@ mod document;
 mod firsts;
 mod keys;
 mod kinds;
+mod leaving;
+mod list_fault;
 mod names;
+mod numbers;
+mod objects_meant;
+mod on_platform;
 mod other_words;
 mod owners;
 mod paths;
 mod record_fault;
 mod record_place;
+mod sides;
 mod unknown;
 mod unknown_key;
 

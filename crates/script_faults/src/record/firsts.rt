@@ -47,14 +47,16 @@ fn is_same_name(a: &Value, b: &Value) -> bool {
     is_same_pair(a, b)
 }
 
-fn text_of<'a>(value: &'a Value, key: &str, absent: &'a str) -> &'a str {
+/// The text that an object has at a key, or another one.
+pub(crate) fn text_of<'a>(value: &'a Value, key: &str, absent: &'a str) -> &'a str {
     match value.get(key) {
         Some(text) => text.as_str().unwrap_or(absent),
         None => absent,
     }
 }
 
-fn id_of(heap: &Value) -> u64 {
+/// The id of a heap: where none is given 0.
+pub(crate) fn id_of(heap: &Value) -> u64 {
     heap.get("id").and_then(Value::as_u64).unwrap_or(0)
 }
 

@@ -1,6 +1,7 @@
 //! What is wrong with a value, in words.
 
 use crate::record::keys::{is_one_of, kind_at, range_of};
+use crate::record::sides::sides_in;
 use explanation_text::TextBuilder;
 use serde_json::{Number, Value};
 use std::alloc::Global;
@@ -83,19 +84,6 @@ fn flag_of(text: &str) -> Option<bool> {
     }
 }
 
-/// Width and height, where they are written as a list of two numbers, or as `640x512`.
-pub(crate) fn sides_in(value: &Value) -> Option<(u64, u64)> {
-    if let Some(text) = value.as_str() {
-        let (width, height) = text.split_once('x')?;
-        return Some((width.parse::<u64>().ok()?, height.parse::<u64>().ok()?));
-    }
-    let list = value.as_array()?;
-    match (list.get(0), list.get(1)) {
-        (Some(width), Some(height)) if list.len() == 2 => Some((width.as_u64()?, height.as_u64()?)),
-        _ => None,
-    }
-}
-
 /// `a string, where a list is due`.
 pub fn wrong_kind(alloc: Global, value: &Value, due: &str) -> TextBuilder {
     let mut words = TextBuilder::of(alloc, kind_of(value));
@@ -116,6 +104,14 @@ fn wrong_name(alloc: Global, value: &Value) -> TextBuilder {
         "a wrong character"
     };
     TextBuilder::of(alloc, what)
+}
+
+/// Whether a text may be the type of a heap.
+pub(crate) fn is_heap_type(text: &str) -> bool {
+    !text.is_empty()
+        && text.len() <= 128
+        && text.as_bytes().iter().all(|byte| byte.is_ascii_alphanumeric()
+            || matches!(*byte, b'.' | b'_' | b'-'))
 }
 
 /// What is wrong with what stands for a number.
@@ -155,23 +151,6 @@ fn wrong_float(written: &[u8]) -> &'static str {
         return "written -0";
     }
     "beyond 64 bits"
-}
-
-/// The number in a range that is nearest to a whole one which isn't in it, or which stands in quotes.
-pub(crate) fn nearest_within(value: &Value, least: u64, most: u64) -> Option<u64> {
-    match value {
-        Value::Number(number) if number.is_f64() => None,
-        Value::Number(number) => match number.as_u64() {
-            Some(n) if n > most => Some(most),
-            Some(n) if n >= least => None,
-            _ => Some(least),
-        },
-        Value::String(text) => match text.parse::<u64>() {
-            Ok(n) => Some(n.max(least).min(most)),
-            Err(_) => None,
-        },
-        _ => None,
-    }
 }
 
 /// Whether a value is a whole number in a range.

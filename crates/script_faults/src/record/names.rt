@@ -139,6 +139,52 @@ const LEFT_OUT: &[&str] = &[
     "PASSTHROUGH",
 ];
 
+/// Well-known formats of DRM and V4L2 for which this profile and Fuchsia have no name, without their
+/// prefixes. Some of them are spelled nearly as known ones.
+const WITHOUT_NAME: &[&str] = &[
+    "NV15",
+    "NV16",
+    "NV20",
+    "NV21",
+    "NV24",
+    "NV30",
+    "NV42",
+    "NV61",
+    "P012",
+    "P016",
+    "P030",
+    "P210",
+    "UYVY",
+    "VYUY",
+    "YVYU",
+    "Y210",
+    "Y212",
+    "Y216",
+    "Y410",
+    "Y412",
+    "Y416",
+    "AYUV",
+    "YU16",
+    "YV16",
+    "YU24",
+    "YV24",
+    "YUV410",
+    "YUV411",
+    "YUV422",
+    "YVU422",
+    "YUV444",
+    "YVU444",
+    "BGR565",
+    "XRGB1555",
+    "ARGB1555",
+    "XRGB4444",
+    "ARGB4444",
+    "XRGB2101010",
+    "ARGB2101010",
+    "XBGR2101010",
+    "ABGR2101010",
+];
+
 /// What an unknown name at a field may mean, in words; or else the names that the field takes.
 pub(crate) fn hint_of_name(
     alloc: Global,
@@ -184,6 +230,21 @@ fn format_of_drm(name: &str) -> Option<&'static str> {
     Some(format.name())
 }
 
+/// The format that a name means: this profile's, or DRM's.
+pub(crate) fn format_of(name: &str) -> Option<&'static str> {
+    let drm = without_prefix(name);
+    match PixelFormat::from_name(drm) {
+        Some(format) => Some(format.name()),
+        None => format_of_drm(drm),
+    }
+}
+
+/// The name of a format without the prefix of DRM or V4L2.
+fn without_prefix(name: &str) -> &str {
+    let drm = name.strip_prefix("DRM_FORMAT_").unwrap_or(name);
+    drm.strip_prefix("V4L2_PIX_FMT_").unwrap_or(drm)
+}
+
 /// The same of a format.
 fn hint_of_format(alloc: Global, name: &str, known: &[&str]) -> Result<Help, AllocError> {
     let drm = name.strip_prefix("DRM_FORMAT_").unwrap_or(name);
@@ -192,10 +253,15 @@ fn hint_of_format(alloc: Global, name: &str, known: &[&str]) -> Result<Help, All
         words.put(drm).put(" is ").put(format).put(" here");
         return Ok(Help::of_word(words, format));
     }
-    if PixelFormat::from_name(drm).is_some() {
+    let plain = without_prefix(name);
+    if PixelFormat::from_name(plain).is_some() {
         let mut words = TextBuilder::of(alloc, "it is written ");
-        words.put(drm);
-        return Ok(Help::of_word(words, drm));
+        words.put(plain);
+        return Ok(Help::of_word(words, plain));
+    }
+    if is_one_of(plain, WITHOUT_NAME) {
+        let text = "another format, which has no name here; allowed: ";
+        return Ok(Help::of(listed(alloc, text, known, "or")));
     }
     hint_of_known(alloc, name, known)
 }

@@ -1,19 +1,23 @@
 //! A record's first fault, in words.
 
-use crate::help::Help;
+use crate::help::{Help, did_you_mean};
 use crate::record::document::{Document, RecordPart};
 use crate::record::firsts::put_first_like;
 use crate::record::keys::{SIZE, is_one_of, kind_at, names_of, put_allowed, range_of};
-use crate::record::kinds::{
-    flag_in, is_number_within, nearest_within, sides_in, wrong_kind, wrong_number, wrong_value,
-};
-use crate::record::names::{hint_of_name, listed, names_for};
+use crate::record::kinds::{flag_in, is_number_within, wrong_kind, wrong_number, wrong_value};
+use crate::record::leaving::{lacks_needed, what_goes};
+use crate::record::list_fault::{free_id, is_linear_beside, note_of_list, tiled_formats};
+use crate::record::names::{ANY, hint_of_name, names_for};
+use crate::record::numbers::number_meant;
+use crate::record::objects_meant::{object_of, objects_of};
+use crate::record::on_platform::{colours_text, heap_types, only_tiling};
 use crate::record::owners::places_in;
 use crate::record::paths::{Path, joined, with};
 use crate::record::record_place::place_of;
+use crate::record::sides::{side_of, sides_in, sides_of, size_text};
 use crate::record::unknown::{first_unknown, key_of};
 use crate::record::unknown_key::{Elsewhere, KeyHelp, UnknownKey};
-use explanation_text::{Items, ListBuilder, Meant, Renamed, Step, TextBuilder};
+use explanation_text::{Items, ListBuilder, Meant, Renamed, Step, TextBuilder, nearest};
 use record_reading::{
     Code, ENTRY_FIELDS, Fault, FaultPlace, HEAP_FIELDS, HEAP_NAME_FIELDS, MEMORY_FIELDS,
     PAIR_FIELDS, PLATFORM_FIELDS,
@@ -21,10 +25,7 @@ use record_reading::{
 use serde_json::Value;
 use std::alloc::{AllocError, Global};
 use sysmem_counts::{Field, Kind};
-use sysmem_formats::PixelFormat;
 use sysmem_sanitise::CONSTRAINTS_FIELDS;
-
-const HEAP_TYPE: &str = "heap_type";
 
 const ID: &str = "id";
 
@@ -95,6 +96,7 @@ fn add_value<'a>(
         Code::UnknownName => add_name(items, faulty, value)?,
         Code::WrongKind => add_kind(items, faulty, value)?,
         Code::BadMultiple => add_multiple(items, faulty, value)?,
+        Code::NotAnObject => add_no_object(items, faulty, value)?,
         _ => add_list(items, faulty, value)?,
     }
     Ok(())
@@ -194,10 +196,51 @@ fn add_object<'a>(
 ) -> Result<(), AllocError> {
     let alloc = items.alloc();
     let keys = keys_at(alloc, faulty.fault.at, faulty.path, faulty.is_platform)?;
-    match first_unknown(alloc, faulty.document, faulty.path, &keys)? {
-        Some(unknown) => add_key(items, faulty, &unknown, &keys),
-        None => add_side(items, faulty, value),
+    let Some(unknown) = first_unknown(alloc, faulty.document, faulty.path, &keys)? else {
+        return add_side(items, faulty, value);
+    };
+    match side_of(key_of(&unknown)) {
+        Some(side) if is_one_of(side, &keys) => add_side_key(items, faulty, &unknown, value, side),
+        _ => add_key(items, faulty, &unknown, &keys),
     }
+}
+
+/// A key in the place of which that of a side is meant; both at once where a size has two such, and
+/// stands in one line.
+fn add_side_key(
+    items: &mut Items,
+    faulty: Faulty<'_, '_>,
+    path: &[Step<'_>],
+    size: &Value,
+    side: &str,
+) -> Result<(), AllocError> {
+    let alloc = items.alloc();
+    let document = faulty.document;
+    let note = "unknown key";
+    match sides_of(size) {
+        Some(sides) if is_in_line(alloc, document, faulty.path)? => {
+            let text = size_text(alloc, sides)?;
+            let help = Help::of(did_you_mean(alloc, &text));
+            document.advise(items, faulty.depth, path, RecordPart::Key, note, help);
+            let meant = Some(Meant::Written(text));
+            document.correct(items, faulty.path, RecordPart::Value, meant);
+        }
+        _ => {
+            let help = unless_there(Help::near(alloc, side), Some(size));
+            document.advise(items, faulty.depth, path, RecordPart::Key, note, help);
+            leave_out_key(items, faulty, path, SIZE);
+        }
+    }
+    Ok(())
+}
+
+/// Whether the value at a path stands in one line.
+fn is_in_line(
+    alloc: Global,
+    document: &Document<'_>,
+    path: &[Step<'_>],
+) -> Result<bool, AllocError> {
+    Ok(!document.written(alloc, path)?.contains(&b'\n'))
 }
 
 fn add_key(
@@ -230,7 +273,7 @@ fn add_key(
     if let Some(elsewhere) = elsewhere {
         move_to(items, faulty, path, elsewhere)?;
     }
-    leave_out(items, faulty, path);
+    leave_out_key(items, faulty, path, keys);
     Ok(())
 }
 
@@ -270,27 +313,28 @@ fn move_to(
     Ok(())
 }
 
-/// Keeps that what stands at a path of a record may be left out, where nothing else is known of
-/// what may be meant.
+/// Keeps that what stands at a path of a record may be left out, or what can't do without it, where
+/// nothing else is known of what may be meant.
 fn leave_out(items: &mut Items, faulty: Faulty<'_, '_>, path: &[Step<'_>]) {
-    let path = if is_alone(faulty.document, path) {
-        path.get(..path.len().saturating_sub(1)).unwrap_or(path)
-    } else {
-        path
-    };
-    if faulty.base.len() < path.len() && !items.is_corrected() {
-        faulty.document.leave_out(items, path)
+    if items.is_corrected() {
+        return;
+    }
+    if let Some(gone) = what_goes(faulty.document, faulty.base.len(), path) {
+        faulty.document.leave_out(items, gone)
     }
 }
 
-/// Whether what stands at a path is the only item of its list.
-fn is_alone(document: &Document<'_>, path: &[Step<'_>]) -> bool {
-    let Some((Step::Item(_), list)) = path.split_last() else {
-        return false;
-    };
-    match document.at(list).and_then(Value::as_array) {
-        Some(items) => items.len() == 1,
+/// The same of a member whose key isn't one of those that its object can have: it may stand for one
+/// that the object must have and lacks. Then the object goes.
+fn leave_out_key(items: &mut Items, faulty: Faulty<'_, '_>, path: &[Step<'_>], keys: &[&str]) {
+    let lacks = match faulty.document.at(faulty.path) {
+        Some(object) => lacks_needed(object, keys, faulty.is_platform),
         None => false,
+    };
+    if lacks {
+        leave_out(items, faulty, faulty.path)
+    } else if !items.is_corrected() {
+        faulty.document.leave_out(items, path)
     }
 }
 
@@ -342,7 +386,7 @@ fn add_number(
     let note = wrong_number(items.alloc(), number, written, bounds.0, bounds.1);
     let help = Help {
         words: help,
-        meant: number_meant(faulty.fault.at, number, bounds),
+        meant: number_meant(items.alloc(), faulty.fault.at, number, written, bounds)?,
     };
     faulty
         .document
@@ -351,32 +395,12 @@ fn add_number(
     Ok(())
 }
 
-/// The number that is allowed at a place and nearest to one that isn't; none in the place of a
-/// greatest value below 0, which asks for no limit.
-fn number_meant(at: FaultPlace, number: &Value, bounds: (u64, u64)) -> Option<Meant> {
-    if is_below_zero(number) && at.name().starts_with("max_") {
-        return None;
-    }
-    match (at, nearest_within(number, bounds.0, bounds.1)) {
-        (FaultPlace::At(field), Some(near)) => Some(Meant::Value(field, near)),
-        _ => None,
-    }
-}
-
-/// Whether a value is a whole number below 0.
-fn is_below_zero(value: &Value) -> bool {
-    match value {
-        Value::Number(number) => !number.is_f64() && number.as_u64().is_none(),
-        _ => false,
-    }
-}
-
 fn add_name(items: &mut Items, faulty: Faulty<'_, '_>, value: &Value) -> Result<(), AllocError> {
     let name = value.as_str().unwrap_or("");
     let FaultPlace::At(field) = faulty.fault.at else {
         return Ok(());
     };
-    let hint = hint_of_name(items.alloc(), field, name, faulty.is_platform)?;
+    let hint = hint_at(items.alloc(), faulty, field, name)?;
     faulty.document.advise(
         items,
         faulty.depth,
@@ -389,6 +413,50 @@ fn add_name(items: &mut Items, faulty: Faulty<'_, '_>, value: &Value) -> Result<
     Ok(())
 }
 
+/// What an unknown name may mean; of a modifier of which nothing else is known, the only one of the
+/// platform that is tiled.
+fn hint_at(
+    alloc: Global,
+    faulty: Faulty<'_, '_>,
+    field: Field,
+    name: &str,
+) -> Result<Help, AllocError> {
+    let help = hint_of_name(alloc, field, name, faulty.is_platform)?;
+    let is_tiling = field == Field::PixelFormatModifier && !name.ends_with("INVALID");
+    if !is_tiling || faulty.is_platform || help.meant.is_some() {
+        return Ok(help);
+    }
+    let format = format_beside(faulty);
+    let Some(modifier) = only_tiling(faulty.document, format) else {
+        return Ok(help);
+    };
+    let Help { words, meant: _ } = help;
+    // These words aren't said, but memory that was refused to them is told of.
+    let _unsaid = words.done()?;
+    let mut words = did_you_mean(alloc, modifier);
+    words.put(" It is the only tiled one of the platform");
+    match format {
+        Some(format) if only_tiling(faulty.document, None).is_none() => {
+            words.put(" for ").put(format);
+        }
+        Some(_) => {}
+        None => {
+            words.put(", and counts beside a pixel_format alone");
+        }
+    }
+    Ok(Help::of_word(words, modifier))
+}
+
+/// The format that is named beside the value with the fault.
+fn format_beside<'a>(faulty: Faulty<'a, '_>) -> Option<&'a str> {
+    let (_, object) = faulty.path.split_last()?;
+    let format = faulty.document.at(object)?.get(Field::PixelFormat.name())?;
+    match format.as_str() {
+        Some(name) if name == ANY => None,
+        format => format,
+    }
+}
+
 fn add_kind(items: &mut Items, faulty: Faulty<'_, '_>, value: &Value) -> Result<(), AllocError> {
     let at = faulty.fault.at;
     let is_item = matches!(faulty.path.last(), Some(Step::Item(_)));
@@ -396,7 +464,7 @@ fn add_kind(items: &mut Items, faulty: Faulty<'_, '_>, value: &Value) -> Result<
     let note = wrong_value(items.alloc(), at.name(), value, written, is_item);
     let help = Help {
         words: help_allowed(items.alloc(), "allowed", at, faulty.is_platform),
-        meant: value_meant(items.alloc(), faulty, value, is_item)?,
+        meant: value_meant(items.alloc(), faulty, value, written, is_item)?,
     };
     faulty.document.tell(
         items,
@@ -411,24 +479,66 @@ fn add_kind(items: &mut Items, faulty: Faulty<'_, '_>, value: &Value) -> Result<
 }
 
 /// What may be meant by a value of a wrong kind, which is an item of a list or not: the nearest
-/// number that is allowed; true or false, or a width and a height, that are written otherwise; or a
-/// list of a name or an object that stands without brackets.
+/// number that is allowed; true or false, or a width and a height, that are written otherwise; a
+/// heap of the platform; or a list of a name or an object that stands without brackets.
 fn value_meant(
     alloc: Global,
     faulty: Faulty<'_, '_>,
     value: &Value,
+    written: &[u8],
     is_item: bool,
 ) -> Result<Option<Meant>, AllocError> {
     let at = faulty.fault.at;
     let is_list = match kind_at(at.name()) {
-        Kind::Number | Kind::Limit => return Ok(number_meant(at, value, range_of(at.name()))),
+        Kind::Number | Kind::Limit => {
+            return number_meant(alloc, at, value, written, range_of(at.name()));
+        }
         Kind::Flag => return Ok(flag_meant(at, value)),
         Kind::Sides => return sides_meant(alloc, value),
+        Kind::Name => return heap_meant(alloc, faulty, value),
         Kind::Names if !is_item => is_known(alloc, at, value, faulty.is_platform)?,
-        Kind::Objects if !is_item => value.is_object(),
+        Kind::Objects if !is_item && !value.is_object() => {
+            return listed_meant(alloc, faulty, value);
+        }
+        Kind::Objects if !is_item => true,
         _ => false,
     };
     Ok(if is_list { Some(Meant::List) } else { None })
+}
+
+/// The type of a heap of the platform that is near a text which can't be one.
+fn heap_meant(
+    alloc: Global,
+    faulty: Faulty<'_, '_>,
+    value: &Value,
+) -> Result<Option<Meant>, AllocError> {
+    let Some(name) = value.as_str() else {
+        return Ok(None);
+    };
+    if faulty.fault.at != FaultPlace::At(Field::HeapType) || faulty.is_platform {
+        return Ok(None);
+    }
+    let types = heap_types(alloc, faulty.document)?;
+    Ok(match nearest(alloc, name, &types)? {
+        Some(near) => Some(Meant::Word(String::from_str(alloc, near)?)),
+        None => None,
+    })
+}
+
+/// A list of the object that is meant by a name.
+fn listed_meant(
+    alloc: Global,
+    faulty: Faulty<'_, '_>,
+    value: &Value,
+) -> Result<Option<Meant>, AllocError> {
+    let FaultPlace::At(field) = faulty.fault.at else {
+        return Ok(None);
+    };
+    let Some(object) = object_of(alloc, faulty.document, field, value)? else {
+        return Ok(None);
+    };
+    let list = format!(in alloc; "[{object}]")?;
+    Ok(Some(Meant::Written(list)))
 }
 
 /// True or false, where it is written as a text or as 1 or 0.
@@ -441,11 +551,10 @@ fn flag_meant(at: FaultPlace, value: &Value) -> Option<Meant> {
 
 /// A width and a height, where they are written as a list or as a text.
 fn sides_meant(alloc: Global, value: &Value) -> Result<Option<Meant>, AllocError> {
-    let Some((width, height)) = sides_in(value) else {
+    let Some(sides) = sides_in(value) else {
         return Ok(None);
     };
-    let written = format!(in alloc; "{{\"width\": {width}, \"height\": {height}}}")?;
-    Ok(Some(Meant::Written(written)))
+    Ok(Some(Meant::Written(size_text(alloc, sides)?)))
 }
 
 /// Whether a value is one of the names that a field takes.
@@ -482,22 +591,73 @@ fn add_multiple(
     add_number(items, faulty, &path, number, (1, 65536), help)
 }
 
-/// A list that is empty, too long or has an item twice, a value that is no object, or a tiled
-/// modifier that doesn't go with its format.
+/// A value that is no object; names that stand for objects mean these.
+fn add_no_object(
+    items: &mut Items,
+    faulty: Faulty<'_, '_>,
+    value: &Value,
+) -> Result<(), AllocError> {
+    let alloc = items.alloc();
+    let (document, depth, path) = (faulty.document, faulty.depth, faulty.path);
+    let part = RecordPart::Value;
+    let note = wrong_kind(alloc, value, "an object is").done()?;
+    match objects_meant(alloc, faulty, value)? {
+        Some((meant_at, text)) => {
+            let help = Help::of(did_you_mean(alloc, &text));
+            document.advise(items, depth, path, part, &note, help);
+            document.correct(items, meant_at, part, Some(Meant::Written(text)));
+        }
+        None => {
+            document.point(items, depth, path, part, &note, &[]);
+            leave_out(items, faulty, path);
+        }
+    }
+    Ok(())
+}
+
+/// The objects that are meant by a list of names, where it stands in one line, or else the object
+/// that is meant by the name with the fault; and the path of what means them.
+fn objects_meant<'a, 'b>(
+    alloc: Global,
+    faulty: Faulty<'a, 'b>,
+    value: &Value,
+) -> Result<Option<(&'b [Step<'a>], String)>, AllocError> {
+    let (FaultPlace::At(field), Some((Step::Item(_), list))) = (
+        faulty.fault.at,
+        faulty.path.split_last(),
+    ) else {
+        return Ok(None);
+    };
+    let document = faulty.document;
+    let names = document.at(list).and_then(Value::as_array);
+    if let Some(names) = names
+        && names.len() > 1
+        && is_in_line(alloc, document, list)?
+        && let Some(text) = objects_of(alloc, document, field, names)?
+    {
+        return Ok(Some((list, text)));
+    }
+    let text = object_of(alloc, document, field, value)?;
+    Ok(text.map(|text| (faulty.path, text)))
+}
+
+/// A list that is empty, too long or has an item twice, or a tiled modifier that doesn't go with its
+/// format.
 fn add_list(items: &mut Items, faulty: Faulty<'_, '_>, value: &Value) -> Result<(), AllocError> {
     let is_empty = matches!(value.as_array(), Some(list) if list.is_empty());
     let helps = helps_of_list(items.alloc(), faulty, is_empty)?;
-    let note = note_of_list(items.alloc(), faulty.fault.code, value, is_empty).done()?;
+    let note = note_of_list(faulty.fault.code, is_empty);
     faulty.document.point(
         items,
         faulty.depth,
         faulty.path,
         RecordPart::Value,
-        &note,
+        note,
         &helps,
     );
     match faulty.fault.code {
         Code::TiledMisfit => leave_out_modifier(items, faulty)?,
+        Code::NoColourSpaces => mean_colours(items, faulty)?,
         Code::BadPlatformList if !is_empty => mean_free_id(items, faulty, value)?,
         _ => {}
     }
@@ -511,7 +671,7 @@ fn mean_free_id(items: &mut Items, faulty: Faulty<'_, '_>, heap: &Value) -> Resu
         return Ok(());
     };
     let heaps = faulty.document.at(list).and_then(Value::as_array);
-    let (Some(heaps), Some(_)) = (heaps, heap.get(HEAP_TYPE)) else {
+    let (Some(heaps), Some(_)) = (heaps, heap.get(Field::HeapType.name())) else {
         return Ok(());
     };
     let id = free_id(heaps, heap);
@@ -528,50 +688,31 @@ fn mean_free_id(items: &mut Items, faulty: Faulty<'_, '_>, heap: &Value) -> Resu
     Ok(())
 }
 
-/// The least id that no heap of the type of one has.
-fn free_id(heaps: &[Value], heap: &Value) -> u64 {
-    let mut id = 0u64;
-    for _heap in heaps {
-        if !heaps.iter().any(|other| has_id(other, heap, id)) {
-            break;
-        }
-        id = id.saturating_add(1);
-    }
-    id
-}
-
-/// Whether a heap has the type of another, and this id.
-fn has_id(other: &Value, heap: &Value, id: u64) -> bool {
-    let known = match other.get(ID) {
-        Some(known) => known.as_u64(),
-        None => Some(0),
-    };
-    let (a, b) = (other.get(HEAP_TYPE), heap.get(HEAP_TYPE));
-    known == Some(id) && a.and_then(Value::as_str) == b.and_then(Value::as_str)
-}
-
-/// Keeps that the modifier beside a format may be left out.
-fn leave_out_modifier(items: &mut Items, faulty: Faulty<'_, '_>) -> Result<(), AllocError> {
-    let Some((_, object)) = faulty.path.split_last() else {
+/// Keeps that an entry without colour spaces may be meant to have those of the platform.
+fn mean_colours(items: &mut Items, faulty: Faulty<'_, '_>) -> Result<(), AllocError> {
+    let alloc = items.alloc();
+    if !is_in_line(alloc, faulty.document, faulty.path)? {
         return Ok(());
-    };
-    let name = Field::PixelFormatModifier.name();
-    let path = with(items.alloc(), object, Step::Key(name))?;
-    faulty.document.leave_out(items, &path);
+    }
+    let meant = colours_text(alloc, faulty.document)?.map(|text| Meant::Written(text));
+    faulty
+        .document
+        .correct(items, faulty.path, RecordPart::Value, meant);
     Ok(())
 }
 
-/// What is wrong with a list, with one of its items, or with what stands for an object.
-fn note_of_list(alloc: Global, code: Code, value: &Value, is_empty: bool) -> TextBuilder {
-    let note = match code {
-        Code::NotAnObject => return wrong_kind(alloc, value, "an object is"),
-        Code::TooMany => "the 65th",
-        Code::TiledMisfit => "a tiled modifier doesn't go with this format",
-        _ if is_empty => "the list is empty",
-        Code::BadUsage => "no other usage may stand beside \"none\"",
-        _ => "given before",
-    };
-    TextBuilder::of(alloc, note)
+/// Keeps that the modifier beside a format may be left out, if the format doesn't stand there
+/// without one as well.
+fn leave_out_modifier(items: &mut Items, faulty: Faulty<'_, '_>) -> Result<(), AllocError> {
+    let is_member = matches!(faulty.path.last(), Some(Step::Key(_)));
+    let steps = faulty.path.len().saturating_sub(usize::from(is_member));
+    let object = faulty.path.get(..steps).unwrap_or(faulty.path);
+    if !is_linear_beside(faulty.document, object) {
+        let name = Field::PixelFormatModifier.name();
+        let path = with(items.alloc(), object, Step::Key(name))?;
+        faulty.document.leave_out(items, &path);
+    }
+    Ok(())
 }
 
 /// What helps there.
@@ -582,7 +723,6 @@ fn helps_of_list(
 ) -> Result<Vec<String>, AllocError> {
     let at = faulty.fault.at;
     let help = match faulty.fault.code {
-        Code::NotAnObject => return Ok(Vec::new(alloc)),
         Code::TooMany => TextBuilder::of(alloc, "allowed: at most 64"),
         Code::TiledMisfit => tiled_formats(alloc)?,
         Code::BadUsage => help_allowed(alloc, "allowed", FaultPlace::At(Field::Usage), false),
@@ -591,17 +731,6 @@ fn helps_of_list(
     };
     let help = help.done()?;
     Ok(vec![in alloc; help]?)
-}
-
-/// The formats that go with tiles, in words.
-fn tiled_formats(alloc: Global) -> Result<TextBuilder, AllocError> {
-    let mut names = Vec::new(alloc);
-    for format in &PixelFormat::ALL {
-        if format.pixel_bytes() == 4 {
-            names.push(format.name())?;
-        }
-    }
-    Ok(listed(alloc, "tiles go with formats of 4 bytes: ", &names, "and"))
 }
 
 /// Where what is given twice stands first, and which names count as equal.
