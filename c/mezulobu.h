@@ -510,7 +510,7 @@ int mezulobu_collection_close(struct mezulobu_collection **collection);
  *     S4 pixel_format
  *      --> record:1:62: image_format_constraints[0].pixel_format
  *       |
- *     1 | ...aints":[{"pixel_format":"NV21","color_spaces":["SRGB"]}]}
+ *     1 | ...aints":[{"pixel_format":"nv12","color_spaces":["SRGB"]}]}
  *       |                            ^^^^^^ unknown name
  *       = did you mean NV12?
  *

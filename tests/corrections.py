@@ -65,10 +65,11 @@ def line_at(text, at):
     return text.count("\n", 0, at) + 1
 
 
-def item_around(parts, part):
-    """The item of a list that is a part, or in which that stands; the nearest."""
+def item_around(text, parts, part, mark):
+    """The item of a list that begins with a mark, and is a part or has it; the nearest."""
     ends = [k for k, step in enumerate(part.path, 1) if isinstance(step, int)]
-    return parts[part.path[: ends[-1]]]
+    around = [parts[part.path[:end]] for end in reversed(ends)]
+    return next((one for one in around if text[one.value] == mark), around[0])
 
 
 def cut(text, part):
@@ -94,14 +95,16 @@ def name_of(text, part):
 
 
 def left_out(text, parts, fault, what):
-    """A member or an item goes: that at the fault, a member beside it, or the list of which it is the only item; or an
-    object or a list that is an item."""
+    """A member or an item goes: that at the fault, a member beside it or in it, or a member that has it; or an object or
+    a list that is an item and has it."""
     path = fault.part.path
     if what in ("the object", "the list"):
-        gone = item_around(parts, fault.part)
-        is_meant = text[gone.value] == {"the object": "{", "the list": "["}[what]
+        mark = {"the object": "{", "the list": "["}[what]
+        gone = item_around(text, parts, fault.part, mark)
+        is_meant = text[gone.value] == mark
     else:
-        near = [fault.part, *(one for one in parts.values() if one.path[:-1] == path[:-1]), parts[path[:-1]]]
+        near = [fault.part, *(one for one in parts.values() if one.path[:-1] in (path[:-1], path))]
+        near += [parts[path[:end]] for end in range(len(path) - 1, 0, -1)]
         gone = next((one for one in near if one.path and name_of(text, one) == what), fault.part)
         is_meant = name_of(text, gone) == what
     judge(is_meant, f"{what} isn't at {path_words(path)}")
@@ -156,11 +159,14 @@ def bracketed(text, _parts, fault, what):
     return [part.value], [(part.value, part.end, f"[{value}]")]
 
 
-def sides_written(text, _parts, fault, sides, was):
-    """A width and a height stand in an object."""
-    part = fault.part
-    judge(visible(text[part.value : part.end]) == was, f"{was} isn't at {path_words(part.path)}")
-    return [part.value], [(part.value, part.end, sides)]
+def json_written(text, parts, fault, new, was):
+    """An object or a list stands in the place of what is at the fault, or has it."""
+    path = fault.part.path
+    near = [fault.part, parts[path[:-1]]]
+    part = next((one for one in near if visible(text[one.value : one.end]) == was), None)
+    judge(part, f"{was} isn't at {path_words(path)}")
+    part = part or fault.part
+    return [part.value], [(part.value, part.end, new)]
 
 
 def replaced(text, parts, fault, field, known, was):
@@ -190,7 +196,7 @@ AT_FAULTS = {
     r"brackets around (.+)": bracketed,
     r"call (\d+) left out": call_left_out,
     r"(.*) left out": left_out,
-    r'(\{"width": \d+, "height": \d+\}) in the place of (.+)': sides_written,
+    r"([\[{].+[\]}]) in the place of (.+)": json_written,
     r"(?:(\w+) )?(\S+) in the place of (.*)": replaced,
 }
 

@@ -82,11 +82,11 @@ the record is empty, where an object is due
 """,
     (
         OF_PARTICIPANT,
-        b'{"usage":["cpu"],"image_format_constraints":[{"pixel_format":"NV21","color_spaces":["SRGB"]}]}',
+        b'{"usage":["cpu"],"image_format_constraints":[{"pixel_format":"nv12","color_spaces":["SRGB"]}]}',
     ): """S4 pixel_format
  --> record:1:62: image_format_constraints[0].pixel_format
   |
-1 | ...aints":[{"pixel_format":"NV21","color_spaces":["SRGB"]}]}
+1 | ...aints":[{"pixel_format":"nv12","color_spaces":["SRGB"]}]}
   |                            ^^^^^^ unknown name
   = did you mean NV12?
 """,

@@ -441,7 +441,7 @@ fn hint_at(
         }
         Some(_) => {}
         None => {
-            words.put(", and counts beside a pixel_format alone");
+            words.put(", but counts only beside a pixel_format");
         }
     }
     Ok(Help::of_word(words, modifier))
