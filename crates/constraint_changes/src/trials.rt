@@ -25,4 +25,4 @@ pub use promising::{Promise, put_choice, put_exchanged, put_promise};
 pub use restating::{RestatedConstraints, copied, restated};
 pub use trying::{MOST_HALVINGS, Trial, TrialResult, chosen_with, reached_by};
 pub use unmet::{ReadRecord, change_leaves_none, has_groups, leave_none, leaves_none};
-pub use worth::{are_sized, is_worth, lacking_pair, lacks_image};
+pub use worth::{are_sized, is_image_named, is_worth, lacking_pair, lacks_image};

@@ -90,8 +90,8 @@ fn is_number(item: &Item) -> bool {
 }
 
 /// Tells of the domain of an index, which is chosen, how many buffers there are and how large an
-/// image is, and why. It stands as deep as the decision, and right after the choice of children if
-/// there is one.
+/// image is, and why; nothing of children that aren't chosen. It stands as deep as the decision, and
+/// right after the choice of children if there is one.
 pub(crate) fn add_numbers(
     items: &mut Items,
     scenario: &Scenario<'_>,
@@ -104,7 +104,7 @@ pub(crate) fn add_numbers(
     add_domain(&mut section, scenario.platform, story, index)?;
     let mut numbers = Items::new(alloc);
     for item in section.into_list()? {
-        if is_number(&item) {
+        if item.depth < 2 && is_number(&item) {
             numbers.add(item);
         }
     }

@@ -3,7 +3,7 @@
 use crate::preferred::alike::try_alike;
 use crate::preferred::telling::Found;
 use crate::preferred::wish::{Goal, Settled, Wish, settled_by};
-use crate::trials::lacks_image;
+use crate::trials::{is_image_named, lacks_image};
 use constraint_edits::Edit;
 use std::alloc::AllocError;
 use sysmem_formats::{ColourSpace, Offer, Pair};
@@ -35,7 +35,8 @@ pub(crate) fn try_colours(
     Ok(())
 }
 
-/// Tries that the only one of participants who doesn't take a pair in a colour space does so.
+/// Tries that the only one of participants who doesn't take a pair in a colour space does so, if
+/// another one names it.
 fn try_colour(
     found: &mut Found,
     wish: Wish<'_, '_>,
@@ -43,6 +44,9 @@ fn try_colour(
     pair: Pair,
     colour: ColourSpace,
 ) -> Result<(), AllocError> {
+    if !is_image_named(selected, pair, colour) {
+        return Ok(());
+    }
     let Some(participant) = only_lacking(selected, pair, colour) else {
         return Ok(());
     };

@@ -89,6 +89,22 @@ fn lacking_image(participants: &[NamedParticipant<'_>], pair: Pair, colour: Colo
     lacking
 }
 
+/// Whether somebody names a colour space for a pair, and takes it not only as any.
+pub fn is_image_named(
+    participants: &[NamedParticipant<'_>],
+    pair: Pair,
+    colour: ColourSpace,
+) -> bool {
+    for participant in participants {
+        for entry in participant.asked.entries() {
+            if is_taken(entry, pair) && entry.colours.lists(colour) {
+                return true;
+            }
+        }
+    }
+    false
+}
+
 /// Whether somebody needs secure memory.
 fn is_secure_required(participants: &[NamedParticipant<'_>]) -> bool {
     for participant in participants {
