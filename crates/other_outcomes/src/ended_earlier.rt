@@ -71,8 +71,8 @@ pub fn add_ended_earlier<'a>(
     }
 }
 
-/// Those without whose end so many buffers wouldn't do for an attached domain: each by itself, or all
-/// if one isn't enough; none if they would do.
+/// Those without whose end so many buffers wouldn't do for an attached domain: each by itself, or
+/// all if one isn't enough; none if they would do.
 fn needed_ends(
     alloc: Global,
     story: &Story<'_>,
@@ -138,8 +138,8 @@ fn ends_of(
     Ok(ends)
 }
 
-/// Those of some ends after which alone nothing would be chosen in the domain at a path, if they came
-/// after the call of a number.
+/// Those of some ends of which each alone, if it came after the call of a number, would leave
+/// nothing chosen in the domain at a path.
 fn roomless_without(
     alloc: Global,
     scenario: &Scenario<'_>,
@@ -219,8 +219,8 @@ fn is_so_without(
     }
 }
 
-/// Since when it has room: `it has room only since call 11 released first`; of those that come late in
-/// what is tried, which are all of them, or else the first of several that are all needed.
+/// Since when it has room: `it has room only since call 11 released first`. Those that come late in
+/// what is tried are all of them, or the first of several that are all needed.
 fn since_text(alloc: Global, story: &Story<'_>, ends: &[End], late: &[End]) -> TextBuilder {
     let are_each = late.len() < ends.len();
     let are_together = !are_each && ends.len() > 1;
@@ -237,8 +237,8 @@ fn since_text(alloc: Global, story: &Story<'_>, ends: &[End], late: &[End]) -> T
     text
 }
 
-/// Puts what is tried after a text: `; with call 11 after call 12, or left out, it would be, with the
-/// calls numbered anew:`.
+/// Puts what is tried after a text: `; with call 11 after call 12, or left out, it would be, with
+/// the calls numbered anew:`.
 fn put_tried(text: &mut TextBuilder, late: &[End], decided: usize, never: bool) {
     text.put("; with ");
     put_calls(text, late);

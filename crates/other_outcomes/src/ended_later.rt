@@ -85,8 +85,8 @@ fn add_ends(
     Ok(())
 }
 
-/// Those of some ends of which each alone, before the call of a number, would be enough for the domain
-/// at a path: as what it would be with the first.
+/// Those of some ends of which each alone, before the call of a number, would be enough for the
+/// domain at a path: it would be the same with each.
 fn enough_alone(
     alloc: Global,
     scenario: &Scenario<'_>,
@@ -116,8 +116,8 @@ fn is_as(said: &Option<String>, outcome: &Outcome) -> bool {
     }
 }
 
-/// Tells that those still count, and what the domain at a path would be if some of them ended before
-/// the call of a number, if it would be chosen, and says whether it would.
+/// Tells that those still count, and what the domain at a path would be if some of them ended
+/// before the call of a number, if it would be chosen, and says whether it would.
 fn add_before(
     items: &mut Items,
     scenario: &Scenario<'_>,

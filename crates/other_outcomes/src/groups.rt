@@ -73,8 +73,8 @@ fn is_behind(alloc: Global, story: &Story<'_>, group: usize) -> Result<bool, All
     }
 }
 
-/// Adds a group with each one of its parent that was made before it, the nearest first: so the least
-/// move that chooses others is told.
+/// Adds a group with each one of its parent that was made before it, the nearest first: so the
+/// least move that chooses others is told.
 fn add_pairs(pairs: &mut Vec<Groups>, story: &Story<'_>, second: usize) -> Result<(), AllocError> {
     let (Some(parent), Some(later)) = (story.parent(second), story.maker(second)) else {
         return Ok(());

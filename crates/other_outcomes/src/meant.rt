@@ -61,8 +61,8 @@ pub fn list_meant(
     Ok(Some(other))
 }
 
-/// The calls that may mean something else since one was refused: a child, or another node where just
-/// one suits it.
+/// The calls that may mean something else since one was refused: a child, or another node where
+/// just one suits it.
 fn meant_in(alloc: Global, story: &Story<'_>) -> Result<Vec<MeantCall>, AllocError> {
     let mut meant = Vec::new(alloc);
     for (index, call) in story.calls.iter().enumerate() {
@@ -315,8 +315,8 @@ fn add_meant(items: &mut Items, story: &Story<'_>, meant: &[MeantCall]) {
     items.say(1, Label::Then, words)
 }
 
-/// Puts on which nodes calls are made after a text: `call 5 on camera and call 6 on display`; whether
-/// some are.
+/// Puts on which nodes calls are made after a text: `call 5 on camera and call 6 on display`;
+/// whether some are.
 fn put_on_nodes(text: &mut TextBuilder, story: &Story<'_>, meant: &[MeantCall]) -> bool {
     let mut are_some = false;
     for one in meant {

@@ -48,8 +48,8 @@ pub fn add_without<'a>(
     }
 }
 
-/// Whether a call on a group was refused of which it may be told elsewhere how it is to be made: any
-/// but one that only wants a child, where no child was to be made.
+/// Whether a call on a group was refused of which it may be told elsewhere how it is to be made:
+/// any but one that only wants a child.
 fn is_one_mended(story: &Story<'_>) -> bool {
     for call in &story.calls {
         let on_group = match call.node {
