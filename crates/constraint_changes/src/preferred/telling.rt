@@ -154,7 +154,8 @@ pub(crate) fn put_wanted(
         end: found.items.len().saturating_add(1),
         stated,
         is_sized_otherwise,
-    })
+    })?;
+    Ok(())
 }
 
 /// Whether a decision may be meant in the place of the one that came: of a tiny image only where
