@@ -7,10 +7,11 @@ use script_story::{Milestone, Story, asked_in};
 use serde_json::Value;
 use std::alloc::{AllocError, Global};
 use sysmem_counts::Field;
+use sysmem_formats::Modifier;
 use value_sources::NamedParticipant;
 
 /// What a pair has that states no modifier.
-const ABSENT: &str = "LINEAR";
+const ABSENT: Modifier = Modifier::Linear;
 
 /// Tells, so deep, which entries of those who have constraints in the domain of an index state a
 /// modifier that has no effect, since they have further pairs and no format of their own.
@@ -65,7 +66,8 @@ fn is_idle(entry: &Value) -> bool {
         .get(Field::PixelFormatModifier.name())
         .and_then(Value::as_str);
     match modifier {
-        Some(modifier) => modifier != ABSENT && entry.get(Field::PixelFormat.name()).is_none(),
+        Some(modifier) => modifier != ABSENT.name()
+            && entry.get(Field::PixelFormat.name()).is_none(),
         None => false,
     }
 }
@@ -102,6 +104,8 @@ fn sentence(
     words
         .put(" has no effect, since the entry has no ")
         .field(Field::PixelFormat)
-        .put(" of its own; its pairs have their own modifiers, LINEAR where none is stated");
+        .put(" of its own; its pairs have their own modifiers, ")
+        .modifier(ABSENT)
+        .put(" where none is stated");
     words
 }

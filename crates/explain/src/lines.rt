@@ -116,13 +116,20 @@ struct Told<'a> {
 }
 
 impl Told<'_> {
-    /// Whether one that tells of the domain names a thing; those are left out that list who has
+    /// Whether one that tells of the domain names a node; those are left out that list who has
     /// constraints.
-    fn names(&self, thing: Thing) -> bool {
+    fn names_node(&self, node: usize) -> bool {
         self.items
             .iter()
             .zip(self.is_own)
-            .any(|(item, is_own)| *is_own && names(item, thing))
+            .any(|(item, is_own)| *is_own && names(item, Thing::Node(node)))
+    }
+
+    /// Whether one of these names a node and a field.
+    fn names_of(&self, node: usize, field: Field) -> bool {
+        self.items.iter().zip(self.is_own).any(|(item, is_own)| {
+            *is_own && names(item, Thing::Node(node)) && names(item, Thing::Field(field))
+        })
     }
 
     /// Whether one that tells of the domain tells a change of a field that the constraints of a
@@ -196,12 +203,12 @@ fn rows_of(
     told: Told<'_>,
 ) -> Result<Vec<Text>, AllocError> {
     let mut rows: Vec<Text> = Vec::new(alloc);
-    let fields = fields_in(alloc, told)?;
     for (node, known) in story.nodes.iter().enumerate() {
-        if known.domain != domain || rows.len() >= MOST || !told.names(Thing::Node(node)) {
+        if known.domain != domain || rows.len() >= MOST || !told.names_node(node) {
             continue;
         }
         if let Some(number) = story.milestone(node, Milestone::SetConstraints) {
+            let fields = fields_of(alloc, told, node)?;
             let left = without_placed(alloc, told, &fields, number)?;
             let lines = lines_of(alloc, document, &left, number)?;
             if !lines.is_empty() {
@@ -230,11 +237,11 @@ fn is_counted(item: &Item, thing: Thing) -> bool {
     }
 }
 
-/// The fields that those name that tell of the domain.
-fn fields_in(alloc: Global, told: Told<'_>) -> Result<Vec<Field>, AllocError> {
+/// The fields that those name with a node that tell of the domain.
+fn fields_of(alloc: Global, told: Told<'_>, node: usize) -> Result<Vec<Field>, AllocError> {
     let mut fields = Vec::new(alloc);
     for field in &Field::ALL {
-        if is_told(*field) && told.names(Thing::Field(*field)) {
+        if is_told(*field) && told.names_of(node, *field) {
             fields.push(*field)?;
         }
     }
