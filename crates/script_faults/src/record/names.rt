@@ -1,6 +1,6 @@
 //! The names of the profile, and other people's names for what it has.
 
-use crate::help::Help;
+use crate::help::{Help, did_you_mean};
 use crate::record::keys::{Table, found, is_one_of};
 use bitflags::Flags;
 use drm_images::letters_of;
@@ -185,6 +185,17 @@ const WITHOUT_NAME: &[&str] = &[
     "ABGR2101010",
 ];
 
+/// Formats by their bytes in memory, as APIs of GPUs name them; DRM's of such names have none here.
+const FORMATS_OF_BYTES: Table = &[
+    ("BGRA8888", "B8G8R8A8"),
+    ("BGRX8888", "B8G8R8X8"),
+    ("RGBA8888", "R8G8B8A8"),
+    ("RGBX8888", "R8G8B8X8"),
+    ("BGRA_8888", "B8G8R8A8"),
+    ("RGBA_8888", "R8G8B8A8"),
+    ("RGBX_8888", "R8G8B8X8"),
+];
+
 /// What an unknown name at a field may mean, in words; or else the names that the field takes.
 pub(crate) fn hint_of_name(
     alloc: Global,
@@ -251,6 +262,11 @@ fn hint_of_format(alloc: Global, name: &str, known: &[&str]) -> Result<Help, All
     if let Some(format) = format_of_drm(drm) {
         let mut words = TextBuilder::of(alloc, "DRM's ");
         words.put(drm).put(" is ").put(format).put(" here");
+        return Ok(Help::of_word(words, format));
+    }
+    if let Some(format) = found(FORMATS_OF_BYTES, name) {
+        let mut words = did_you_mean(alloc, format);
+        words.put(" Here formats are named by their bytes in memory");
         return Ok(Help::of_word(words, format));
     }
     let plain = without_prefix(name);
