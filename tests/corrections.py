@@ -237,12 +237,15 @@ def quoted(text, at, what):
 
 def mark_added(text, at, what):
     """A mark or brackets are added: a quote before the marks at the end of its line; a comma, and brackets that aren't
-    at the text's end, right after the value before."""
+    at the text's end, right after the value before: of a list that goes on with a key, the value before that."""
     if what == "a double quote":
         end = text.find("\n", at)
         place = len(text[: end if end >= 0 else len(text)].rstrip(" \t\r\n,]}"))
     elif at < len(text) and what not in ("a colon", "0"):
-        place = len(text[:at].rstrip())
+        front = text[:at].rstrip()
+        if text[at] == ":":
+            front = front[: front.rindex('"', 0, -1)].rstrip()
+        place = len(front.removesuffix(",").rstrip())
     else:
         place = at
     return place, place, {"a comma": ",", "a colon": ":", "a double quote": '"'}.get(what, what)

@@ -63,6 +63,15 @@ def with_heap(constraints, new, old):
         heaps[known.index(heap_of(old))] = heap_of(new)
 
 
+def with_heap_alone(constraints, was, new):
+    """Permits a heap alone, where these are told to be permitted."""
+    memory = constraints.setdefault(MEMORY, {})
+    known = [f"{heap['heap_type']}#{heap.get('id', 0)}" for heap in memory.get("permitted_heaps", [])]
+    told = re.split(", | and ", was.removesuffix(" more"))
+    judge(was == "(absent)" if not known else known[:len(told)][:3] == told[:3], f"{known} are told to be {was}")
+    memory["permitted_heaps"] = [heap_of(new)]
+
+
 def without_cpu(constraints):
     """Takes the use by a CPU away; what uses nothing else has the usage none."""
     constraints["usage"] = [usage for usage in constraints["usage"] if usage != "cpu"] or ["none"]
@@ -77,6 +86,7 @@ def taken(constraints, what):
         what,
     )
     heap = re.fullmatch(r"permitted_heaps with (\S+) (?:too|in the place of (\S+))", what)
+    alone = re.fullmatch(r"permitted_heaps (.+) becomes (\S+#\d+)", what)
     first = re.fullmatch(r"entry (\d+) \(.*\) put first", what)
     if exchange:
         exchanged(constraints, exchange[1], exchange[2])
@@ -89,12 +99,14 @@ def taken(constraints, what):
         constraints[ENTRIES].insert(0, entry_like(like, pair[1]))
     elif heap:
         with_heap(constraints, heap[1], heap[2])
+    elif alone:
+        with_heap_alone(constraints, alone[1], alone[2])
     elif first:
         constraints[ENTRIES].insert(0, constraints[ENTRIES].pop(int(first[1]) - 1))
     elif what in ("usage without cpu", "usage cpu becomes none"):
         without_cpu(constraints)
         return True
-    return bool(exchange or colour or pair or heap or first)
+    return bool(exchange or colour or pair or heap or alone or first)
 
 
 def places_of(constraints, field):
@@ -109,15 +121,27 @@ def spelled(value):
     return f"{value['width']}x{value['height']}" if isinstance(value, dict) else json.dumps(value)
 
 
-def leave_idle_out(script, constraints, field, was):
-    """Leaves a field out of the entries whose value isn't told: it asks for nothing there, so the report stays."""
+def keep_untold(constraints, field, was, amount):
+    """Takes a field out of the entries whose value isn't told, and gives what puts it back: by it they ask for no more
+    than with the amount that others get."""
     values = re.split(", | and ", was)
-    idle = [entry for entry in constraints.get(ENTRIES, []) if field in entry and spelled(entry[field]) not in values]
-    if idle and not was.endswith(" more"):
-        before = report_of(script)
-        for entry in idle:
-            del entry[field]
-        judge(report_of(script) == before, f"{field} asks for something where it isn't told to be {was}")
+    kept = [entry for entry in constraints.get(ENTRIES, []) if field in entry and spelled(entry[field]) not in values]
+    if was.endswith(" more"):
+        return lambda: None
+    stated = [(entry, entry.pop(field)) for entry in kept]
+    is_greatest = field.startswith("max_") or field == "required_min_size"
+    for _, value in stated:
+        sides = zip(sides_of(value), sides_of(amount))
+        judge(
+            all(own >= new if is_greatest else own <= new for own, new in sides),
+            f"{field} asks for more where it isn't told to be {was}: {value}",
+        )
+    return lambda: [entry.update({field: value}) for entry, value in stated]
+
+
+def sides_of(value):
+    """A size's width and height, or a number."""
+    return [value["width"], value["height"]] if isinstance(value, dict) else [value]
 
 
 def with_field(constraints, field, was, change):
@@ -169,8 +193,9 @@ def changed(script, words):
         field, was, value = re.fullmatch(rf"(\w+) (.+) becomes ([\dx]+){BESIDE}", what).groups()
         sides = [int(side) for side in value.split("x")]
         amount = sides[0] if len(sides) == 1 else {"width": sides[0], "height": sides[1]}
-        leave_idle_out(script, constraints, field, was)
+        put_back = keep_untold(constraints, field, was, amount)
         with_field(constraints, field, was, lambda place: place.update({field: amount}))
+        put_back()
     return script
 
 
@@ -199,6 +224,12 @@ def put_first(script, words):
     entries = script["calls"][int(number) - 1]["constraints"][ENTRIES]
     entries.insert(0, entries.pop(int(entry) - 1))
     return script
+
+
+def taking_pair(script, words):
+    """A script in which a participant takes a pair in an entry more."""
+    who, what = re.fullmatch(r"if (\S+ \(call \d+\)) took (.*), it would be:", words).groups()
+    return changed(script, f"{who}: {what}")
 
 
 def keep_firsts(name, text, bytes_of):
@@ -406,6 +437,7 @@ OTHERWISE = {
     " moved after ": moved,
     " the script has, its calls numbered anew:": added,
     " put first it": put_first,
+    ") took pixel_format ": taking_pair,
     " released it would be": ended,
     " complete it would be": ended,
 }

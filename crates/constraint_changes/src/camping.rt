@@ -1,18 +1,21 @@
-//! A count of buffers for camping that may be meant of all buffers.
+//! Counts of buffers for camping that may be meant of all buffers.
 
 ghost use Rattle.std.specs.Prelude.{map};
 ghost use Rattle.script_reading.specs.Seen.{call_seen};
 ghost use Rattle.constraint_changes.specs.Edited.{IsPromised, edits_of};
 
 use crate::changes::Search;
+use crate::lost::losses_by;
 use crate::together::CombinedChange;
 use crate::told::{Rank, ToldChange};
 use crate::trials::{
-    EditedCall, Group, Promise, Trial, TrialResult, put_choice, put_promise, reached_by,
+    EditedCall, Group, Promise, RestatedConstraints, Trial, TrialResult, are_sized, put_choice,
+    put_promise, reached_by,
 };
 use constraint_edits::{Edit, edited, is_absurd};
 use domain_reasons::choices_in;
 use explanation_text::{Items, Label, TextBuilder};
+use script_story::Milestone;
 use serde_json::Value;
 use std::alloc::{AllocError, Global};
 use sysmem_counts::Field;
@@ -42,7 +45,8 @@ pub(crate) fn try_whole_count(
     };
     search.tried = search.tried.saturating_add(1);
     group.scenario.effort.change(trial.place, 2);
-    let edits = edits_to(search.alloc, trial.place, value, count)?;
+    let mut edits = Vec::new(search.alloc);
+    add_edit(&mut edits, trial.place, value, count)?;
     let joint = CombinedChange {
         group,
         parties: search.parties,
@@ -53,18 +57,18 @@ pub(crate) fn try_whole_count(
     }
 }
 
-/// The call at a place, where its record asks for so many buffers and for none for camping; none
-/// where it does so already.
-fn edits_to(
-    alloc: Global,
+/// Adds the call at a place, where its record asks for so many buffers and for none for camping;
+/// nothing where it does so already.
+fn add_edit(
+    edits: &mut Vec<EditedCall>,
     place: usize,
     value: &Value,
     count: u32,
-) -> Result<Vec<EditedCall>, AllocError> {
-    let mut edits = Vec::new(alloc);
+) -> Result<(), AllocError> {
+    let alloc = *edits.allocator();
     let mut changes = Vec::new(alloc);
     let Some(without) = edited(alloc, value, CAMPING, &[])? else {
-        return Ok(edits);
+        return Ok(());
     };
     changes.push(without.change)?;
     let left = without.into_value();
@@ -77,7 +81,7 @@ fn edits_to(
             value,
         })?;
     }
-    Ok(edits)
+    Ok(())
 }
 
 /// Tells that a participant's count for camping helps as the count of all buffers, if so many are
@@ -104,14 +108,15 @@ fn tell_whole_count(
     };
     let who = group.who_changes(alloc, participant, CAMPING, &first.value)?;
     let choice = choices_in(alloc, group.story, group.root, promise.outcome.selection())?;
-    let rank = Rank::of(group, &promise.outcome, true);
+    let losses = losses_by(alloc, group, &stated, 3)?;
+    let rank = Rank::of(group, &promise.outcome, true, losses.count());
     let mut words = TextBuilder::of_text(alloc, &who);
     put_whole_count(&mut words, count);
     let mut items = Items::new(alloc);
     items.say(2, Label::Alone(0), words);
     put_promise(&mut items, group, 3, promise);
     put_choice(&mut items, 3, choice);
-    search.add(ToldChange::of(stated, rank, items))
+    search.add(ToldChange::of(stated, rank, items, losses))
 }
 
 /// Puts that a count for camping becomes the least one of all buffers after who states it.
@@ -125,4 +130,90 @@ fn put_whole_count(text: &mut TextBuilder, count: u32) {
         .put(" ")
         .put_number(count)
         .put(" (a count of all buffers)");
+}
+
+/// Tells that the counts for camping of several participants help together as counts of all buffers,
+/// where none of them states one of these, and as many are decided then as the greatest says. Gives
+/// what calls state then; nothing where it isn't told.
+pub(crate) fn add_whole_counts(
+    items: &mut Items,
+    joint: CombinedChange<'_, '_>,
+) -> Result<Vec<RestatedConstraints>, AllocError> {
+    let alloc = items.alloc();
+    let mut edits = Vec::new(alloc);
+    let mut whose = Items::new(alloc);
+    let mut most = 0u32;
+    for participant in joint.group.participants {
+        let counts = participant.asked.counts();
+        let count = counts.min_buffer_count_for_camping;
+        if count > 1 && counts.min_buffer_count == 0 {
+            add_whole(&mut whose, &mut edits, joint.group, participant, count)?;
+            most = most.max(count);
+        }
+    }
+    if edits.len() < 2 || joint.group.scenario.effort.is_spent() {
+        return Ok(Vec::new(alloc));
+    }
+    match joint.promise_of(alloc, edits)? {
+        Some(promise) => tell_whole_counts(items, joint.group, whose, most, promise),
+        None => Ok(Vec::new(alloc)),
+    }
+}
+
+/// Adds a participant whose count for camping is of all buffers, in words and as an edited call.
+fn add_whole(
+    whose: &mut Items,
+    edits: &mut Vec<EditedCall>,
+    group: Group<'_, '_>,
+    participant: &NamedParticipant<'_>,
+    count: u32,
+) -> Result<(), AllocError> {
+    let alloc = whose.alloc();
+    let number = group
+        .story
+        .milestone(participant.node, Milestone::SetConstraints);
+    let (Some(number), Some(value)) = (number, participant.stated) else {
+        return Ok(());
+    };
+    let place = number.saturating_sub(1);
+    group.scenario.effort.change(place, 2);
+    add_edit(edits, place, value, count)?;
+    if let Some(last) = edits.last() {
+        let who = group.who_changes(alloc, participant, CAMPING, &last.value)?;
+        let mut words = TextBuilder::of_text(alloc, &who);
+        put_whole_count(&mut words, count);
+        whose.say(2, Label::And, words);
+    }
+    Ok(())
+}
+
+/// Tells that these participants' counts for camping help as counts of all buffers, if so many are
+/// decided then.
+fn tell_whole_counts(
+    items: &mut Items,
+    group: Group<'_, '_>,
+    whose: Items,
+    most: u32,
+    promise: Promise,
+) -> Result<Vec<RestatedConstraints>, AllocError>
+    requires { IsPromised group.scenario.now.platform.now
+        (map call_seen group.scenario.now.calls.now) (edits_of promise.edits.items)
+        group.path.now promise.outcome }
+{
+    let alloc = items.alloc();
+    let reached = reached_by(&promise.outcome);
+    if reached.count != most || is_absurd(reached, are_sized(group.participants)) {
+        return Ok(Vec::new(alloc));
+    }
+    let stated = promise.stated(alloc)?;
+    let choice = choices_in(alloc, group.story, group.root, promise.outcome.selection())?;
+    let mut words = TextBuilder::of(alloc, "these ");
+    words
+        .put_number(whose.len())
+        .put(" together suffice (each may be meant so):");
+    items.say(1, Label::Change, words);
+    items.append(whose);
+    put_promise(items, group, 2, promise);
+    put_choice(items, 2, choice);
+    Ok(stated)
 }

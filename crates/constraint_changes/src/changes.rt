@@ -7,6 +7,7 @@ ghost use Rattle.constraint_changes.specs.Edited.{IsPromised, IsTried};
 
 use crate::camping::try_whole_count;
 use crate::exchanges::try_exchanges;
+use crate::lost::losses_by;
 use crate::together::add_together;
 use crate::told::{Rank, ToldChange, joined, place_like, place_of, put_told};
 use crate::trials::{
@@ -102,7 +103,7 @@ pub fn list_changes(
         return list_exchanges(items, search, group, edits);
     }
     put_head(items, &search, group.scenario.effort);
-    Ok(put_told(items, search.told))
+    Ok(put_told(items, search.told, false))
 }
 
 /// Tells the exchanges that help, where no other change does alone: after several that do together,
@@ -121,7 +122,7 @@ fn list_exchanges(
     };
     if first.is_empty() {
         put_head(items, &search, group.scenario.effort);
-        return Ok(put_told(items, search.told));
+        return Ok(put_told(items, search.told, false));
     }
     items.append(together);
     let words = match search.count {
@@ -129,7 +130,7 @@ fn list_exchanges(
         _ => "or one of these exchanges suffices:",
     };
     items.list_text(1, Label::Change, words);
-    let _exchanged = put_told(items, search.told);
+    let _exchanged = put_told(items, search.told, true);
     Ok(first)
 }
 
@@ -465,18 +466,19 @@ fn put_found(
     }
     let choice = choices_in(alloc, group.story, group.root, found.outcome.selection())?;
     let who = group.who_changes(alloc, participant, edit, &found.value)?;
-    let like = place_like(&search.told, &found.words, &found.outcome);
     let stated = RestatedConstraints {
         place: trial.place,
         value: found.value.clone()?,
     };
-    let rank = Rank::of(group, &found.outcome, is_likely);
+    let losses = losses_by(alloc, group, from_ref(&stated), 3)?;
+    let like = place_like(&search.told, &found.words, &found.outcome, &losses);
+    let rank = Rank::of(group, &found.outcome, is_likely, losses.count());
     let (whose, stated) = joined(alloc, search.take(like), who, stated)?;
     let words = TextBuilder::of_text(alloc, &found.words).into_text()?;
     let mut items = Items::new(alloc);
     put_change(&mut items, trial, Label::Alone(0), &whose, found);
     put_choice(&mut items, 3, choice);
-    let told = ToldChange::by(whose, words, stated, rank, items);
+    let told = ToldChange::by(whose, words, stated, rank, items, losses);
     match like {
         Some(place) => search.add_at(place, told),
         None => search.add(told),

@@ -5,6 +5,7 @@ ghost use Rattle.script_reading.specs.Seen.{call_seen};
 ghost use Rattle.constraint_changes.specs.Edited.{IsPromisedExchanged};
 
 use crate::changes::Search;
+use crate::lost::losses_by;
 use crate::told::{Rank, ToldChange};
 use crate::trials::{
     Exchange, Group, RestatedConstraints, chosen_with, copied, exchanged_calls, leaves_none,
@@ -189,12 +190,13 @@ fn write_exchange(
     let alloc = search.alloc;
     let choice = choices_in(alloc, group.story, group.root, outcome.selection())?;
     let stated = copied(alloc, &exchange.stated)?;
-    let rank = Rank::of(group, &outcome, false);
+    let losses = losses_by(alloc, group, &stated, 3)?;
+    let rank = Rank::of(group, &outcome, false, losses.count());
     let mut items = Items::new(alloc);
     put_exchange(&mut items, group, participant, other)?;
     put_exchanged(&mut items, group, 3, exchange, outcome);
     put_choice(&mut items, 3, choice);
-    search.add(ToldChange::of(stated, rank, items))
+    search.add(ToldChange::of(stated, rank, items, losses))
 }
 
 fn put_exchange(

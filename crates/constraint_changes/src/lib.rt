@@ -15,6 +15,7 @@ mod camping;
 mod changes;
 mod exchanges;
 mod known;
+mod lost;
 mod parts;
 mod preferred;
 mod together;

@@ -5,6 +5,7 @@ mod alike;
 mod children;
 mod colours;
 mod counts;
+mod heaps;
 mod kinds;
 mod pairs;
 mod party;
@@ -14,6 +15,7 @@ mod wish;
 
 use crate::preferred::children::{try_groups, try_late_groups};
 use crate::preferred::colours::try_colours;
+use crate::preferred::heaps::try_later_heap;
 use crate::preferred::kinds::try_kinds;
 use crate::preferred::pairs::try_pairs;
 use crate::preferred::places::{try_other_domain, try_places};
@@ -28,8 +30,8 @@ use std::alloc::AllocError;
 
 /// Tells of a domain that is chosen the changes of one field of one participant by which another
 /// would come: a child, a pair, its colour space or a place that comes before the chosen one, or a
-/// place that would do too and is contiguous, secure, or of another coherency domain; of an attached
-/// domain, which has the initial one's image and place, a child alone. Each with the decision that
+/// place that would do too and is contiguous, secure, of another coherency domain, or of a later
+/// heap; of an attached domain, which has the initial one's image and place, a child alone. Each with the decision that
 /// would come: the line of the report of the changed script. Gives them.
 pub fn list_preferred(
     items: &mut Items,
@@ -85,7 +87,8 @@ fn try_settings(
     try_pairs(found, wish, &selected, edits)?;
     try_colours(found, wish, &selected)?;
     try_places(found, wish, &selected)?;
-    try_other_domain(found, wish, &selected)
+    try_other_domain(found, wish, &selected)?;
+    try_later_heap(found, wish, &selected)
 }
 
 fn put_head(items: &mut Items, found: &Found) {

@@ -4,7 +4,9 @@ ghost use Rattle.std.specs.Prelude.{map, IfOk, IfSome};
 ghost use Rattle.script_reading.specs.Seen.{call_seen};
 ghost use Rattle.constraint_changes.specs.Edited.{IsPromised, IsPromisedSo, edits_of};
 
+use crate::camping::add_whole_counts;
 use crate::known::{RecordCache, RestatedParticipants};
+use crate::lost::losses_by;
 use crate::parts::{
     PartyChange, after, all_but, asked_with, edited_call, has_own, own_of, set_amount, takes_cpu,
     with_cpu,
@@ -67,13 +69,29 @@ fn add_all(
     };
     let all = joint.parts(alloc, edits)?;
     let mut shelf = RecordCache::new(alloc);
-    let plain = joint.put_plain(items, &mut shelf, &all)?;
+    let whole = add_whole_counts(items, joint)?;
+    let before = if whole.is_empty() { "" } else { "or " };
+    let plain = joint.put_plain(items, &mut shelf, &all, before)?;
+    let first = behind(items, group, whole, plain)?;
     let others = joint.put_others(items, &mut shelf, &all)?;
-    if plain.is_empty() {
-        Ok(others)
-    } else {
-        Ok(plain)
+    behind(items, group, first, others)
+}
+
+/// Of changes that are told one behind the other what calls state by the first; nothing where none
+/// are. Of the next it is told which other domains lose theirs.
+fn behind(
+    items: &mut Items,
+    group: Group<'_, '_>,
+    first: Vec<RestatedConstraints>,
+    next: Vec<RestatedConstraints>,
+) -> Result<Vec<RestatedConstraints>, AllocError> {
+    if first.is_empty() {
+        return Ok(next);
     }
+    if !next.is_empty() {
+        losses_by(items.alloc(), group, &next, 2)?.put_into(items);
+    }
+    Ok(first)
 }
 
 /// Tells changes that help together, each as small as it can be, and gives what calls state then;
@@ -115,13 +133,14 @@ impl CombinedChange<'_, '_> {
         items: &mut Items,
         shelf: &mut RecordCache,
         all: &[PartyChange],
+        before: &str,
     ) -> Result<Vec<RestatedConstraints>, AllocError> {
         let plain = with_cpu(items.alloc(), all)?;
         if !self.does(items.alloc(), &plain)? {
             return Ok(Vec::new(items.alloc()));
         }
         let fewest = self.fewest(shelf, items.alloc(), &plain)?;
-        add_least_changes(items, *self, shelf, &fewest, "")
+        add_least_changes(items, *self, shelf, &fewest, before)
     }
 
     /// Tells the fewest of all changes that help, where they take the use by a CPU away.

@@ -1,5 +1,6 @@
 //! Changes that help, as they are told: those that several participants may make alike as one.
 
+use crate::lost::Losses;
 use crate::trials::{Group, RestatedConstraints};
 use explanation_text::{Item, Items, Label, Text};
 use script_story::Outcome;
@@ -14,6 +15,8 @@ const MOST: usize = 4;
 pub(crate) struct Rank {
     /// Whether its change is likely meant: then it comes before all others.
     is_likely: bool,
+    /// How many other domains that are chosen now have no settings then.
+    lost: usize,
     /// The numbers of the chosen children of groups, in sum.
     children: usize,
     /// The place of the chosen pair on the platform, from 0.
@@ -21,11 +24,18 @@ pub(crate) struct Rank {
 }
 
 impl Rank {
-    /// That of a decision on those of a group, whose change is likely meant or not.
-    pub(crate) fn of(group: Group<'_, '_>, outcome: &Outcome, is_likely: bool) -> Rank {
+    /// That of a decision on those of a group, whose change is likely meant or not, and leaves so
+    /// many other domains without the settings that they have.
+    pub(crate) fn of(
+        group: Group<'_, '_>,
+        outcome: &Outcome,
+        is_likely: bool,
+        lost: usize,
+    ) -> Rank {
         if is_likely {
             return Rank {
                 is_likely,
+                lost,
                 children: 0,
                 pair: 0,
             };
@@ -33,6 +43,7 @@ impl Rank {
         let pairs = group.scenario.platform.pairs();
         Rank {
             is_likely,
+            lost,
             children: sum_of(outcome.selection()),
             pair: match outcome.chosen() {
                 Some(chosen) => place_of_pair(pairs, chosen.settings().offer),
@@ -45,6 +56,9 @@ impl Rank {
     fn is_after(self, other: Rank) -> bool {
         if self.is_likely != other.is_likely {
             return other.is_likely;
+        }
+        if self.lost != other.lost {
+            return self.lost > other.lost;
         }
         self.children > other.children
             || (self.children == other.children && self.pair > other.pair)
@@ -84,17 +98,25 @@ pub(crate) struct ToldChange {
     rank: Rank,
     /// The change, the decision that comes, and its choices.
     items: Items,
+    /// What other domains lose by it.
+    losses: Losses,
 }
 
 impl ToldChange {
     /// A change that nobody else may make, with what it gives.
-    pub(crate) fn of(stated: Vec<RestatedConstraints>, rank: Rank, items: Items) -> ToldChange {
+    pub(crate) fn of(
+        stated: Vec<RestatedConstraints>,
+        rank: Rank,
+        items: Items,
+        losses: Losses,
+    ) -> ToldChange {
         ToldChange {
             who: Vec::new(items.alloc()),
             words: Text::new(items.alloc()),
             stated,
             rank,
             items,
+            losses,
         }
     }
 
@@ -105,6 +127,7 @@ impl ToldChange {
         stated: Vec<RestatedConstraints>,
         rank: Rank,
         items: Items,
+        losses: Losses,
     ) -> ToldChange {
         ToldChange {
             who,
@@ -112,6 +135,7 @@ impl ToldChange {
             stated,
             rank,
             items,
+            losses,
         }
     }
 
@@ -123,15 +147,17 @@ impl ToldChange {
             stated,
             rank: _,
             items: _,
+            losses: _,
         } = self;
         (who, stated)
     }
 
     /// Whether one more may make it who changes this, by which this comes: it is the same change,
-    /// and the report's line that comes is the same.
-    fn is_like(&self, words: &Text, outcome: &Outcome) -> bool {
+    /// and the report's line that comes is the same, and what others lose.
+    fn is_like(&self, words: &Text, outcome: &Outcome, losses: &Losses) -> bool {
         let count = self.who.len();
-        if count == 0 || count >= MOST || self.words != *words {
+        let is_other = self.words != *words || !self.losses.are_as(losses);
+        if count == 0 || count >= MOST || is_other {
             return false;
         }
         match self.items.list().get(1) {
@@ -140,11 +166,18 @@ impl ToldChange {
         }
     }
 
-    /// Puts it after a list, with its number from 0; gives what calls state by it.
-    fn put_into(self, items: &mut Items, index: usize) -> Vec<RestatedConstraints> {
+    /// Puts it after a list, with its number from 0, and with what others lose by it, unless that
+    /// isn't to be told here; gives what calls state by it.
+    fn put_into(
+        self,
+        items: &mut Items,
+        index: usize,
+        tells_losses: bool,
+    ) -> Vec<RestatedConstraints> {
         let ToldChange {
             items: own,
             stated,
+            losses,
             who: _,
             words: _,
             rank: _,
@@ -152,6 +185,9 @@ impl ToldChange {
         match own.into_list() {
             Ok(list) => add_numbered(items, list, index),
             Err(AllocError) => items.refuse(),
+        }
+        if tells_losses {
+            losses.put_into(items);
         }
         stated
     }
@@ -186,11 +222,16 @@ fn add_numbered(items: &mut Items, list: Vec<Item>, index: usize) {
     }
 }
 
-/// The index of the change that one more may make who changes this, by which this comes, if there is
-/// one.
-pub(crate) fn place_like(told: &[ToldChange], words: &Text, outcome: &Outcome) -> Option<usize> {
+/// The index of the change that one more may make who changes this, by which this comes and others
+/// lose this, if there is one.
+pub(crate) fn place_like(
+    told: &[ToldChange],
+    words: &Text,
+    outcome: &Outcome,
+    losses: &Losses,
+) -> Option<usize> {
     for (place, one) in told.iter().enumerate() {
-        if one.is_like(words, outcome) {
+        if one.is_like(words, outcome, losses) {
             return Some(place);
         }
     }
@@ -209,11 +250,16 @@ pub(crate) fn place_of(told: &[ToldChange], one: &ToldChange) -> usize {
 }
 
 /// Puts changes after a list, and gives what calls state by the first; nothing where there is none.
-pub(crate) fn put_told(items: &mut Items, told: Vec<ToldChange>) -> Vec<RestatedConstraints> {
+/// With each stands what others lose by it, but with the first only where others are told before.
+pub(crate) fn put_told(
+    items: &mut Items,
+    told: Vec<ToldChange>,
+    are_behind: bool,
+) -> Vec<RestatedConstraints> {
     let mut first = Vec::new(items.alloc());
     let mut index = 0usize;
     for one in told {
-        let stated = one.put_into(items, index);
+        let stated = one.put_into(items, index, are_behind || index > 0);
         if index == 0 {
             first = stated;
         }

@@ -97,6 +97,8 @@ after heaps c (edit.LeastCount n) p =
     Some (record p { counts = record p.counts { min_buffer_count = n } })
 after heaps c (edit.EntryFirst index) p =
     Some (record p { entries = put_first c.start c.end p.entries })
+after heaps c (edit.PermitsAlone index) p =
+    option_and_then (λ info. with_heaps p (info.heap ∷ [])) (slice_get heaps index)
 
 -- what a participant asks after a change
 abbrev pub edited : List HeapFacts → Change → Participant → Option Participant

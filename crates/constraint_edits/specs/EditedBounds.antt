@@ -63,14 +63,20 @@ values_with f value bounds =
 abbrev pub with_value : Field → Size → EntryBounds → EntryBounds
 with_value f value bounds = bounds_by (values_with f value bounds, bounds.at_pixel_boundary)
 
--- the two sizes are the same
-abbrev pub same_size : Size → Size → Bool
-same_size a b = a.width == b.width && a.height == b.height
+-- a number is one of two others, or lies between them
+abbrev pub lies_between : ℕ → ℕ → ℕ → Bool
+lies_between a b n = nat_le a n && nat_le n b || nat_le b n && nat_le n a
 
--- an entry with another value of a field, if it has a value that isn't the absent one
+-- so does each side of a size
+abbrev pub is_between : Size → Size → Size → Bool
+is_between a b size =
+    lies_between a.width b.width size.width && lies_between a.height b.height size.height
+
+-- an entry with another value of a field; as it is where its value asks for no more than that one:
+-- it is that or the absent one, or lies between them
 abbrev pub value_changed : Field → Size → Entry → Entry
 value_changed f value entry =
-    if same_size (value_at f entry.bounds) (absent_at f) then entry
+    if is_between value (absent_at f) (value_at f entry.bounds) then entry
     else record entry { bounds = with_value f value entry.bounds }
 
 -- the entries after a bound of theirs is left out, or has this amount

@@ -2,7 +2,7 @@
 
 ghost use Rattle.std.specs.Prelude.{◌≡◌, Some, IfOk, IfSome};
 
-use crate::applying::asks;
+use crate::applying::asks_more;
 use crate::change::Change;
 use crate::edits::{Edit, EditedConstraints, EditedRecord};
 use crate::objects::{ENTRIES, MEMORY, entries_of, exact_value, put_values, with};
@@ -157,40 +157,37 @@ pub(crate) fn amount_of(value: &Value) -> Option<Amount> {
     Some(Amount::Sides(width, height))
 }
 
-/// The value of the field that a change leaves out: of a bound that of the first entry that asks for
-/// something by it.
+/// The value of the field that a change leaves out: of a bound that of the entry that asks for most
+/// by it.
 pub(crate) fn amount_in(value: &Value, edit: Edit) -> Option<Amount> {
     match edit {
         Edit::NoCount(field) => amount_of(value.get(field.name())?),
         Edit::NoMemory(field) => amount_of(value.get(MEMORY)?.get(field.name())?),
-        Edit::NoBound(field) => amount_of(first_bound(value, field)?),
+        Edit::NoBound(field) => amount_of(tightest_bound(value, field)?),
         _ => None,
     }
 }
 
-/// The value of a bound in the first entry that asks for something by it.
-fn first_bound<'a>(value: &'a Value, field: Field) -> Option<&'a Value> {
+/// The value of a bound in the entry that asks for most by it, in the first of those.
+fn tightest_bound<'a>(value: &'a Value, field: Field) -> Option<&'a Value> {
+    let mut tightest = None;
+    let mut amount = None;
     for entry in entries_of(value) {
-        if let Some(bound) = asked_bound(entry, field) {
-            return Some(bound);
+        if let Some(bound) = asked_bound(entry, field, amount) {
+            tightest = Some(bound);
+            amount = amount_of(bound);
         }
     }
-    None
+    tightest
 }
 
-/// The value of a bound by which an entry asks for something; `None` where it states none, or what
-/// the bound is where it isn't stated.
-fn asked_bound<'a>(entry: &'a Value, field: Field) -> Option<&'a Value> {
+/// The value of a bound by which an entry asks for more than with an amount, or than where the bound
+/// isn't stated; `None` where it doesn't.
+fn asked_bound<'a>(entry: &'a Value, field: Field, amount: Option<Amount>) -> Option<&'a Value> {
     let bound = entry.get(field.name())?;
     match amount_of(bound) {
-        Some(amount) => {
-            if asks(field, amount) {
-                Some(bound)
-            } else {
-                None
-            }
-        }
-        None => Some(bound),
+        Some(stated) if !asks_more(field, stated, amount) => None,
+        _ => Some(bound),
     }
 }
 
@@ -200,7 +197,7 @@ pub(crate) fn has_one_amount(alloc: Global, value: &Value, edit: Edit) -> Result
     let Edit::NoBound(field) = edit else {
         return Ok(true);
     };
-    let bounds = asked_bounds(alloc, entries_of(value), field)?;
+    let bounds = asked_bounds(alloc, entries_of(value), field, None)?;
     let Some(first) = bounds.first() else {
         return Ok(false);
     };
@@ -212,15 +209,17 @@ pub(crate) fn has_one_amount(alloc: Global, value: &Value, edit: Edit) -> Result
     Ok(true)
 }
 
-/// The values of a bound by which entries ask for something.
+/// The values of a bound by which entries ask for more than with an amount, or than where it isn't
+/// stated.
 fn asked_bounds<'a>(
     alloc: Global,
     entries: &'a [Value],
     field: Field,
+    amount: Option<Amount>,
 ) -> Result<Vec<&'a Value>, AllocError> {
     let mut bounds = Vec::new(alloc);
     for entry in entries {
-        if let Some(bound) = asked_bound(entry, field) {
+        if let Some(bound) = asked_bound(entry, field, amount) {
             bounds.push(bound)?;
         }
     }
@@ -228,7 +227,7 @@ fn asked_bounds<'a>(
 }
 
 /// The constraints with another value of the field that a change leaves out, of a bound in each
-/// entry that asks for something by it; behind the value stand these words.
+/// entry that asks for more by it; behind the value stand these words.
 pub(crate) fn with_amount(
     alloc: Global,
     value: &Value,
@@ -275,7 +274,7 @@ fn words_to(
     let was = match edit {
         Edit::NoBound(_) => put_values(
             &mut words,
-            &asked_bounds(alloc, entries_of(value), field)?,
+            &asked_bounds(alloc, entries_of(value), field, Some(amount))?,
         )?,
         _ => {
             words.put_number(stated);
@@ -338,14 +337,14 @@ fn with_bound(
     with(alloc, Some(value), ENTRIES, Value::Array(copy.done()?))
 }
 
-/// An entry with another value of a bound, if it asks for something by it.
+/// An entry with another value of a bound, if it asks for more by it.
 fn entry_with(
     alloc: Global,
     entry: &Value,
     field: Field,
     amount: Amount,
 ) -> Result<Value, AllocError> {
-    if asked_bound(entry, field).is_none() {
+    if asked_bound(entry, field, Some(amount)).is_none() {
         return entry.clone();
     }
     with(alloc, Some(entry), field.name(), amount.value(alloc)?)

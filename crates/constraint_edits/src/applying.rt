@@ -25,7 +25,7 @@ use sysmem_counts::{CountConstraints, Field, Usage};
 use sysmem_formats::{ColourSpace, Pair};
 use sysmem_image::Entry;
 use sysmem_memory::{HeapInfo, MemoryConstraints};
-pub(crate) use values::asks;
+pub(crate) use values::asks_more;
 use values::is_same_field;
 
 /// What a participant asks after the changes so far.
@@ -88,6 +88,7 @@ impl Draft {
             Edit::NoCpu => Ok(self.drop_cpu()),
             Edit::LeastCount(count) => Ok(self.put_least(count)),
             Edit::EntryFirst(_) => self.put_first(change.start, change.end),
+            Edit::PermitsAlone(index) => self.permit_alone(heaps, index),
         }
     }
 
@@ -125,6 +126,21 @@ impl Draft {
         }
         let heap = copied_heap(&info.heap)?;
         self.memory.permitted_heaps.push(heap)?;
+        Ok(true)
+    }
+
+    /// Permits the heap of an index alone.
+    fn permit_alone(&mut self, heaps: &[HeapInfo], index: usize) -> Result<bool, AllocError>
+        ensures { IfOk result (λ made. IsTrue made → option_and_then (λ info. with_heaps
+            (drafted self.old) (info.heap ∷ [])) (slice_get heaps.now index)
+            ≡ Some (drafted self.new)) }
+    {
+        let Some(info) = heaps.get(index) else {
+            return Ok(false);
+        };
+        let mut alone = Vec::new(self.alloc);
+        alone.push(copied_heap(&info.heap)?)?;
+        self.memory.permitted_heaps = alone;
         Ok(true)
     }
 

@@ -8,7 +8,9 @@ use crate::locating::change_of;
 use crate::objects::{
     ENTRIES, MEMORY, entries_of, have, lacking, members_in, put_values, with, words_without,
 };
-use crate::permitting::{meaning, means, permits_more, permitting};
+use crate::permitting::{
+    meaning, means, permits_more, permits_others, permitting, permitting_alone,
+};
 use crate::taking::{lacks_colour, putting_first, taking_colour, taking_pair};
 use crate::using::{asking_for, asks_for, has_cpu, without_cpu};
 use explanation_text::{Deed, Fact, ListBuilder, Said, Text, TextBuilder};
@@ -48,6 +50,8 @@ pub enum Edit {
     LeastCount(u32),
     /// The entry of an index, from 0, stands before the others.
     EntryFirst(usize),
+    /// One heap alone is permitted: the heap of an index.
+    PermitsAlone(usize),
 }
 
 impl Edit {
@@ -253,6 +257,7 @@ fn record_after(
         Edit::NoCpu => without_cpu(alloc, value),
         Edit::LeastCount(count) => asking_for(alloc, value, count),
         Edit::EntryFirst(index) => putting_first(alloc, value, index),
+        Edit::PermitsAlone(index) => permitting_alone(alloc, value, heaps.get(index)),
     }
 }
 
@@ -277,6 +282,7 @@ pub fn changes(
         Edit::NoCpu => has_cpu(value),
         Edit::LeastCount(count) => !asks_for(value, count),
         Edit::EntryFirst(index) => 0 < index && index < entries_of(value).len(),
+        Edit::PermitsAlone(index) => permits_others(value, heaps.get(index)),
     })
 }
 

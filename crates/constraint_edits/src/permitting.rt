@@ -1,8 +1,10 @@
-//! Constraints that permit a heap more, or another in the place of one that nearly has its name.
+//! Constraints that permit a heap more, one alone, or another in the place of one that nearly has its
+//! name.
 
 use crate::edits::EditedRecord;
 use crate::objects::{MEMORY, exact_value, text_value, with};
-use explanation_text::{Deed, Fact, ListBuilder, Said, TextBuilder, nearest};
+use explanation_text::wording::put_few;
+use explanation_text::{Deed, Fact, ListBuilder, Said, Text, TextBuilder, nearest};
 use serde_json::Value;
 use std::alloc::{AllocError, Global};
 use sysmem_counts::Field;
@@ -99,6 +101,73 @@ pub(crate) fn permitting(
     words.put(" too");
     words.tell(Fact::Change(Deed::Add(Field::PermittedHeaps, added)));
     permitted(alloc, value, copy.done()?, words)
+}
+
+/// The heaps that constraints name.
+fn named_by(value: &Value) -> &[Value] {
+    let heaps = match value.get(MEMORY) {
+        Some(memory) => memory.get(HEAPS).and_then(Value::as_array),
+        None => None,
+    };
+    match heaps {
+        Some(list) => list.as_slice(),
+        None => &[],
+    }
+}
+
+/// Whether constraints permit other heaps than this one, or name none.
+pub(crate) fn permits_others(value: &Value, info: Option<&HeapInfo>) -> bool {
+    match (named_by(value), info) {
+        ([only], Some(info)) => !is_heap(only, &info.heap),
+        (_, info) => info.is_some(),
+    }
+}
+
+/// The constraints with one heap alone that they permit; `None` where they permit no other.
+pub(crate) fn permitting_alone(
+    alloc: Global,
+    value: &Value,
+    info: Option<&HeapInfo>,
+) -> Result<Option<EditedRecord>, AllocError> {
+    let Some(info) = info else {
+        return Ok(None);
+    };
+    if !permits_others(value, Some(info)) {
+        return Ok(None);
+    }
+    let heap = &info.heap;
+    let mut words = TextBuilder::new(alloc);
+    words.field(Field::PermittedHeaps).put(" ");
+    let was = put_heaps(&mut words, named_by(value));
+    words.put(" becomes ");
+    let only = put_heap(&mut words, &heap.heap_type, heap.id);
+    words.tell(Fact::Change(Deed::Set {
+        field: Field::PermittedHeaps,
+        was,
+        value: only,
+    }));
+    let list = vec![in alloc; heap_value(alloc, heap)?]?;
+    permitted(alloc, value, list, words)
+}
+
+/// Puts heaps after a text, `(absent)` where there are none; gives what is said of some.
+fn put_heaps(text: &mut TextBuilder, heaps: &[Value]) -> Option<Said> {
+    if heaps.is_empty() {
+        text.put("(absent)");
+        return None;
+    }
+    let start = text.len();
+    let mut names: ListBuilder<Text> = ListBuilder::new(text.alloc());
+    for item in heaps {
+        let mut words = TextBuilder::new(text.alloc());
+        let _said = put_heap(&mut words, type_in(item), id_in(item));
+        names.add_text(words);
+    }
+    match names.done() {
+        Ok(names) => put_few(text, &names, 3),
+        Err(AllocError) => text.refuse(),
+    }
+    Some(text.since(start))
 }
 
 fn permitted(

@@ -44,7 +44,7 @@ struct Factor {
 /// Bits and bytes.
 const EIGHT: Factor = Factor {
     times: 8,
-    room: 2,
+    room: 4,
     more: " (8 times more)",
     less: " (8 times less)",
 };
@@ -52,7 +52,7 @@ const EIGHT: Factor = Factor {
 /// Kilobytes and bytes.
 const THOUSAND: Factor = Factor {
     times: 1000,
-    room: 16,
+    room: 64,
     more: " (1,000 times more)",
     less: " (1,000 times less)",
 };
@@ -60,13 +60,13 @@ const THOUSAND: Factor = Factor {
 /// Kibibytes and bytes.
 const KIBI: Factor = Factor {
     times: 1024,
-    room: 16,
+    room: 64,
     more: " (1,024 times more)",
     less: " (1,024 times less)",
 };
 
 /// How often what suffices goes at most into a number that was taken for a decimal one.
-const HEXADECIMAL_ROOM: u64 = 2;
+const HEXADECIMAL_ROOM: u64 = 4;
 
 /// More digits than a number has.
 const DIGITS: usize = 20;

@@ -1,6 +1,7 @@
 //! What a script means that is no JSON, once it is corrected where it stops being some.
 
-use crate::corrected::{FARTHEST, add_answer, add_too_long, is_too_long};
+use crate::corrected::{FARTHEST, add_answer, add_too_long, is_too_long, no_story};
+use crate::drafts::spelled;
 use crate::mended::mended;
 use crate::mended_words::put_corrections;
 use explanation_text::wording::put_few;
@@ -60,14 +61,9 @@ fn add_whole(
         value,
         whole: document.whole,
     };
-    add_answer(
-        items,
-        &other,
-        None,
-        Some(""),
-        true,
-        FARTHEST.saturating_sub(1),
-    )
+    let now = no_story(items.alloc());
+    let levels = FARTHEST.saturating_sub(1);
+    add_answer(items, &spelled(other), None, Some(&now), levels)
 }
 
 /// The text, corrected place by place until it is JSON; `None` where it isn't known what is meant at

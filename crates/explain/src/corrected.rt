@@ -1,26 +1,27 @@
 //! What a script means once each part of it is corrected of which it is known what may be meant; and
 //! once its calls are made otherwise that were refused.
 
-ghost use Rattle.std.specs.Prelude.{◌≡◌, ◌<◌, IfSome};
+ghost use Rattle.std.specs.Prelude.{◌≤◌};
 
-use crate::helping::{HELPED, LEVELS, add_why, put_head};
+use crate::drafts::{Draft, places_of, remade, restated, shown_calls, spelled, with_stated};
+use crate::helping::{HELPED, LEVELS, add_why, children_of};
 use crate::idle_modifiers::add_idle_modifiers;
 use crate::mended::mended;
 use crate::mended_words::put_corrections;
 use crate::not_chosen::add_not_chosen;
 use constraint_changes::put_choice;
-use domain_reasons::{add_in_short, add_shortly, answer_of, choices_in};
+use domain_reasons::{add_shortly, answer_of};
 use explanation_text::{Correction, Item, Items, Kind, Label, TextBuilder, repeated_keys};
-use other_outcomes::{list_added, list_meant, list_moved};
+use other_outcomes::{domain_now, list_added, list_meant, list_moved, put_head};
 use script_faults::{Document, add_fault};
 use script_reading::{
     ParseFault, Script, ScriptFault, parse_script, read_records, read_script, shared_calls,
 };
-use script_story::{Became, Effort, Scenario, Story, list_refused, story_of};
+use script_story::{Became, Domain, Effort, Scenario, Story, story_of};
 use serde_json::Value;
 use std::alloc::{AllocError, Global};
 
-/// How many lines are told of the answer and of calls that are refused.
+/// How many keys are looked at that are given twice.
 const MOST: usize = 13;
 /// How long a text may be that is corrected, or whose calls are made otherwise, in bytes: what comes
 /// then is one value more, of up to 175 bytes a byte.
@@ -60,11 +61,13 @@ fn corrections_in<'b>(alloc: Global, shown: &'b [Item]) -> Result<Vec<&'b Correc
     Ok(all)
 }
 
-/// What the report says of the initial domain.
-pub(crate) fn said_in<'a>(story: &'a Story<'_>) -> &'a str {
-    match story.domains.first() {
-        Some(domain) => &domain.told.said,
-        None => "",
+/// The story of a script that is refused: nothing is said of a domain.
+pub(crate) fn no_story<'a>(alloc: Global) -> Story<'a> {
+    Story {
+        calls: Vec::new(alloc),
+        nodes: Vec::new(alloc),
+        domains: Vec::new(alloc),
+        order: Vec::new(alloc),
     }
 }
 
@@ -75,10 +78,11 @@ pub(crate) fn corrected(
     document: &Document<'_>,
     shown: &[Item],
     effort: Option<&Effort>,
-    now: &str,
+    now: &Story<'_>,
 ) -> Result<Items, AllocError> {
     let mut items = Items::new(alloc);
-    let _is_told = add_corrected(&mut items, document, shown, effort, Some(now), FARTHEST)?;
+    let draft = spelled(*document);
+    let _is_told = add_corrected(&mut items, &draft, shown, effort, Some(now), FARTHEST)?;
     Ok(items)
 }
 
@@ -86,36 +90,45 @@ pub(crate) fn corrected(
 #[cycle(list_help)]
 fn add_corrected(
     items: &mut Items,
-    document: &Document<'_>,
+    draft: &Draft<'_>,
     shown: &[Item],
     effort: Option<&Effort>,
-    now: Option<&str>,
+    now: Option<&Story<'_>>,
     levels: usize,
 ) -> Result<bool, AllocError> {
-    let Some(levels) = levels_after(levels) else {
+    let Some(levels) = levels.checked_sub(1) else {
         return add_no_more(items, shown);
     };
-    let Some((bytes, value)) = meant_in(items, document, shown)? else {
+    let Some((bytes, value)) = meant_in(items, &draft.text, shown)? else {
         return Ok(false);
     };
-    let other = Document {
-        file: document.file,
+    let text = Document {
+        file: draft.text.file,
         bytes: &bytes,
         value: &value,
-        whole: document.whole,
+        whole: draft.text.whole,
     };
-    add_answer(items, &other, effort, now, true, levels)?;
+    if draft.is_spelled {
+        add_answer(items, &spelled(text), effort, now, levels)?;
+        return Ok(true);
+    }
+    let stated = with_stated(items.alloc(), draft, &text)?;
+    add_answer(
+        items,
+        &restated(&*draft, text, &stated),
+        effort,
+        now,
+        levels,
+    )?;
     Ok(true)
 }
 
-/// How far the story of a script goes on once that is made otherwise; `None` where it ends there.
-fn levels_after(levels: usize) -> Option<usize>
-    ensures { IfSome result (λ less. less < levels) }
+/// How far a script goes on that is told of: not with calls or its text made otherwise, where only
+/// so much is left as what would help takes.
+fn levels_left(levels: usize) -> usize
+    ensures { result ≤ levels }
 {
-    match levels.checked_sub(1) {
-        Some(less) if less >= HELPED => Some(less),
-        _ => None,
-    }
+    if levels == HELPED { 0 } else { levels }
 }
 
 /// Tells that it isn't told what comes once faults are corrected that are shown, if of each of them
@@ -190,58 +203,63 @@ fn add_meant(
 #[derive(Drop)]
 struct Recalled {
     value: Value,
-    /// Whether its calls stand where the text has them.
-    is_in_place: bool,
+    /// The places of the script's calls, from 0, in the order in which they are made; empty where
+    /// that is the script's.
+    order: Vec<usize>,
     /// Whether what is chosen then stands with a domain that waits.
     is_told_there: bool,
 }
 
 /// Tells what the script has once refused calls are made on the nodes that they may mean, if some
 /// do; else once calls are made that are missing; else once those are moved that stand too early.
-/// Whether something is told; the story goes on so far at most.
+/// What is said now isn't told again, unless this script has something else in its place; nor what it
+/// has, where nothing is given for now. Whether something is told; the story goes on so far at most.
 #[cycle(list_help)]
 pub(crate) fn add_called_otherwise(
     items: &mut Items,
-    document: &Document<'_>,
+    draft: &Draft<'_>,
     scenario: &Scenario<'_>,
     story: &Story<'_>,
+    now: Option<&Story<'_>>,
     levels: usize,
 ) -> Result<bool, AllocError> {
-    match levels_after(levels) {
-        Some(less) => add_recalled(items, document, scenario, story, less),
-        None => Ok(false),
+    let Some(less) = levels.checked_sub(1) else {
+        return Ok(false);
+    };
+    match now {
+        Some(now) if are_kept(now, story) => {
+            add_recalled(items, draft, scenario, story, Some(now), less)
+        }
+        Some(_) => {
+            let none = no_story(items.alloc());
+            add_recalled(items, draft, scenario, story, Some(&none), less)
+        }
+        None => add_recalled(items, draft, scenario, story, None, less),
     }
 }
 
-/// The same, with so far to go on then.
+/// The same, with so far to go on then; where nothing is given for now, that is this story.
 #[cycle(list_help)]
-pub(crate) fn add_recalled(
+fn add_recalled(
     items: &mut Items,
-    document: &Document<'_>,
+    draft: &Draft<'_>,
     scenario: &Scenario<'_>,
     story: &Story<'_>,
+    now: Option<&Story<'_>>,
     levels: usize,
 ) -> Result<bool, AllocError> {
-    let Some(made) = called_otherwise(items, document, story)? else {
+    let Some(made) = called_otherwise(items, draft, story)? else {
         return Ok(false);
     };
-    let other = Document {
-        file: document.file,
-        bytes: if made.is_in_place {
-            document.bytes
-        } else {
-            &[]
-        },
-        value: &made.value,
-        whole: document.whole,
-    };
+    let order = places_of(items.alloc(), draft, &made.order)?;
+    let other = remade(&*draft, &made.value, &order, made.order.is_empty());
     let is_first = levels.saturating_add(1) == FARTHEST;
-    let now = if made.is_told_there && is_first {
-        None
-    } else {
-        Some(said_in(story))
-    };
-    add_answer(items, &other, Some(scenario.effort), now, false, levels)?;
+    let effort = Some(scenario.effort);
+    match now {
+        _ if made.is_told_there && is_first => add_answer(items, &other, effort, None, levels),
+        None => add_answer(items, &other, effort, Some(story), levels),
+        Some(now) => add_answer(items, &other, effort, Some(now), levels),
+    }?;
     Ok(true)
 }
 
@@ -249,30 +267,33 @@ pub(crate) fn add_recalled(
 /// how.
 fn called_otherwise(
     items: &mut Items,
-    document: &Document<'_>,
+    draft: &Draft<'_>,
     story: &Story<'_>,
 ) -> Result<Option<Recalled>, AllocError> {
-    if is_too_long(document) {
+    if is_too_long(&draft.text) {
         return Ok(None);
     }
-    if let Some(value) = list_meant(items, document.value, story)? {
+    let script = draft.document.value;
+    if let Some(value) = list_meant(items, script, story)? {
         return Ok(Some(Recalled {
             value,
-            is_in_place: true,
+            order: Vec::new(items.alloc()),
             is_told_there: false,
         }));
     }
-    if let Some(value) = list_added(items, document.value, story)? {
+    if let Some((value, order)) = list_added(items, script, story)? {
         return Ok(Some(Recalled {
             value,
-            is_in_place: false,
+            order,
             is_told_there: false,
         }));
     }
-    let moved = list_moved(items, document.value, story)?;
-    Ok(moved.map(|value| Recalled {
+    let Some((value, order)) = list_moved(items, script, story)? else {
+        return Ok(None);
+    };
+    Ok(Some(Recalled {
         value,
-        is_in_place: false,
+        order,
         is_told_there: is_one_pending(story),
     }))
 }
@@ -287,25 +308,25 @@ fn is_one_pending(story: &Story<'_>) -> bool {
 
 /// Tells the answer of a script, which of its calls are refused, what would help its domains, and
 /// what is chosen unless that is said now, or it isn't to be told as nothing is given for now; or
-/// that it is refused itself. What is tried costs of this effort, if one is given. Faults are
-/// corrected where the document's text spells the script. The story goes on so far at most.
+/// that it is refused itself. What is tried costs of this effort, if one is given. The story goes on
+/// so far at most.
 #[cycle(list_help)]
 pub(crate) fn add_answer(
     items: &mut Items,
-    document: &Document<'_>,
+    draft: &Draft<'_>,
     effort: Option<&Effort>,
-    now: Option<&str>,
-    is_spelled: bool,
+    now: Option<&Story<'_>>,
     levels: usize,
 ) -> Result<(), AllocError> {
     let alloc = items.alloc();
-    match read_script(alloc, document.value) {
-        Ok(script) => add_read(items, document, script, effort, now, is_spelled, levels),
+    match read_script(alloc, draft.document.value) {
+        Ok(script) => add_read(items, draft, script, effort, now, levels),
         Err(ParseFault::NoMemory) => Err(AllocError),
         Err(ParseFault::Refused(fault)) => {
-            let shown = fault_in(alloc, document, fault)?;
+            let shown = fault_in(alloc, &draft.document, fault)?;
             let mut below = Items::new(alloc);
-            let _is_told = add_corrected(&mut below, document, &shown, effort, now, levels)?;
+            let left = levels_left(levels);
+            let _is_told = add_corrected(&mut below, draft, &shown, effort, now, left)?;
             add_shown(items, shown);
             add_one_deeper(items, below)
         }
@@ -316,11 +337,10 @@ pub(crate) fn add_answer(
 #[cycle(list_help)]
 fn add_read(
     items: &mut Items,
-    document: &Document<'_>,
+    draft: &Draft<'_>,
     script: Script<'_>,
     effort: Option<&Effort>,
-    now: Option<&str>,
-    is_spelled: bool,
+    now: Option<&Story<'_>>,
     levels: usize,
 ) -> Result<(), AllocError> {
     let alloc = items.alloc();
@@ -331,29 +351,24 @@ fn add_read(
         platform,
         calls: shared,
     };
-    add_weighed(items, document, &script, effort, now, is_spelled, levels)
+    add_weighed(items, draft, &script, effort, now, levels)
 }
 
 /// The same, where what is tried costs of this, or as much as of a script by itself.
 #[cycle(list_help)]
 fn add_weighed(
     items: &mut Items,
-    document: &Document<'_>,
+    draft: &Draft<'_>,
     script: &Script<'_>,
     effort: Option<&Effort>,
-    now: Option<&str>,
-    is_spelled: bool,
+    now: Option<&Story<'_>>,
     levels: usize,
 ) -> Result<(), AllocError> {
     match effort {
-        Some(effort) => {
-            add_script(items, &*document, &*script, effort, now, is_spelled, levels)
-        },
+        Some(effort) => { add_script(items, &*draft, &*script, effort, now, levels) },
         None => {
             let effort = Effort::new(items.alloc(), &script.platform, &script.calls)?;
-            add_script(
-                items, &*document, &*script, &effort, now, is_spelled, levels,
-            )
+            add_script(items, &*draft, &*script, &effort, now, levels)
         }
     }
 }
@@ -384,7 +399,7 @@ fn add_shown(items: &mut Items, shown: Vec<Item>) {
 }
 
 /// Puts items one deeper after others.
-pub(crate) fn add_one_deeper(items: &mut Items, below: Items) -> Result<(), AllocError> {
+fn add_one_deeper(items: &mut Items, below: Items) -> Result<(), AllocError> {
     for mut item in below.into_list()? {
         item.depth = item.depth.saturating_add(1);
         items.add(item);
@@ -398,11 +413,10 @@ pub(crate) fn add_one_deeper(items: &mut Items, below: Items) -> Result<(), Allo
 #[cycle(list_help)]
 fn add_script<'a>(
     items: &mut Items,
-    document: &Document<'a>,
+    draft: &Draft<'a>,
     script: &Script<'a>,
     effort: &Effort,
-    now: Option<&str>,
-    is_spelled: bool,
+    now: Option<&Story<'_>>,
     levels: usize,
 ) -> Result<(), AllocError> {
     let alloc = items.alloc();
@@ -415,48 +429,36 @@ fn add_script<'a>(
     if told.report.starved {
         return Err(AllocError);
     }
-    let story = story_of(alloc, document.value, &script.calls, &told)?;
-    let mut below = Items::new(alloc);
-    let shown = shown_calls(alloc, document, &story)?;
-    if is_spelled && add_corrected(&mut below, document, &shown, Some(effort), now, levels)? {
-        items.say(2, Label::Plain, answer_of(alloc, &story));
-        add_shown(items, shown);
-        return add_one_deeper(items, below);
+    let story = story_of(alloc, draft.document.value, &script.calls, &told)?;
+    let left = levels_left(levels);
+    if add_mended(items, draft, &scenario, &story, now, left)? {
+        return Ok(());
     }
-    add_few(items, &story)?;
-    if add_called_otherwise(&mut below, document, &scenario, &story, levels)? {
-        return add_one_deeper(items, below);
-    }
-    add_domains_then(items, document, &scenario, &story, now, levels)
+    add_domains_then(items, draft, &scenario, &story, now, levels)
 }
 
-/// Tells the answer of a story, and which calls are refused: the first of them where there are many.
-pub(crate) fn add_few(items: &mut Items, story: &Story<'_>) -> Result<(), AllocError> {
-    let mut short = Items::new(items.alloc());
-    add_in_short(&mut short, story)?;
-    let more = short.len().saturating_sub(MOST);
-    for (k, item) in short.into_list()?.into_iter().enumerate() {
-        if k < MOST {
-            items.add(item);
-        }
-    }
-    if more > 0 {
-        let mut words = TextBuilder::of(items.alloc(), "and ");
-        words.put_number(more).put(" more");
-        items.say(2, Label::Plain, words);
-    }
-    Ok(())
-}
-
-/// What is told of the calls that were refused.
-fn shown_calls(
-    alloc: Global,
-    document: &Document<'_>,
+/// Tells the answer of a story, which of its calls are refused, and what the script has once faults
+/// are corrected, or else these calls made otherwise; whether that is told. The story goes on so far
+/// at most.
+#[cycle(list_help)]
+pub(crate) fn add_mended(
+    items: &mut Items,
+    draft: &Draft<'_>,
+    scenario: &Scenario<'_>,
     story: &Story<'_>,
-) -> Result<Vec<Item>, AllocError> {
-    let mut refused = Items::new(alloc);
-    list_refused(&mut refused, document, story)?;
-    refused.into_list()
+    now: Option<&Story<'_>>,
+    levels: usize,
+) -> Result<bool, AllocError> {
+    let alloc = items.alloc();
+    let shown = shown_calls(alloc, draft, story)?;
+    let mut below = Items::new(alloc);
+    let effort = Some(scenario.effort);
+    let is_told = add_corrected(&mut below, draft, &shown, effort, now, levels)?
+        || add_called_otherwise(&mut below, draft, scenario, story, now, levels)?;
+    items.say(2, Label::Plain, answer_of(alloc, story));
+    add_shown(items, shown);
+    add_one_deeper(items, below)?;
+    Ok(is_told)
 }
 
 /// Tells why each domain has no settings, or none with an earlier child, and what would help; and
@@ -464,18 +466,18 @@ fn shown_calls(
 #[cycle(list_help)]
 fn add_domains_then(
     items: &mut Items,
-    document: &Document<'_>,
+    draft: &Draft<'_>,
     scenario: &Scenario<'_>,
     story: &Story<'_>,
-    now: Option<&str>,
+    now: Option<&Story<'_>>,
     levels: usize,
 ) -> Result<(), AllocError> {
     for (index, domain) in story.domains.iter().enumerate() {
         match now {
             _ if domain.became != Became::Chosen => {
-                add_unmet(items, document, scenario, story, index, levels.min(HELPED))?
+                add_unmet(items, draft, scenario, story, index, levels.min(HELPED))?
             }
-            Some(now) => add_chosen(items, document, scenario, story, index, now)?,
+            Some(now) => add_chosen(items, &draft.document, scenario, story, index, now)?,
             None => add_shortly(items, scenario.platform, story, index)?,
         }
     }
@@ -487,7 +489,7 @@ fn add_domains_then(
 #[cycle(list_help)]
 fn add_unmet(
     items: &mut Items,
-    document: &Document<'_>,
+    draft: &Draft<'_>,
     scenario: &Scenario<'_>,
     story: &Story<'_>,
     index: usize,
@@ -497,38 +499,62 @@ fn add_unmet(
         return Ok(());
     };
     if story.domains.len() < 2 {
-        return add_why(items, document, scenario, story, index, levels, 1);
+        return add_why(items, draft, scenario, story, index, levels, 1);
     }
     put_head(items, story, domain, 2);
-    add_why(items, document, scenario, story, index, levels, 2)
+    add_why(items, draft, scenario, story, index, levels, 2)
 }
 
-/// Tells what is chosen in the initial domain, unless that is said now, and what isn't: an attached
-/// one has its settings.
+/// Tells what is chosen in a domain, unless that is said now, and what isn't; above that stands which
+/// it is, where there are several.
 fn add_chosen(
     items: &mut Items,
     document: &Document<'_>,
     scenario: &Scenario<'_>,
     story: &Story<'_>,
     index: usize,
-    now: &str,
+    now: &Story<'_>,
 ) -> Result<(), AllocError> {
     let Some(domain) = story.domains.get(index) else {
         return Ok(());
     };
-    let said: &str = &domain.told.said;
-    if domain.host.is_some() || said == now {
+    if is_said(now, story, domain) {
         return Ok(());
     }
-    let alloc = items.alloc();
-    let mut told = Items::new(alloc);
-    domain.told.tell(&mut told, 2);
+    let depth = if story.domains.len() < 2 {
+        2
+    } else {
+        put_head(items, story, domain, 2);
+        3
+    };
+    let mut told = Items::new(items.alloc());
+    domain.told.tell(&mut told, depth);
     for mut item in told.into_list()? {
         item.label = Label::Promised;
         items.add(item);
     }
-    let choice = choices_in(alloc, story, domain.root, domain.told.selection())?;
-    put_choice(items, 2, choice);
-    add_not_chosen(items, scenario, story, index, 2)?;
-    add_idle_modifiers(items, document, story, index, 2)
+    put_choice(items, depth, children_of(items.alloc(), story, index)?);
+    add_not_chosen(items, scenario, document.value, story, index, depth)?;
+    add_idle_modifiers(items, document, story, index, depth)
+}
+
+/// Whether of each domain that is chosen now the same is said then.
+fn are_kept(now: &Story<'_>, then: &Story<'_>) -> bool {
+    for domain in &then.domains {
+        match domain_now(now, then, domain) {
+            Some(known) if known.became == Became::Chosen && !is_said(now, then, domain) => {
+                return false;
+            }
+            _ => {}
+        }
+    }
+    true
+}
+
+/// Whether the same is said of a domain now.
+fn is_said(now: &Story<'_>, then: &Story<'_>, domain: &Domain) -> bool {
+    match domain_now(now, then, domain) {
+        Some(known) => known.told.said.as_str() == domain.told.said.as_str(),
+        None => false,
+    }
 }

@@ -1,8 +1,9 @@
 //! What became of each domain, why, and what would help.
 
+use crate::drafts::spelled;
 use crate::entries::add_unused;
-use crate::helping::{LEVELS, add_reasons, index_at, is_lost, list_help, put_head};
-use crate::idle_modifiers::add_idle_modifiers;
+use crate::helping::{LEVELS, index_at, list_help};
+use crate::idle_modifiers::{add_idle_modifiers, add_meant_pairs};
 use crate::not_chosen::{add_not_chosen, add_numbers};
 use constraint_changes::{
     Group, RestatedConstraints, ToldChange, add_together, list_changes, list_preferred, restated,
@@ -10,7 +11,7 @@ use constraint_changes::{
 use constraint_edits::edits_on;
 use domain_reasons::add_domain;
 use explanation_text::{Item, Items, Kind, Label};
-use other_outcomes::{add_ended_later, add_heaps, add_platform};
+use other_outcomes::{add_ended_later, add_gone, add_heaps, add_lost, add_platform};
 use script_faults::Document;
 use script_reading::Call;
 use script_story::{Scenario, Story, asked_in, story_of};
@@ -23,7 +24,7 @@ const DEPTH: usize = 3;
 
 /// What is told of a decision by a change.
 #[derive(Clone, Copy)]
-enum Part {
+pub(crate) enum Part {
     /// Which other domains lose theirs by it.
     Lost,
     /// That, and how many buffers there are, and how large an image is.
@@ -44,7 +45,8 @@ pub(crate) fn add_domains(
             add_domain(items, scenario.platform, story, *index)?;
             add_unused(items, document, scenario, story, *index)?;
             add_idle_modifiers(items, document, story, *index, 1)?;
-            list_help(items, document, scenario, story, *index, LEVELS)?;
+            add_meant_pairs(items, document, scenario, story, *index)?;
+            list_help(items, &spelled(*document), scenario, story, *index, LEVELS)?;
             add_preferred(items, document, scenario, story, *index)?;
         }
     }
@@ -104,7 +106,7 @@ fn add_below(
 }
 
 /// Those whose constraints are changed, in the domain of this index.
-fn group_of<'a, 'b>(
+pub(crate) fn group_of<'a, 'b>(
     document: &'b Document<'a>,
     scenario: &'b Scenario<'a>,
     story: &'b Story<'a>,
@@ -192,7 +194,7 @@ fn end_of_first(changes: &[Item]) -> usize {
 
 /// Tells at this depth a part of what is chosen where calls state this, and isn't, if nodes are
 /// numbered there as they are.
-fn add_of(
+pub(crate) fn add_of(
     items: &mut Items,
     group: Group<'_, '_>,
     stated: &[RestatedConstraints],
@@ -230,27 +232,16 @@ fn add_with(
             match part {
                 Part::Lost => {}
                 Part::Numbers => add_numbers(items, &other, &story, index, depth)?,
-                Part::All => return add_not_chosen(items, &other, &story, index, depth),
+                Part::All => {
+                    let value = group.document.value;
+                    return add_not_chosen(items, &other, value, &story, index, depth);
+                }
             }
             add_lost(items, &other, &story, group.story, depth)
         }
-        _ => Ok(()),
-    }
-}
-
-/// Tells so deep which domains have no settings that are chosen now, and why.
-fn add_lost(
-    items: &mut Items,
-    scenario: &Scenario<'_>,
-    story: &Story<'_>,
-    now: &Story<'_>,
-    depth: usize,
-) -> Result<(), AllocError> {
-    for (index, domain) in story.domains.iter().enumerate() {
-        if is_lost(now, story, domain) {
-            put_head(items, story, domain, depth);
-            add_reasons(items, scenario, story, index, depth)?;
+        _ => {
+            add_gone(items, &story, group.story, depth);
+            Ok(())
         }
     }
-    Ok(())
 }

@@ -5,14 +5,16 @@ ghost use Rattle.std.specs.Prelude.{[], ◌∷◌, map};
 ghost use Rattle.script_reading.specs.Seen.{call_seen};
 ghost use Rattle.constraint_changes.specs.Edited.{IsPromised};
 
-use constraint_changes::{Trial, entry_place, line_at, put_choice};
+use constraint_changes::{RestatedConstraints, Trial, entry_place, line_at, put_choice, restated};
 use constraint_edits::{Change, Edit, EditedConstraints, edited};
 use domain_reasons::choices_in;
 use explanation_text::{Items, Label, Step, TextBuilder};
+use other_outcomes::add_lost_in;
 use script_faults::{Document, RecordPart};
 use script_story::{Became, Milestone, Outcome, Scenario, Story, asked_in};
 use settings_reasons::{holder_of, is_taken, unused_entries};
 use std::alloc::{AllocError, Global};
+use std::slice::from_ref;
 use sysmem_formats::{Modifier, Pair, PixelFormat};
 use value_sources::NamedParticipant;
 
@@ -183,7 +185,26 @@ impl Teller<'_, '_> {
         let choice = choices_in(items.alloc(), self.story, root, outcome.selection())?;
         put_promised(items, trial, changed.change, outcome);
         put_choice(items, 2, choice);
-        Ok(())
+        self.add_lost_then(items, changed)
+    }
+
+    /// Tells which other domains have no settings with these constraints.
+    fn add_lost_then(
+        &self,
+        items: &mut Items,
+        changed: &EditedConstraints,
+    ) -> Result<(), AllocError> {
+        let stated = RestatedConstraints {
+            place: self.number.saturating_sub(1),
+            value: changed.value.clone()?,
+        };
+        let calls = restated(items.alloc(), self.scenario.calls, from_ref(&stated))?;
+        let other = Scenario {
+            platform: &*self.scenario.platform,
+            calls: &calls,
+            effort: &*self.scenario.effort,
+        };
+        add_lost_in(items, &other, self.document.value, self.story, 2)
     }
 
     fn write_first(&self, items: &mut Items, item: usize, end: &str) {
@@ -257,8 +278,13 @@ impl Teller<'_, '_> {
     }
 }
 
-/// Puts the decision that comes with an entry first.
-fn put_promised(items: &mut Items, trial: Trial<'_, '_>, change: Change, outcome: Outcome)
+/// Puts the decision that comes with a change of entries.
+pub(crate) fn put_promised(
+    items: &mut Items,
+    trial: Trial<'_, '_>,
+    change: Change,
+    outcome: Outcome,
+)
     requires { IsPromised trial.scenario.now.platform.now
         (map call_seen trial.scenario.now.calls.now) ((trial.place, change ∷ []) ∷ [])
         trial.path.now outcome }

@@ -7,9 +7,10 @@ ghost use Rattle.explain.specs.Wanted.{AreThere};
 
 use crate::broken::corrected_json;
 use crate::corrected::{
-    FARTHEST, add_called_otherwise, add_too_long, corrected, is_too_long, said_in,
+    FARTHEST, add_called_otherwise, add_too_long, corrected, is_too_long, no_story,
 };
 use crate::domains::add_domains;
+use crate::drafts::spelled;
 use crate::json::{PlayedScript, Scene, objects_of};
 use crate::lines::with_lines;
 use crate::page::page_of_scene;
@@ -247,7 +248,7 @@ fn fault_items(
     let mut told = Items::new(alloc);
     add_fault(&mut told, document, fault)?;
     let told = told.into_list()?;
-    let after = corrected(alloc, document, &told, None, "")?;
+    let after = corrected(alloc, document, &told, None, &no_story(alloc))?;
     let mut items = with_repeats(alloc, document, told)?;
     items.append(after);
     Ok(items)
@@ -368,7 +369,14 @@ fn add_story(
     );
     add_repeats(items, document)?;
     add_calls(items, document, story, scenario.effort)?;
-    let _is_told = add_called_otherwise(items, document, scenario, story, FARTHEST)?;
+    let _is_told = add_called_otherwise(
+        items,
+        &spelled(*document),
+        scenario,
+        story,
+        Some(story),
+        FARTHEST,
+    )?;
     add_domains(items, document, scenario, story)?;
     add_untold(items, document, scenario, story);
     Ok(())
@@ -409,13 +417,7 @@ fn add_calls(
     let mut refused = Items::new(items.alloc());
     list_refused(&mut refused, document, story)?;
     let refused = refused.into_list()?;
-    let after = corrected(
-        items.alloc(),
-        document,
-        &refused,
-        Some(effort),
-        said_in(story),
-    )?;
+    let after = corrected(items.alloc(), document, &refused, Some(effort), story)?;
     for item in refused {
         items.add(item);
     }

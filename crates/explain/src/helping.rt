@@ -3,24 +3,23 @@
 
 ghost use Rattle.std.specs.Prelude.{◌≡◌};
 
-use crate::corrected::{add_few, add_one_deeper, add_recalled};
+use crate::corrected::add_mended;
 use crate::domains::add_edits;
+use crate::drafts::{Draft, places_of, remade};
 use crate::not_chosen::add_not_chosen;
 use constraint_changes::{RestatedConstraints, put_choice, restated};
 use domain_reasons::{add_domain, choices_in};
-use explanation_text::{Items, Label, TextBuilder, are_same};
+use explanation_text::{Items, Label, Text, are_same};
 use other_outcomes::{
-    Otherwise, add_ended_earlier, add_groups_exchanged, add_later_children, add_released,
-    add_taken_pairs, add_then, add_without, reordered, with_calls,
+    Otherwise, add_ended_earlier, add_gone, add_groups_exchanged, add_later_children, add_reasons,
+    add_released, add_taken_pairs, add_then, add_without, domain_now, is_lost, put_end, put_head,
+    reordered, with_calls,
 };
-use script_faults::Document;
 use script_reading::Call;
-use script_story::{Became, Domain, Scenario, Story, put_domain, refused_calls, story_of};
+use script_story::{Became, Domain, Scenario, Story, refused_calls, story_of};
+use serde_json::Value;
 use std::alloc::{AllocError, Global};
 use sysmem_tree::Refusal;
-
-/// How many lines are told of why a domain has no settings.
-const MOST: usize = 12;
 
 /// How often a story goes on at most.
 pub(crate) const LEVELS: usize = 3;
@@ -32,8 +31,8 @@ pub(crate) const HELPED: usize = 2;
 struct Place<'a> {
     path: &'a str,
     levels: usize,
-    /// Whether there are groups, whose children are chosen.
-    has_groups: bool,
+    /// Whether there are groups, whose children are chosen, or other domains.
+    has_more: bool,
     /// Whether it is chosen as the calls are.
     is_chosen: bool,
 }
@@ -43,7 +42,7 @@ struct Place<'a> {
 #[cycle(list_help)]
 pub(crate) fn list_help(
     items: &mut Items,
-    document: &Document<'_>,
+    draft: &Draft<'_>,
     scenario: &Scenario<'_>,
     story: &Story<'_>,
     index: usize,
@@ -58,30 +57,37 @@ pub(crate) fn list_help(
         Became::Pending => {
             let then = add_then(items, scenario, story, path)?;
             if levels < LEVELS || chooses(&then) {
-                add_further(items, document, scenario, story, then, place)?;
+                add_further(items, draft, scenario, story, then, place)?;
             } else {
                 add_above(items, &then);
             }
             let is_first = levels == LEVELS;
             let then = add_without(items, scenario, story, index, path, is_first)?;
-            add_further(items, document, scenario, story, then, place)
+            add_further(items, draft, scenario, story, then, place)
         }
         Became::Empty if scenario.effort.is_spent() => Ok(()),
         Became::Empty => {
-            let stated = add_edits(items, document, scenario, story, index)?;
-            add_changed(items, document, scenario, story, &stated, levels)
+            let stated = add_edits(items, &draft.document, scenario, story, index)?;
+            add_changed(items, draft, scenario, story, &stated, levels)
         }
         Became::Failed => {
             let then = add_released(items, scenario, story, index, path)?;
-            add_further(items, document, scenario, story, then, place)
+            add_further(items, draft, scenario, story, then, place)
         }
         Became::Chosen => {
             let once = place_of(story, path, if levels > 0 { 1 } else { 0 }, domain.became);
             let then = add_ended_earlier(items, scenario, story, index, path)?;
-            add_further(items, document, scenario, story, then, once)?;
-            let then = add_groups_exchanged(items, scenario, document.value, story, index, path)?;
-            add_further(items, document, scenario, story, then, once)?;
-            add_later(items, scenario, story, index, path)
+            add_further(items, draft, scenario, story, then, once)?;
+            let then = add_groups_exchanged(
+                items,
+                scenario,
+                draft.document.value,
+                story,
+                index,
+                path,
+            )?;
+            add_further(items, draft, scenario, story, then, once)?;
+            add_later(items, scenario, draft.document.value, story, index, path)
         }
         _ => Ok(()),
     }
@@ -92,7 +98,7 @@ pub(crate) fn list_help(
 #[cycle(list_help)]
 fn add_changed(
     items: &mut Items,
-    document: &Document<'_>,
+    draft: &Draft<'_>,
     scenario: &Scenario<'_>,
     story: &Story<'_>,
     stated: &[RestatedConstraints],
@@ -106,14 +112,14 @@ fn add_changed(
         return Ok(());
     }
     let calls = restated(items.alloc(), scenario.calls, stated)?;
-    add_replayed(items, document, scenario, story, &calls, levels)
+    add_replayed(items, draft, scenario, story, &calls, levels)
 }
 
 /// The same of these calls.
 #[cycle(list_help)]
 fn add_replayed(
     items: &mut Items,
-    document: &Document<'_>,
+    draft: &Draft<'_>,
     scenario: &Scenario<'_>,
     now: &Story<'_>,
     calls: &Vec<Call<'_>>,
@@ -129,16 +135,15 @@ fn add_replayed(
     if told.report.starved {
         return Err(AllocError);
     }
-    let story = story_of(alloc, document.value, calls, &told)?;
+    let story = story_of(alloc, draft.document.value, calls, &told)?;
     if !is_answered_otherwise(now, &story) && are_all_chosen(&story) {
         return Ok(());
     }
     let text = "with the first of these decisions the script has:";
     items.list_text(1, Label::Then, text);
-    add_few(items, &story)?;
-    add_refused(items, document, &other, &story, levels)?;
-    add_new(items, document, &other, &story, now, None, levels)?;
-    add_empty_otherwise(items, document, &other, &story, now, levels)
+    add_refused(items, draft, &other, &story, levels)?;
+    add_new(items, draft, &other, &story, now, None, levels)?;
+    add_empty_otherwise(items, draft, &other, &story, now, levels)
 }
 
 /// Tells of the late domains that are empty now and then, for other reasons, why that is then, and
@@ -146,7 +151,7 @@ fn add_replayed(
 #[cycle(list_help)]
 fn add_empty_otherwise(
     items: &mut Items,
-    document: &Document<'_>,
+    draft: &Draft<'_>,
     scenario: &Scenario<'_>,
     story: &Story<'_>,
     now: &Story<'_>,
@@ -156,7 +161,7 @@ fn add_empty_otherwise(
         let is_told = is_empty_otherwise(items.alloc(), scenario, now, story, index)?;
         if is_told && !scenario.effort.is_spent() {
             put_head(items, story, domain, 2);
-            add_why(items, document, scenario, story, index, levels, 2)?;
+            add_why(items, draft, scenario, story, index, levels, 2)?;
         }
     }
     Ok(())
@@ -189,31 +194,24 @@ fn is_empty_otherwise(
     Ok(!is_same)
 }
 
-/// Tells what the script has once those of these calls are made otherwise too that are refused.
+/// Tells the answer of a story of these calls, which of them are refused, and what the script has
+/// once their faults are corrected, or those that are refused made otherwise too.
 #[cycle(list_help)]
 fn add_refused(
     items: &mut Items,
-    document: &Document<'_>,
+    draft: &Draft<'_>,
     scenario: &Scenario<'_>,
     story: &Story<'_>,
     levels: usize,
 ) -> Result<(), AllocError> {
-    let Some(levels) = levels.checked_sub(1) else {
-        return Ok(());
-    };
     if refused_calls(story) == 0 || scenario.effort.is_spent() {
+        let _is_told = add_mended(items, draft, scenario, story, Some(story), 0)?;
         return Ok(());
     }
-    let value = with_calls(items.alloc(), document.value, scenario.calls)?;
-    let other = Document {
-        file: document.file,
-        bytes: &[],
-        value: &value,
-        whole: document.whole,
-    };
-    let mut below = Items::new(items.alloc());
-    let _is_told = add_recalled(&mut below, &other, scenario, story, levels)?;
-    add_one_deeper(items, below)
+    let value = with_calls(items.alloc(), draft.document.value, scenario.calls)?;
+    let other = remade(&*draft, &value, draft.order, false);
+    let _is_told = add_mended(items, &other, scenario, story, Some(story), levels)?;
+    Ok(())
 }
 
 /// Whether each domain has settings.
@@ -233,15 +231,16 @@ fn is_answered_otherwise(now: &Story<'_>, then: &Story<'_>) -> bool {
 }
 
 /// Tells of later children and pairs what would be decided if they came before what is chosen.
-fn add_later(
+pub(crate) fn add_later(
     items: &mut Items,
     scenario: &Scenario<'_>,
+    value: &Value,
     story: &Story<'_>,
     index: usize,
     path: &str,
 ) -> Result<(), AllocError> {
-    add_later_children(items, scenario, story, index, path)?;
-    add_taken_pairs(items, scenario, story, index, path)
+    add_later_children(items, scenario, value, story, index, path)?;
+    add_taken_pairs(items, scenario, value, story, index, path)
 }
 
 /// The domain at a path of a story, of which this became, and which goes on so often at most.
@@ -251,7 +250,7 @@ fn place_of<'a>(story: &Story<'_>, path: &'a str, levels: usize, became: Became)
     Place {
         path,
         levels,
-        has_groups: are_groups(story),
+        has_more: are_groups(story) || story.domains.len() > 1,
         is_chosen: became == Became::Chosen,
     }
 }
@@ -290,7 +289,7 @@ fn add_above(items: &mut Items, then: &Option<Otherwise<'_>>) {
 #[cycle(list_help)]
 fn add_further(
     items: &mut Items,
-    document: &Document<'_>,
+    draft: &Draft<'_>,
     scenario: &Scenario<'_>,
     story: &Story<'_>,
     then: Option<Otherwise<'_>>,
@@ -302,30 +301,27 @@ fn add_further(
     let Some(levels) = place.levels.checked_sub(1) else {
         return Ok(());
     };
-    let is_all = then.is_chosen && place.is_chosen && !place.has_groups;
+    let is_all = then.is_chosen && place.is_chosen && !place.has_more;
     if is_all || scenario.effort.is_spent() {
         return Ok(());
     }
     let place = Place { levels, ..place };
     if then.order.is_empty() {
-        return add_made(items, document, scenario, story, &then, place);
+        return add_made(items, draft, scenario, story, &then, place);
     }
-    let value = reordered(items.alloc(), document.value, &then.order)?;
-    let other = Document {
-        file: document.file,
-        bytes: &[],
-        value: &value,
-        whole: document.whole,
-    };
+    let alloc = items.alloc();
+    let value = reordered(alloc, draft.document.value, &then.order)?;
+    let order = places_of(alloc, draft, &then.order)?;
+    let other = remade(&*draft, &value, &order, false);
     add_made(items, &other, scenario, story, &then, place)
 }
 
-/// The same, with the calls where the document has them; which of them are refused then for another
+/// The same, with the calls where the draft has them; which of them are refused then for another
 /// reason than that their domain failed; and then of the domains that there are only with these calls.
 #[cycle(list_help)]
 fn add_made(
     items: &mut Items,
-    document: &Document<'_>,
+    draft: &Draft<'_>,
     scenario: &Scenario<'_>,
     now: &Story<'_>,
     then: &Otherwise<'_>,
@@ -341,16 +337,17 @@ fn add_made(
     if told.report.starved {
         return Err(AllocError);
     }
-    let story = story_of(alloc, document.value, &then.calls, &told)?;
+    let story = story_of(alloc, draft.document.value, &then.calls, &told)?;
     let own = index_at(&story, place.path);
     if let Some(index) = own {
-        add_index(items, document, &other, &story, index, place)?;
+        add_index(items, draft, &other, &story, index, place)?;
     }
     if then.order.is_empty() && is_refused_otherwise(now, &story) {
-        add_few(items, &story)?;
-        add_refused(items, document, &other, &story, place.levels)?;
+        add_refused(items, draft, &other, &story, place.levels)?;
     }
-    add_new(items, document, &other, &story, now, own, place.levels)
+    add_new(items, draft, &other, &story, now, own, place.levels)?;
+    add_gone(items, &story, now, 2);
+    Ok(())
 }
 
 /// Whether one of the same calls is refused for another reason than that its domain failed.
@@ -369,7 +366,7 @@ fn is_refused_otherwise(now: &Story<'_>, then: &Story<'_>) -> bool {
 #[cycle(list_help)]
 fn add_new(
     items: &mut Items,
-    document: &Document<'_>,
+    draft: &Draft<'_>,
     scenario: &Scenario<'_>,
     story: &Story<'_>,
     now: &Story<'_>,
@@ -381,7 +378,7 @@ fn add_new(
         let is_told = is_other && domain.became != Became::Chosen;
         if is_told && !scenario.effort.is_spent() {
             put_head(items, story, domain, 2);
-            add_why(items, document, scenario, story, index, levels, 2)?;
+            add_why(items, draft, scenario, story, index, levels, 2)?;
         }
     }
     Ok(())
@@ -391,7 +388,7 @@ fn add_new(
 #[cycle(list_help)]
 pub(crate) fn add_why(
     items: &mut Items,
-    document: &Document<'_>,
+    draft: &Draft<'_>,
     scenario: &Scenario<'_>,
     story: &Story<'_>,
     index: usize,
@@ -402,20 +399,7 @@ pub(crate) fn add_why(
     if scenario.effort.is_spent() {
         return Ok(());
     }
-    add_help_then(items, document, scenario, story, index, levels, deeper)
-}
-
-/// Tells why a domain has no settings, so much deeper.
-pub(crate) fn add_reasons(
-    items: &mut Items,
-    scenario: &Scenario<'_>,
-    story: &Story<'_>,
-    index: usize,
-    deeper: usize,
-) -> Result<(), AllocError> {
-    let mut why = Items::new(items.alloc());
-    add_domain(&mut why, scenario.platform, story, index)?;
-    items.append_section(why, deeper, MOST)
+    add_help_then(items, draft, scenario, story, index, levels, deeper)
 }
 
 /// Whether there isn't a domain now, or it is chosen, or it failed since the one to which it was
@@ -428,26 +412,6 @@ fn is_new(now: &Story<'_>, then: &Story<'_>, domain: &Domain) -> bool {
         Some(_) => is_lost(now, then, domain),
         None => true,
     }
-}
-
-/// Whether a domain is chosen now, and isn't then.
-pub(crate) fn is_lost(now: &Story<'_>, then: &Story<'_>, domain: &Domain) -> bool {
-    let was_chosen =
-        matches!(domain_now(now, then, domain), Some(known) if known.became == Became::Chosen);
-    was_chosen && domain.became != Became::Chosen
-}
-
-/// The domain now whose path another has then.
-fn domain_now<'b>(now: &'b Story<'_>, then: &Story<'_>, domain: &Domain) -> Option<&'b Domain> {
-    now.domains.get(index_at(now, then.path(domain.root))?)
-}
-
-/// Puts so deep what would become of a domain, above why.
-pub(crate) fn put_head(items: &mut Items, story: &Story<'_>, domain: &Domain, depth: usize) {
-    let mut words = TextBuilder::new(items.alloc());
-    put_domain(&mut words, story, domain.root);
-    words.put(" would be ").put(domain.became.word()).head();
-    items.say(depth, Label::Plain, words)
 }
 
 /// The domain at a path, by index.
@@ -464,7 +428,7 @@ pub(crate) fn index_at(story: &Story<'_>, path: &str) -> Option<usize> {
 #[cycle(list_help)]
 fn add_index(
     items: &mut Items,
-    document: &Document<'_>,
+    draft: &Draft<'_>,
     scenario: &Scenario<'_>,
     story: &Story<'_>,
     index: usize,
@@ -474,30 +438,41 @@ fn add_index(
         return Ok(());
     };
     if domain.became == Became::Chosen {
-        return add_chosen(items, scenario, story, index, domain, place.is_chosen);
+        return add_chosen(items, draft, scenario, story, index, place.is_chosen);
     }
     if place.is_chosen {
         return add_reasons(items, scenario, story, index, 1);
     }
-    add_why(items, document, scenario, story, index, place.levels, 1)
+    add_why(items, draft, scenario, story, index, place.levels, 1)
 }
 
 /// Tells which children a domain chooses then; and what isn't chosen, unless it is chosen as the
 /// calls are.
 fn add_chosen(
     items: &mut Items,
+    draft: &Draft<'_>,
     scenario: &Scenario<'_>,
     story: &Story<'_>,
     index: usize,
-    domain: &Domain,
     is_now: bool,
 ) -> Result<(), AllocError> {
-    let choice = choices_in(items.alloc(), story, domain.root, domain.told.selection())?;
-    put_choice(items, 2, choice);
+    put_choice(items, 2, children_of(items.alloc(), story, index)?);
     if is_now {
         Ok(())
     } else {
-        add_not_chosen(items, scenario, story, index, 2)
+        add_not_chosen(items, scenario, draft.document.value, story, index, 2)
+    }
+}
+
+/// Which children the domain of an index chooses.
+pub(crate) fn children_of(
+    alloc: Global,
+    story: &Story<'_>,
+    index: usize,
+) -> Result<Text, AllocError> {
+    match story.domains.get(index) {
+        Some(domain) => choices_in(alloc, story, domain.root, domain.told.selection()),
+        None => Ok(Text::new(alloc)),
     }
 }
 
@@ -505,7 +480,7 @@ fn add_chosen(
 #[cycle(list_help)]
 pub(crate) fn add_help_then(
     items: &mut Items,
-    document: &Document<'_>,
+    draft: &Draft<'_>,
     scenario: &Scenario<'_>,
     story: &Story<'_>,
     index: usize,
@@ -517,14 +492,6 @@ pub(crate) fn add_help_then(
         return Ok(());
     }
     let mut help = Items::new(items.alloc());
-    list_help(&mut help, document, scenario, story, index, levels)?;
+    list_help(&mut help, draft, scenario, story, index, levels)?;
     items.append_section(help, deeper, usize::MAX)
-}
-
-/// Tells that the story of an empty domain ends here.
-fn put_end(items: &mut Items, story: &Story<'_>, index: usize, deeper: usize) {
-    if matches!(story.domains.get(index), Some(domain) if domain.became == Became::Empty) {
-        let text = "what would help then isn't told";
-        items.list_text(deeper.saturating_add(1), Label::Note, text);
-    }
 }

@@ -13,6 +13,7 @@
 mod broken;
 mod corrected;
 mod domains;
+mod drafts;
 mod entries;
 mod explaining;
 mod helping;

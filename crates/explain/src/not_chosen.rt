@@ -1,10 +1,11 @@
 //! What is told of a decision that would come: how many buffers there are and how large, who refuses
 //! what stands before it, and what would do too but stands after it.
 
+use crate::helping::add_later;
 use domain_reasons::add_domain;
 use explanation_text::{Item, Items, Label, Thing};
-use other_outcomes::{add_later_children, add_taken_pairs};
 use script_story::{Scenario, Story};
+use serde_json::Value;
 use std::alloc::{AllocError, Global};
 
 /// How many lines are told.
@@ -17,6 +18,7 @@ const MOST: usize = 12;
 pub(crate) fn add_not_chosen(
     items: &mut Items,
     scenario: &Scenario<'_>,
+    value: &Value,
     story: &Story<'_>,
     index: usize,
     depth: usize,
@@ -27,8 +29,7 @@ pub(crate) fn add_not_chosen(
     add_domain(&mut section, scenario.platform, story, index)?;
     let refused = refused_in(alloc, section.into_list()?)?;
     let mut later = Items::new(alloc);
-    add_later_children(&mut later, scenario, story, index, path)?;
-    add_taken_pairs(&mut later, scenario, story, index, path)?;
+    add_later(&mut later, scenario, value, story, index, path)?;
     let most = MOST.saturating_sub(later.len());
     let deeper = depth.saturating_sub(1);
     items.append_section(refused, deeper, most)?;

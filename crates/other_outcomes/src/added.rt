@@ -24,23 +24,25 @@ struct MissingCall {
 }
 
 /// Tells which calls are missing since later ones were refused, if some are, and gives the script in
-/// which they are made, if that isn't refused.
+/// which they are made, if that isn't refused, with the places that its calls have now, from 0, and
+/// places beyond all for those that are added.
 pub fn list_added(
     items: &mut Items,
     value: &Value,
     story: &Story<'_>,
-) -> Result<Option<Value>, AllocError> {
+) -> Result<Option<(Value, Vec<usize>)>, AllocError> {
     let alloc = items.alloc();
     let missing = missing_in(alloc, story)?;
     if missing.is_empty() || missing.len() > MOST {
         return Ok(None);
     }
-    let other = with_missing(alloc, value, story, &missing)?;
+    let order = order_with(alloc, story.calls.len(), &missing)?;
+    let other = with_missing(alloc, value, story, &missing, &order)?;
     if !is_read(alloc, &other)? {
         return Ok(None);
     }
     add_missing(items, story, &missing);
-    Ok(Some(other))
+    Ok(Some((other, order)))
 }
 
 /// The calls that are missing, one on each node.
@@ -196,51 +198,72 @@ fn kind_of(act: &Act<'_>) -> Option<ActionKind> {
     }
 }
 
-/// The script with calls that were missing.
+/// The places of so many calls, from 0, with those that were missing among them: these have the
+/// places behind all.
+fn order_with(
+    alloc: Global,
+    count: usize,
+    missing: &[MissingCall],
+) -> Result<Vec<usize>, AllocError> {
+    let mut order = ListBuilder::new(alloc);
+    for index in 0..count {
+        add_before(&mut order, count, missing, index.saturating_add(1));
+        order.add(index);
+    }
+    order.done()
+}
+
+/// Adds the places of those of the missing calls that stand right before the call of a number.
+fn add_before(
+    order: &mut ListBuilder<usize>,
+    count: usize,
+    missing: &[MissingCall],
+    number: usize,
+) {
+    for (k, one) in missing.iter().enumerate() {
+        if one.before == number {
+            order.add(count.saturating_add(k));
+        }
+    }
+}
+
+/// The script with calls that were missing, in this order.
 fn with_missing(
     alloc: Global,
     value: &Value,
     story: &Story<'_>,
     missing: &[MissingCall],
+    order: &[usize],
 ) -> Result<Value, AllocError> {
     let mut copy = value.clone()?;
     if let Some(Value::Array(calls)) = copy.get_mut("calls") {
-        let list = all_made(alloc, calls, story, missing)?;
+        let list = all_made(alloc, calls, story, missing, order)?;
         *calls = list;
     }
     Ok(copy)
 }
 
-/// Calls, with those among them that were missing.
+/// Calls in this order, with those among them that were missing.
 fn all_made(
     alloc: Global,
     calls: &[Value],
     story: &Story<'_>,
     missing: &[MissingCall],
+    order: &[usize],
 ) -> Result<Vec<Value>, AllocError> {
     let mut list = ListBuilder::new(alloc);
-    for (index, call) in calls.iter().enumerate() {
-        make_before(&mut list, calls, story, missing, index.saturating_add(1))?;
-        list.add(call.clone()?);
-    }
-    list.done()
-}
-
-/// Adds those of the missing calls that stand right before the call of a number.
-fn make_before(
-    list: &mut ListBuilder<Value>,
-    calls: &[Value],
-    story: &Story<'_>,
-    missing: &[MissingCall],
-    number: usize,
-) -> Result<(), AllocError> {
-    for one in missing {
-        if one.before == number {
-            let made = made_of(list.alloc(), calls, story, *one)?;
+    for place in order {
+        if let Some(call) = calls.get(*place) {
+            list.add(call.clone()?);
+            continue;
+        }
+        let behind = (*place).saturating_sub(calls.len());
+        if let Some(one) = missing.get(behind) {
+            let made = made_of(alloc, calls, story, *one)?;
             list.add(made);
         }
     }
-    Ok(())
+    list.done()
 }
 
 /// A missing call as JSON, by the actor that the refused one names, if it names one.

@@ -3,10 +3,12 @@
 ghost use Rattle.std.specs.Prelude.{◌≡◌, map, IfOk, IfSome};
 ghost use Rattle.other_outcomes.specs.Exchanged.{IsPromisedExchanged, on_other};
 
+use crate::lost::add_lost_in;
 use crate::pending::place_of;
 use explanation_text::{Items, Label, ListBuilder, TextBuilder};
-use script_reading::Call;
+use script_reading::{Act, Call};
 use script_story::{MadeCall, Outcome, Scenario, Story};
+use serde_json::Value;
 use std::alloc::{AllocError, Global};
 
 /// How many children are tried.
@@ -22,17 +24,19 @@ struct Siblings {
 }
 
 /// Tells of the children of groups of a chosen domain that come after the chosen one what would be
-/// decided if they stood in its place, where they would be chosen then.
+/// decided if they stood in its place, where they would be chosen then, and which other domains have
+/// no settings then.
 pub fn add_later_children(
     items: &mut Items,
     scenario: &Scenario<'_>,
+    value: &Value,
     story: &Story<'_>,
     index: usize,
     path: &str,
 ) -> Result<(), AllocError> {
     let pairs = siblings_in(items.alloc(), story, index)?;
     for pair in pairs.iter().take(MOST) {
-        try_exchanged(items, scenario, story, *pair, path)?;
+        try_exchanged(items, scenario, value, story, *pair, path)?;
     }
     Ok(())
 }
@@ -42,6 +46,7 @@ pub fn add_later_children(
 fn try_exchanged(
     items: &mut Items,
     scenario: &Scenario<'_>,
+    value: &Value,
     story: &Story<'_>,
     pair: Siblings,
     path: &str,
@@ -52,7 +57,7 @@ fn try_exchanged(
     add_exchanged(items, story, pair);
     put_promised(items, scenario, path, outcome);
     add_choice(items, story, pair);
-    Ok(())
+    add_lost_then(items, scenario, value, story, pair)
 }
 
 fn add_exchanged(items: &mut Items, story: &Story<'_>, pair: Siblings) {
@@ -200,6 +205,58 @@ fn exchanged<'a>(
         made.push(on_other(call, a, b))?;
     }
     Ok(made)
+}
+
+/// Tells which other domains have no settings with two children's names exchanged.
+fn add_lost_then(
+    items: &mut Items,
+    scenario: &Scenario<'_>,
+    value: &Value,
+    story: &Story<'_>,
+    pair: Siblings,
+) -> Result<(), AllocError> {
+    let calls = renamed(items.alloc(), scenario.calls, story, pair)?;
+    let other = Scenario {
+        platform: &*scenario.platform,
+        calls: &calls,
+        effort: &*scenario.effort,
+    };
+    add_lost_in(items, &other, value, story, 2)
+}
+
+/// The calls with those on one of two children's names made on the other, each of which is made by
+/// the other's call.
+fn renamed<'a>(
+    alloc: Global,
+    calls: &[Call<'a>],
+    story: &Story<'_>,
+    pair: Siblings,
+) -> Result<Vec<Call<'a>>, AllocError> {
+    let a = place_of(story, Some(pair.first));
+    let b = place_of(story, Some(pair.second));
+    let mut made = ListBuilder::new(alloc);
+    for (place, call) in calls.iter().enumerate() {
+        let number = place.saturating_add(1);
+        let other = if number == pair.first {
+            pair.second
+        } else if number == pair.second {
+            pair.first
+        } else {
+            number
+        };
+        let act = act_of(calls, other).unwrap_or(call.act);
+        made.add(Call {
+            act,
+            ..on_other(call, a, b)
+        });
+    }
+    made.done()
+}
+
+/// What the call of a number does.
+fn act_of<'a>(calls: &[Call<'a>], number: usize) -> Option<Act<'a>> {
+    let call = calls.get(number.saturating_sub(1))?;
+    Some(call.act)
 }
 
 /// The call, on the other of two names where it is on one of them.

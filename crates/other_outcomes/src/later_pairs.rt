@@ -4,9 +4,12 @@
 ghost use Rattle.std.specs.Prelude.{◌≡◌, IfOk, IfSome};
 ghost use Rattle.other_outcomes.specs.OtherPlatform.{IsPromisedOn, with_first};
 
+use crate::lost::add_lost_in;
 use crate::platforms::{heaps_of, outcome_on};
 use explanation_text::{Items, Label, TextBuilder};
+use negotiation_inputs::Platform;
 use script_story::{Outcome, Scenario, Story, asked_in};
+use serde_json::Value;
 use settings_reasons::{is_taken, listed_before};
 use std::alloc::{AllocError, Global};
 use sysmem_formats::{Offer, Pair};
@@ -18,10 +21,12 @@ const MOST: usize = 3;
 
 /// Tells of pairs that stand after the chosen one on the platform what would be decided if they
 /// stood first there: of those that participants of a chosen domain list before the chosen one, and
-/// of those that a participant names and all take, wherever they list them.
+/// of those that a participant names and all take, wherever they list them. Tells which other
+/// domains have no settings then.
 pub fn add_taken_pairs(
     items: &mut Items,
     scenario: &Scenario<'_>,
+    value: &Value,
     story: &Story<'_>,
     index: usize,
     path: &str,
@@ -37,7 +42,7 @@ pub fn add_taken_pairs(
             pairs.push(*pair)?;
         }
     }
-    try_each(items, scenario, path, &pairs, chosen)
+    try_each(items, scenario, value, story, &pairs, path, chosen)
 }
 
 /// Tells what the domain at a path would be if one of some pairs stood first on the platform, of
@@ -45,14 +50,41 @@ pub fn add_taken_pairs(
 fn try_each(
     items: &mut Items,
     scenario: &Scenario<'_>,
-    path: &str,
+    value: &Value,
+    story: &Story<'_>,
     pairs: &[Pair],
+    path: &str,
     chosen: Pair,
 ) -> Result<(), AllocError> {
     for pair in pairs.iter().take(MOST) {
-        try_pair_first(items, scenario, path, *pair, chosen)?;
+        if try_pair_first(items, scenario, path, *pair, chosen)? {
+            add_lost_then(items, scenario, value, story, *pair)?;
+        }
     }
     Ok(())
+}
+
+/// Tells which other domains have no settings with a pair first on the platform.
+fn add_lost_then(
+    items: &mut Items,
+    scenario: &Scenario<'_>,
+    value: &Value,
+    story: &Story<'_>,
+    pair: Pair,
+) -> Result<(), AllocError> {
+    let alloc = items.alloc();
+    let pairs = pairs_from(alloc, scenario.platform.pairs(), pair)?;
+    let heaps = heaps_of(alloc, scenario.platform)?;
+    let colours = Vec::from_slice(alloc, scenario.platform.colours())?;
+    let Ok(platform) = Platform::of(heaps, pairs, colours) else {
+        return Ok(());
+    };
+    let other = Scenario {
+        platform: &platform,
+        calls: scenario.calls,
+        effort: scenario.effort,
+    };
+    add_lost_in(items, &other, value, story, 2)
 }
 
 /// The pairs after one of them; none where it isn't there.
@@ -103,20 +135,20 @@ fn listed_in(
 }
 
 /// Tells what the domain at a path would be if a pair stood first on the platform, if that would be
-/// chosen.
+/// chosen; whether it would.
 fn try_pair_first(
     items: &mut Items,
     scenario: &Scenario<'_>,
     path: &str,
     pair: Pair,
     chosen: Pair,
-) -> Result<(), AllocError> {
+) -> Result<bool, AllocError> {
     let Some(outcome) = outcome_first(items.alloc(), scenario, path, pair)? else {
-        return Ok(());
+        return Ok(false);
     };
     add_pair(items, pair, chosen);
     put_promised(items, scenario, path, pair, outcome);
-    Ok(())
+    Ok(true)
 }
 
 /// The pair that was chosen for a domain that isn't attached.

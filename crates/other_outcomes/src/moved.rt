@@ -12,23 +12,24 @@ use serde_json::Value;
 use std::alloc::{AllocError, Global};
 
 /// Tells which calls are to be moved since they stand too early, if some do, and gives the script in
-/// which they are, if that isn't refused.
+/// which they are, if that isn't refused, with the places that its calls have now, from 0.
 pub fn list_moved(
     items: &mut Items,
     value: &Value,
     story: &Story<'_>,
-) -> Result<Option<Value>, AllocError> {
+) -> Result<Option<(Value, Vec<usize>)>, AllocError> {
     let alloc = items.alloc();
     let moves = moves_in(alloc, story)?;
     if moves.is_empty() {
         return Ok(None);
     }
-    let other = reordered(alloc, value, &order_of(alloc, story.calls.len(), &moves)?)?;
+    let order = order_of(alloc, story.calls.len(), &moves)?;
+    let other = reordered(alloc, value, &order)?;
     if !is_read(alloc, &other)? {
         return Ok(None);
     }
     add_moves(items, &moves, " the script has, its calls numbered anew:");
-    Ok(Some(other))
+    Ok(Some((other, order)))
 }
 
 /// Whether a script isn't refused.

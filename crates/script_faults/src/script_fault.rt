@@ -1,7 +1,7 @@
 //! The faults of a script, in words.
 
 use crate::call_fault::add_call_fault;
-use crate::help::Help;
+use crate::help::{Help, did_you_mean};
 use crate::keys::SCRIPT;
 use crate::no_json::{Broken, add_break, is_blank};
 use crate::record::{Document, RecordPart, add_record_fault, first_unknown, key_of, wrong_kind};
@@ -144,8 +144,23 @@ fn add_key(
     let alloc = items.alloc();
     let help = match nearest(alloc, key_of(path), SCRIPT)? {
         Some(near) => Help::near(alloc, near),
-        None => Help::of_text(alloc, "a script has just platform and calls"),
+        None => help_of_member(alloc, document),
     };
     document.advise(items, 1, path, RecordPart::Key, "unknown key", help);
+    if !items.is_corrected() {
+        document.leave_out(items, path);
+    }
     Ok(())
+}
+
+/// What helps with a key that is near none: the one that is missing may be meant.
+fn help_of_member(alloc: Global, document: &Document<'_>) -> Help {
+    for key in SCRIPT {
+        if document.value.get(*key).is_none() {
+            let mut words = did_you_mean(alloc, key);
+            words.put(" It is missing");
+            return Help::of_word(words, key);
+        }
+    }
+    Help::of_text(alloc, "a script has just platform and calls")
 }

@@ -314,10 +314,7 @@ fn put_cause(text: &mut TextBuilder, story: &Story<'_>, call: &MadeCall<'_>, num
     };
     match refusal {
         Refusal::WrongState => put_wrong_state(text, story, call, node, number),
-        Refusal::NoChildren => {
-            call.put_on(text);
-            text.put(" has no child: create_child comes first");
-        }
+        Refusal::NoChildren => put_childless(text, story, call, number),
         Refusal::NotSelected => put_left_out(text, story, node),
         Refusal::DomainFailed => put_ended(text, story, node),
         Refusal::Pending => put_too_early(text, story, node, number),
@@ -467,6 +464,18 @@ fn put_gone(
     put_unset(text, story, call, number, "; it may mean ")
 }
 
+/// A call that needs a child, on a group without one.
+fn put_childless(text: &mut TextBuilder, story: &Story<'_>, call: &MadeCall<'_>, number: usize) {
+    call.put_on(text);
+    text.put(" has no child: ");
+    match refused_before(story, call.on, "create_child", number) {
+        Some(earlier) => put_refused_before(text, earlier, "makes one"),
+        None => {
+            text.put("create_child comes first");
+        }
+    }
+}
+
 /// A call that needs a collection, on a token.
 fn put_unbound(
     text: &mut TextBuilder,
@@ -475,16 +484,40 @@ fn put_unbound(
     node: usize,
     number: usize,
 ) {
+    call.put_on(text);
     let Some(later) = story.milestone(node, Milestone::Bind) else {
-        call.put_on(text);
-        text.put(" is a token: bind makes it a collection");
+        text.put(" is a token: ");
+        match refused_before(story, call.on, "bind", number) {
+            Some(earlier) => put_refused_before(text, earlier, "binds it"),
+            None => {
+                text.put("bind makes it a collection");
+            }
+        }
         return;
     };
-    call.put_on(text);
     text.put(" is a token until call ");
     text.call(later).put(" binds it: ");
     text.put("move this call after call ").call(later);
     put_unset(text, story, call, number, ", or it means ")
+}
+
+/// The number of the earlier call of a name on this node that was refused, if there is one: what it
+/// would have done is needed now.
+fn refused_before(story: &Story<'_>, on: &str, name: &str, number: usize) -> Option<usize> {
+    for (index, earlier) in story.calls.iter().enumerate() {
+        let at = index.saturating_add(1);
+        let is_same = earlier.on == on && earlier.act.name() == name;
+        if at < number && is_same && !earlier.is_accepted() {
+            return Some(at);
+        }
+    }
+    None
+}
+
+/// Puts that an earlier call that does so was refused after a text.
+fn put_refused_before(text: &mut TextBuilder, number: usize, does: &str) {
+    text.put("call ").call(number);
+    text.put(", which ").put(does).put(", was refused");
 }
 
 /// Of a call that states constraints puts who was bound before it and has none after a text, if
@@ -546,13 +579,18 @@ fn put_wrong_group(
         put_move(text, call, last);
         return;
     }
-    let why = if matches!(call.act, Act::Release) {
-        "isn't complete: all_children_present comes first"
-    } else {
-        "is a group: only create_child, all_children_present, release and close suit it"
-    };
     call.put_on(text);
-    text.put(" ").put(why);
+    if !matches!(call.act, Act::Release) {
+        text.put(" is a group: only create_child, all_children_present, release and close suit it");
+        return;
+    }
+    text.put(" isn't complete: ");
+    match refused_before(story, call.on, "all_children_present", number) {
+        Some(earlier) => put_refused_before(text, earlier, "says that it is"),
+        None => {
+            text.put("all_children_present comes first");
+        }
+    }
 }
 
 fn put_wrong_collection(

@@ -1,6 +1,5 @@
 //! Why participants refuse an offer, in words.
 
-use crate::amounts::{amount_at, put_amount};
 use crate::later::{put_later, put_later_size};
 use crate::listed::has_format;
 use crate::offer_reason::{OfferGround, OfferReason};
@@ -11,7 +10,7 @@ use std::alloc::{AllocError, Global};
 use sysmem_counts::Field;
 use sysmem_formats::{ColourSpace, Modifier, Offer, PixelFormat};
 use sysmem_image::{ColourSet, entry_for};
-use value_sources::{DerivedNumber, NamedParticipant, Side, Wish, Wishes, format_words, put_has};
+use value_sources::{DerivedNumber, NamedParticipant, Side, Wish, Wishes, put_has};
 
 /// The name of an offer: `NV12 LINEAR REC709`, or `without an image`.
 pub(crate) fn offer_name(alloc: Global, offer: &Offer) -> TextBuilder {
@@ -75,7 +74,7 @@ fn put_line(text: &mut TextBuilder, wishes: Wishes<'_, '_>, field: Field) {
         Field::MaxWidthTimesHeight | Field::MaxBytesPerRow | Field::MaxSizeBytes => {
             put_too_great(text, wishes, field)
         }
-        _ => put_no_multiple(text, wishes, field),
+        _ => wishes.put_no_multiple(text, field),
     }
 }
 
@@ -357,35 +356,4 @@ fn put_derived(
         }
         Err(AllocError) => text.refuse(),
     }
-}
-
-/// Puts that what participants want multiples of has no common multiple after a text.
-fn put_no_multiple(text: &mut TextBuilder, wishes: Wishes<'_, '_>, field: Field) {
-    text.field(field).put(" of ");
-    match amounts_of(text.alloc(), wishes, field) {
-        Ok(amounts) => put_few(text, &amounts, 4),
-        Err(AllocError) => text.refuse(),
-    }
-    let format = format_words(text.alloc(), &wishes.offer);
-    text.put(" have no common multiple up to 4294967295 (")
-        .put_words(&format)
-        .put(")");
-}
-
-/// What each participant who has an entry for an offer states at a field, with its name.
-fn amounts_of(
-    alloc: Global,
-    wishes: Wishes<'_, '_>,
-    field: Field,
-) -> Result<Vec<Text>, AllocError> {
-    let mut amounts: ListBuilder<Text> = ListBuilder::new(alloc);
-    for participant in wishes.participants {
-        if let Some(entry) = entry_for(participant.asked.entries(), &wishes.offer) {
-            let mut words = TextBuilder::of_name(alloc, participant.called());
-            words.put(" ");
-            put_amount(&mut words, amount_at(&entry.bounds.asked, field));
-            amounts.add_text(words);
-        }
-    }
-    amounts.done()
 }

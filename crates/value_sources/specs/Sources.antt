@@ -1,5 +1,5 @@
 -- Who asks for a number.
-use Rattle.std.specs.Prelude.{◌≡◌, ℕ, Bool, true, false, List, Any, map}
+use Rattle.std.specs.Prelude.{◌≡◌, ℕ, Bool, true, false, List, Any, map, nat_lt}
 use Rattle.std.specs.Option.{option_map_or}
 use Rattle.sysmem_counts.specs.declared.constraints.CountConstraints.{CountConstraints}
 use Rattle.sysmem_formats.specs.declared.offer.Offer.{Offer}
@@ -39,6 +39,10 @@ part_of Camping one = one.asked.now.counts.min_buffer_count_for_camping
 part_of Dedicated one = one.asked.now.counts.min_buffer_count_for_dedicated_slack
 part_of Shared one = one.asked.now.counts.min_buffer_count_for_shared_slack
 part_of Minimum one = one.asked.now.counts.min_buffer_count
+
+-- whether a participant takes fewer buffers than so many
+abbrev pub takes_fewer : ℕ → NamedParticipant → Bool
+takes_fewer count one = nat_lt one.asked.now.counts.max_buffer_count count
 
 -- a side of a size
 abbrev pub side_of : Side → Size → ℕ

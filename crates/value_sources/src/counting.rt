@@ -1,9 +1,9 @@
 //! How many buffers participants need, and where the number comes from.
 
-ghost use Rattle.std.specs.Prelude.{◌≡◌, ◌↔◌, ◌≤◌, ◌<◌, ◌*◌, ◌^◌, All, IfSome, IfNone, IsTrue, length, sum_by};
+ghost use Rattle.std.specs.Prelude.{◌≡◌, ◌↔◌, ◌≤◌, ◌<◌, ◌*◌, ◌^◌, All, IfOk, IfSome, IfNone, IsTrue, filter, length, sum_by};
 ghost use Rattle.sysmem_counts.specs.Bounds.{IsTallyOf};
 ghost use Rattle.sysmem_counts.specs.Counts.{IsCountLine, greatest as greatest_of, held_together, needed};
-ghost use Rattle.value_sources.specs.Sources.{IsNumberOf, counts_of, part_of};
+ghost use Rattle.value_sources.specs.Sources.{IsNumberOf, counts_of, part_of, takes_fewer};
 
 use crate::participant::{NamedParticipant, put_has};
 use explanation_text::wording::put_few;
@@ -258,22 +258,61 @@ fn put_limit(text: &mut TextBuilder, field: Field, participants: &[NamedParticip
             .put_number(BUFFER_COUNT_LIMIT);
         return;
     }
-    if let Some((one, most)) = least_maximum(participants) {
-        text.put("; ").name(one.called()).put(" takes at most ");
-        text.put_number(most).put(" (");
-        text.field(Field::MaxBufferCount).put(")");
+    match taking_fewer(text.alloc(), participants, needed(participants)) {
+        Ok(those) => put_fewer(text, &those),
+        Err(AllocError) => text.refuse(),
     }
 }
 
-/// The first who takes the fewest buffers at most, with that.
-fn least_maximum<'a>(participants: &[NamedParticipant<'a>]) -> Option<(NamedParticipant<'a>, u32)>
-    ensures from { IfSome result (λ r. IsNumberOf (λ one. one.asked.now.counts.max_buffer_count)
-        participants.now r.0.name.now r.1) }
-    ensures least { IfSome result (λ r.
-        All (λ one. r.1 ≤ one.asked.now.counts.max_buffer_count) participants.now) }
+/// Those who take fewer buffers than so many.
+fn taking_fewer<'a>(
+    alloc: Global,
+    participants: &[NamedParticipant<'a>],
+    count: u64,
+) -> Result<Vec<NamedParticipant<'a>>, AllocError>
+    ensures { IfOk result
+        (λ those. those.items ≡ filter (takes_fewer count) participants.now) }
 {
-    let participant = participants
+    participants
         .iter()
-        .min_by_key(|participant| participant.asked.counts().max_buffer_count)?;
-    Some((*participant, participant.asked.counts().max_buffer_count))
+        .copied()
+        .filter(|one| u64::from(one.asked.counts().max_buffer_count) < count)
+        .collect(alloc)
+}
+
+/// Puts how many buffers participants take at most after a text, if they are some.
+fn put_fewer(text: &mut TextBuilder, participants: &[NamedParticipant<'_>]) {
+    let Some(first) = participants.first() else {
+        return;
+    };
+    let most = first.asked.counts().max_buffer_count;
+    text.put("; ");
+    if participants
+        .iter()
+        .all(|one| one.asked.counts().max_buffer_count == most)
+    {
+        put_has(text, participants, "takes at most", "take at most");
+        text.put(" ").put_number(most);
+    } else {
+        put_each_most(text, participants);
+    }
+    text.put(" (").field(Field::MaxBufferCount).put(")");
+}
+
+/// Puts how many buffers each of participants takes at most after a text.
+fn put_each_most(text: &mut TextBuilder, participants: &[NamedParticipant<'_>]) {
+    let mut texts: ListBuilder<Text> = ListBuilder::new(text.alloc());
+    let mut verb = " takes at most ";
+    for one in participants {
+        let mut words = TextBuilder::of_name(text.alloc(), one.called());
+        words
+            .put(verb)
+            .put_number(one.asked.counts().max_buffer_count);
+        texts.add_text(words);
+        verb = " ";
+    }
+    match texts.done() {
+        Ok(texts) => put_few(text, &texts, MOST_PARTS),
+        Err(AllocError) => text.refuse(),
+    }
 }

@@ -12,6 +12,7 @@
 mod counting;
 mod least_count;
 mod multiples;
+mod no_multiple;
 mod participant;
 mod sizes;
 mod wishes;
@@ -19,5 +20,5 @@ mod wishes;
 pub use counting::{MOST_COUNTED, count_text, held, is_count_line, needed, why_held};
 pub use least_count::LeastCount;
 pub use participant::{NamedParticipant, put_has, put_participants};
-pub use sizes::{DerivedNumber, format_words};
+pub use sizes::DerivedNumber;
 pub use wishes::{Side, Wish, Wishes};

@@ -38,7 +38,7 @@ fn gcd(a: u128, b: u128) -> u128 {
     high
 }
 
-fn lcm(a: u128, b: u128) -> u128 {
+pub(crate) fn lcm(a: u128, b: u128) -> u128 {
     let shared = gcd(a, b);
     if shared == 0 {
         return 0;
@@ -65,16 +65,20 @@ fn who_asks(alloc: Global, parts: &[Multiple], whole: u128) -> Result<Text, Allo
     words.into_text()
 }
 
-/// The indices of parts without which the others have the same multiple, from the last to the
-/// first.
-fn needless(alloc: Global, parts: &[Multiple], whole: u128) -> Result<Vec<usize>, AllocError> {
+/// The indices of parts without which the multiple of the others is this one of all, or not below
+/// one that is less, from the last to the first.
+pub(crate) fn needless(
+    alloc: Global,
+    parts: &[Multiple],
+    least: u128,
+) -> Result<Vec<usize>, AllocError> {
     let mut left_out: Vec<usize> = Vec::new(alloc);
     for k in (0..parts.len()).rev() {
         let is_trivial = match parts.get(k) {
             Some(part) => part.value < 2,
             None => true,
         };
-        if is_trivial || lcm_but(parts, k, &left_out) == whole {
+        if is_trivial || reaches(parts, k, &left_out, least) {
             left_out.push(k)?;
         }
     }
@@ -106,8 +110,22 @@ fn text_of(alloc: Global, part: &Multiple, is_alone: bool) -> TextBuilder {
     words
 }
 
+/// Whether the least common multiple of all parts but one and some others is at least so much.
+fn reaches(parts: &[Multiple], index: usize, others: &[usize], least: u128) -> bool {
+    let mut whole = 1u128;
+    for (k, part) in parts.iter().enumerate() {
+        if k != index && !others.contains(&k) {
+            whole = lcm(whole, part.value);
+        }
+        if whole >= least {
+            return true;
+        }
+    }
+    false
+}
+
 /// The least common multiple of all parts but one and some others.
-fn lcm_but(parts: &[Multiple], index: usize, others: &[usize]) -> u128 {
+pub(crate) fn lcm_but(parts: &[Multiple], index: usize, others: &[usize]) -> u128 {
     let mut whole = 1u128;
     for (k, part) in parts.iter().enumerate() {
         if k != index && !others.contains(&k) {

@@ -19,7 +19,7 @@ pub struct DerivedNumber {
 }
 
 /// The name of an offer's format.
-pub fn format_words(alloc: Global, offer: &Offer) -> TextBuilder {
+pub(crate) fn format_words(alloc: Global, offer: &Offer) -> TextBuilder {
     let mut words = TextBuilder::new(alloc);
     match offer {
         Offer::NoImage => words.put("none"),
@@ -28,7 +28,7 @@ pub fn format_words(alloc: Global, offer: &Offer) -> TextBuilder {
     words
 }
 
-fn modifier_of(offer: &Offer) -> Modifier {
+pub(crate) fn modifier_of(offer: &Offer) -> Modifier {
     match offer {
         Offer::NoImage => Modifier::Linear,
         Offer::Image(pair, _) => pair.modifier,
@@ -331,7 +331,10 @@ fn itself(alloc: Global, offer: &Offer) -> TextBuilder {
 }
 
 /// A list of one multiple.
-fn own_multiple(words: TextBuilder, value: u128) -> Result<ListBuilder<Multiple>, AllocError> {
+pub(crate) fn own_multiple(
+    words: TextBuilder,
+    value: u128,
+) -> Result<ListBuilder<Multiple>, AllocError> {
     let mut parts = ListBuilder::new(words.alloc());
     parts.add(Multiple {
         value,

@@ -8,7 +8,7 @@ ghost use Rattle.constraint_edits.specs.Drafts.{size_of};
 ghost use Rattle.constraint_edits.specs.EditedBounds.{absent_at, bound_edited, bounds_exchanged, entry_exchanged, value_changed, values_exchanged, with_value};
 
 use super::values::{
-    Extent, absent_at, is_above, is_bound, is_same_field, is_same_size, value_at, value_given,
+    Extent, absent_at, is_above, is_between, is_bound, is_same_field, value_at, value_given,
 };
 use crate::amount::Amount;
 use std::alloc::{AllocError, Global};
@@ -150,14 +150,14 @@ impl Given {
         self.put(kept)
     }
 
-    /// An entry with the value, if it has one of the field that isn't this absent one.
+    /// An entry with the value, if by its own it asks for more of the field, which is absent at this.
     fn changed(&self, absent: Extent, entry: &Entry) -> Option<Entry>
         requires { size_of absent ≡ absent_at self.now.field }
         ensures { IfSome result (λ made. made
             ≡ value_changed self.now.field (size_of self.now.value) entry.now) }
     {
         let was = value_at(self.field, &entry.bounds)?;
-        if is_same_size(was, absent) {
+        if is_between(self.value, absent, was) {
             return Some(*entry);
         }
         let bounds = self.with_value(&entry.bounds)?;
@@ -177,8 +177,8 @@ fn bounded(entry: &Entry, bounds: EntryBounds) -> Entry
     }
 }
 
-/// Entries of which a bound is left out, or has an amount; `None` where the field is no bound, or
-/// may not have it.
+/// Entries of which a bound is left out, or has an amount where it asks for more; `None` where the
+/// field is no bound, or may not have it.
 pub(super) fn bound_edited(
     alloc: Global,
     entries: &[Entry],

@@ -4,7 +4,7 @@ ghost use Rattle.std.specs.Prelude.{◌≡◌, Some, None, IfSome, IsTrue, true,
 ghost use Rattle.sysmem_image.specs.Size.{square};
 ghost use Rattle.record_reading.specs.Reading.Fields.{same_field};
 ghost use Rattle.constraint_edits.specs.Drafts.{range_seen, size_of};
-ghost use Rattle.constraint_edits.specs.EditedBounds.{absent_at, bound_of, is_above, number_read, same_size, sides_read, value_at, value_given, value_stated};
+ghost use Rattle.constraint_edits.specs.EditedBounds.{absent_at, bound_of, is_above, is_between, lies_between, number_read, sides_read, value_at, value_given, value_stated};
 
 use crate::amount::Amount;
 use sysmem_counts::Field;
@@ -198,14 +198,13 @@ pub(super) fn absent_at(field: Field) -> Option<Extent>
     bounds_table!(absents!(field))
 }
 
-/// Whether a bound that is stated asks for something: it has another value than where it isn't.
-pub(crate) fn asks(field: Field, stated: Amount) -> bool {
-    let Some(value) = value_given(field, Some(stated)) else {
-        return true;
-    };
-    match absent_at(field) {
-        Some(absent) => !is_same_size(value, absent),
-        None => true,
+/// Whether a bound that is stated asks for more than with an amount, or than where it isn't.
+pub(crate) fn asks_more(field: Field, stated: Amount, amount: Option<Amount>) -> bool {
+    let value = value_given(field, Some(stated));
+    let other = value_given(field, amount);
+    match (value, other, absent_at(field)) {
+        (Some(value), Some(other), Some(absent)) => !is_between(other, absent, value),
+        _ => true,
     }
 }
 
@@ -217,10 +216,18 @@ pub(super) fn value_at(field: Field, bounds: &EntryBounds) -> Option<Extent>
     bounds_table!(at!(field, asked))
 }
 
-pub(super) fn is_same_size(a: Extent, b: Extent) -> bool
-    ensures { result ≡ same_size (size_of a) (size_of b) }
+/// Whether a number is one of two others, or lies between them.
+fn lies_between(a: u64, b: u64, number: u64) -> bool
+    ensures { result ≡ lies_between a b number }
 {
-    a.width == b.width && a.height == b.height
+    (a <= number && number <= b) || (b <= number && number <= a)
+}
+
+/// Whether each side of a size does so.
+pub(super) fn is_between(a: Extent, b: Extent, size: Extent) -> bool
+    ensures { result ≡ is_between (size_of a) (size_of b) (size_of size) }
+{
+    lies_between(a.width, b.width, size.width) && lies_between(a.height, b.height, size.height)
 }
 
 /// Whether a size is above another in a dimension at least.

@@ -57,7 +57,10 @@ abbrev pub decreases-helping::add_changed : goal.decreases-helping::add_changed
 decreases-helping::add_changed l = twelve l.levels + 1
 
 abbrev pub decreases-helping::add_refused : goal.decreases-helping::add_refused
-decreases-helping::add_refused l = twelve l.levels + 1
+decreases-helping::add_refused l = twelve l.levels + 3
+
+abbrev pub decreases-corrected::add_mended : goal.decreases-corrected::add_mended
+decreases-corrected::add_mended l = twelve l.levels + 2
 
 abbrev pub decreases-corrected::add_corrected : goal.decreases-corrected::add_corrected
 decreases-corrected::add_corrected l = twelve l.levels + 1

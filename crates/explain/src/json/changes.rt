@@ -16,7 +16,7 @@ pub(crate) fn change_value(
     item: &Item,
 ) -> Result<Value, AllocError> {
     let mut object = Object::new(alloc);
-    mentions_in(alloc, &item.mentions)?.put(&mut object, scene)?;
+    mentions_in(alloc, item)?.put(&mut object, scene)?;
     put_change(&mut object, item)?;
     object.say("text", &item.text)?;
     Ok(object.into_value())
@@ -68,6 +68,16 @@ fn word_for(deed: Deed) -> &'static str {
         Deed::AddEntry(_) => "add_entry",
         Deed::PutFirst(_) => "put_first",
     }
+}
+
+/// The field that an item says is changed, if it says that of one.
+pub(crate) fn field_changed(item: &Item) -> Option<Field> {
+    for fact in &item.facts {
+        if let Fact::Change(deed) = fact {
+            return field_of(*deed);
+        }
+    }
+    None
 }
 
 /// The field to which it is done, if it is to one.

@@ -58,7 +58,7 @@ fn kind_of(item: &Item) -> &'static str {
 /// Puts what words name, and where the first call stands that they name.
 fn put_words(object: &mut Object, scene: &Scene<'_, '_>, item: &Item) -> Result<(), AllocError> {
     let alloc = object.alloc();
-    let mentions = mentions_in(alloc, &item.mentions)?;
+    let mentions = mentions_in(alloc, item)?;
     mentions.put(object, scene)?;
     let Some(number) = mentions.calls.first() else {
         return Ok(());

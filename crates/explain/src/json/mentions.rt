@@ -1,10 +1,11 @@
 //! What a text names: nodes, calls, fields, formats and modifiers.
 
+use crate::json::changes::field_changed;
 use crate::json::object::Object;
 use crate::json::scene::Scene;
 use crate::json::values::count_value;
 use drm_images::{bits_of, letters_of};
-use explanation_text::{ListBuilder, Mention, Thing};
+use explanation_text::{Item, ListBuilder, Thing};
 use serde_json::Value;
 use std::alloc::{AllocError, Global};
 use sysmem_counts::Field;
@@ -22,8 +23,9 @@ pub(crate) struct Mentions {
     modifiers: Vec<Modifier>,
 }
 
-/// What a text names, each kind by itself, in order and once.
-pub(crate) fn mentions_in(alloc: Global, named: &[Mention]) -> Result<Mentions, AllocError> {
+/// What the text of an item names, each kind by itself, in order and once; last the field that it
+/// changes.
+pub(crate) fn mentions_in(alloc: Global, item: &Item) -> Result<Mentions, AllocError> {
     let mut mentions = Mentions {
         nodes: Vec::new(alloc),
         calls: Vec::new(alloc),
@@ -31,7 +33,7 @@ pub(crate) fn mentions_in(alloc: Global, named: &[Mention]) -> Result<Mentions, 
         formats: Vec::new(alloc),
         modifiers: Vec::new(alloc),
     };
-    for mention in named {
+    for mention in &item.mentions {
         match mention.thing {
             Thing::Node(node) => add(&mut mentions.nodes, node)?,
             Thing::Call(number) => add(&mut mentions.calls, number)?,
@@ -39,6 +41,9 @@ pub(crate) fn mentions_in(alloc: Global, named: &[Mention]) -> Result<Mentions, 
             Thing::Format(format) => add(&mut mentions.formats, format)?,
             Thing::Modifier(modifier) => add(&mut mentions.modifiers, modifier)?,
         }
+    }
+    if let Some(field) = field_changed(item) {
+        add(&mut mentions.fields, field)?;
     }
     Ok(mentions)
 }

@@ -36,6 +36,9 @@ fn put_help(
             put_help_after_value(words, machine, bytes, at, byte)
         }
         Expected::Text => put_help_in_text(words, machine, bytes),
+        Expected::Key if byte == b'{' && before(bytes, at) == Some(b',') => {
+            put_still_open(words, machine, bytes)
+        }
         _ => words.push_str(plain_help(bytes, at, byte, expected)),
     }
 }
@@ -101,6 +104,15 @@ fn put_open(words: &mut String, bytes: &[u8], open: &Open) -> Result<(), AllocEr
         "the { of "
     };
     put_place(words, bracket, bytes, open.start)
+}
+
+/// Says what was opened last and is still open.
+fn put_still_open(words: &mut String, machine: &Machine, bytes: &[u8]) -> Result<(), AllocError> {
+    let Some(open) = machine.open().last() else {
+        return Ok(());
+    };
+    put_open(words, bytes, open)?;
+    words.push_str(" is still open")
 }
 
 /// The last byte before a place that is no space, if there is one.
@@ -174,10 +186,8 @@ fn put_help_after_value(
                 machine.last_end(),
             )
         }
-        b'}' | b']' => {
-            put_open(words, bytes, open)?;
-            words.push_str(" is still open")
-        }
+        b'}' | b']' => put_still_open(words, machine, bytes),
+        b'*' => words.push_str("JSON has no products"),
         b':' if open.is_list => {
             put_place(
                 words,

@@ -23,7 +23,7 @@ pub(crate) fn mend_of(
     }
     match expected {
         Expected::Value => value_at(alloc, bytes, at, byte),
-        Expected::Key => Ok(key_at(bytes, at, byte)),
+        Expected::Key => Ok(key_at(machine, bytes, at, byte)),
         Expected::Colon => Ok(colon_at(at, byte)),
         Expected::CommaOrBrace | Expected::CommaOrBracket => {
             comma_at(alloc, machine, bytes, at, byte)
@@ -176,10 +176,15 @@ fn word_begun(
     }
 }
 
-/// Where a key is due: what may be meant.
-fn key_at(bytes: &[u8], at: usize, byte: u8) -> Option<Correction> {
+/// Where a key is due: what may be meant. An object after a comma comes after the one that is open,
+/// whose bracket is missing.
+fn key_at(machine: &Machine, bytes: &[u8], at: usize, byte: u8) -> Option<Correction> {
     match byte {
         b'}' | b',' => comma_before(bytes, at),
+        b'{' => {
+            let _comma = comma_before(bytes, at)?;
+            marked(before_byte(machine.last_end()), '}')
+        }
         b'\'' => single_quoted(bytes, at),
         _ if is_word_byte(byte) => quoted(word_at(bytes, at)),
         _ => None,
@@ -210,8 +215,21 @@ fn comma_at(
         b';' => Ok(marked(byte_at(at), ',')),
         b'}' | b']' => bracket_at(alloc, machine, bytes, at),
         b'x' | b'X' => Ok(hexadecimal_at(bytes, at)),
+        b'*' => Ok(product_at(machine, bytes)),
+        b':' => Ok(list_end(machine, bytes)),
         _ => Ok(None),
     }
+}
+
+/// The end of the list that is open, before the comma and the last string in it, which is a key of
+/// what has the list.
+fn list_end(machine: &Machine, bytes: &[u8]) -> Option<Correction> {
+    let open = machine.open().last()?;
+    if !open.is_list {
+        return None;
+    }
+    let comma = comma_before(bytes, machine.begin())?;
+    marked(before_byte(comma.span.start), ']')
 }
 
 /// A bracket that ends what isn't open: it is left out where that gives JSON, else the one that is
@@ -248,6 +266,44 @@ fn hexadecimal_at(bytes: &[u8], at: usize) -> Option<Correction> {
         span: Span { start, end },
         meant: Meant::Number(number),
     })
+}
+
+/// The product in the place of the last number and of those by which it is multiplied.
+fn product_at(machine: &Machine, bytes: &[u8]) -> Option<Correction> {
+    let start = machine.begin();
+    let text = bytes.get(start..).unwrap_or(&[]);
+    let length = text
+        .iter()
+        .position(|byte| !matches!(*byte, b'0'..=b'9' | b'*' | b' '))
+        .unwrap_or(text.len());
+    let text = text.get(..length).unwrap_or(text).trim_ascii_end();
+    let mut product = 1u64;
+    for factor in std::str::from_utf8(text).ok()?.split('*') {
+        product = product.checked_mul(decimal_of(factor)?)?;
+    }
+    Some(Correction {
+        span: Span {
+            start,
+            end: start.saturating_add(text.len()),
+        },
+        meant: Meant::Number(product),
+    })
+}
+
+/// The number of decimal digits, with spaces before and after them; `None` where there are none.
+fn decimal_of(text: &str) -> Option<u64> {
+    let digits = text.as_bytes().trim_ascii();
+    let mut number = None;
+    for byte in digits {
+        let digit = char::from(*byte).to_digit(10)?;
+        number = Some(
+            number
+                .unwrap_or(0u64)
+                .checked_mul(10)?
+                .checked_add(u64::from(digit))?,
+        );
+    }
+    number
 }
 
 /// Where hexadecimal digits end that begin at a place, and their number; `None` where there are

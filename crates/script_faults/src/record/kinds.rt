@@ -2,9 +2,9 @@
 
 use crate::record::keys::{is_one_of, kind_at, range_of};
 use crate::record::sides::sides_in;
-use explanation_text::TextBuilder;
+use explanation_text::{Meant, TextBuilder};
 use serde_json::{Number, Value};
-use std::alloc::Global;
+use std::alloc::{AllocError, Global};
 use sysmem_counts::Kind;
 
 /// What a value is, in words.
@@ -112,6 +112,21 @@ pub(crate) fn is_heap_type(text: &str) -> bool {
         && text.len() <= 128
         && text.as_bytes().iter().all(|byte| byte.is_ascii_alphanumeric()
             || matches!(*byte, b'.' | b'_' | b'-'))
+}
+
+/// The type of a heap that is like a text which can't be one: `_` stands for each character that it
+/// can't have. `None` where that can't be one either.
+pub(crate) fn heap_type_like(alloc: Global, bad: &str) -> Result<Option<Meant>, AllocError> {
+    let mut name = String::new(alloc);
+    for c in bad.chars() {
+        let is_good = c.is_ascii_alphanumeric() || c == '.' || c == '-';
+        name.push(if is_good { c } else { '_' })?;
+    }
+    Ok(if is_heap_type(&name) {
+        Some(Meant::Word(name))
+    } else {
+        None
+    })
 }
 
 /// What is wrong with what stands for a number.

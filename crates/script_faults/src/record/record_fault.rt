@@ -4,7 +4,9 @@ use crate::help::{Help, did_you_mean};
 use crate::record::document::{Document, RecordPart};
 use crate::record::firsts::put_first_like;
 use crate::record::keys::{SIZE, is_one_of, kind_at, names_of, put_allowed, range_of};
-use crate::record::kinds::{flag_in, is_number_within, wrong_kind, wrong_number, wrong_value};
+use crate::record::kinds::{
+    flag_in, heap_type_like, is_number_within, wrong_kind, wrong_number, wrong_value,
+};
 use crate::record::leaving::{lacks_needed, what_goes};
 use crate::record::list_fault::{free_id, is_linear_beside, note_of_list, tiled_formats};
 use crate::record::names::{ANY, hint_of_name, names_for};
@@ -494,7 +496,7 @@ fn value_meant(
             return number_meant(alloc, at, value, written, range_of(at.name()));
         }
         Kind::Flag => return Ok(flag_meant(at, value)),
-        Kind::Sides => return sides_meant(alloc, value),
+        Kind::Sides => return sides_meant(alloc, at, value),
         Kind::Name => return heap_meant(alloc, faulty, value),
         Kind::Names if !is_item => is_known(alloc, at, value, faulty.is_platform)?,
         Kind::Objects if !is_item && !value.is_object() => {
@@ -506,7 +508,8 @@ fn value_meant(
     Ok(if is_list { Some(Meant::List) } else { None })
 }
 
-/// The type of a heap of the platform that is near a text which can't be one.
+/// The type of a heap that may be meant by a text which can't be one: for constraints that of a heap
+/// of the platform which is near; for the platform one with `_` for each wrong character.
 fn heap_meant(
     alloc: Global,
     faulty: Faulty<'_, '_>,
@@ -515,8 +518,11 @@ fn heap_meant(
     let Some(name) = value.as_str() else {
         return Ok(None);
     };
-    if faulty.fault.at != FaultPlace::At(Field::HeapType) || faulty.is_platform {
+    if faulty.fault.at != FaultPlace::At(Field::HeapType) {
         return Ok(None);
+    }
+    if faulty.is_platform {
+        return heap_type_like(alloc, name);
     }
     let types = heap_types(alloc, faulty.document)?;
     Ok(match nearest(alloc, name, &types)? {
@@ -549,9 +555,14 @@ fn flag_meant(at: FaultPlace, value: &Value) -> Option<Meant> {
     }
 }
 
-/// A width and a height, where they are written as a list or as a text.
-fn sides_meant(alloc: Global, value: &Value) -> Result<Option<Meant>, AllocError> {
-    let Some(sides) = sides_in(value) else {
+/// A width and a height, where they are written as a list or as a text; of an alignment also as one
+/// number for both.
+fn sides_meant(alloc: Global, at: FaultPlace, value: &Value) -> Result<Option<Meant>, AllocError> {
+    let both = match value.as_u64() {
+        Some(number) if at == FaultPlace::At(Field::SizeAlignment) => Some((number, number)),
+        _ => None,
+    };
+    let Some(sides) = sides_in(value).or(both) else {
         return Ok(None);
     };
     Ok(Some(Meant::Written(size_text(alloc, sides)?)))
