@@ -13,12 +13,18 @@ BESIDE = (
     r"(?: or (?:more|less)| \((?:width and height exchanged|(?:8|1,000|1,024) times (?:more|less)"
     r"|hexadecimal written as decimal)\))?"
 )
+# A bound that an entry lacks, and is to state.
+LACKED = r"(?!min_buffer_count )(\w+) (?:\(absent(?:, so [\dx]+)?\)|.+ or absent) becomes \d"
 # A participant, with the call and the lines of a change.
 WHO = r"\S+ \(call \d+(?:, lines? [^)]*)?\)"
 
 
-# Calls of which one is enough, or all are needed, and what comes with the first of them.
-OF_SEVERAL = r"(.* calls ([\d, and]+).*, (?:of which one is enough|all of which it needs); with call )\d+( .*)"
+# Calls of which one is enough, or all are needed, and what comes with the first of them; not of those without which
+# other children are chosen, since each may leave others.
+OF_SEVERAL = (
+    r"((?!it has room with these children ).* calls ([\d, and]+).*, (?:of which one is enough|all of which it needs); "
+    r"with call )\d+( .*)"
+)
 
 
 def each_alone(words):
@@ -77,10 +83,23 @@ def without_cpu(constraints):
     constraints["usage"] = [usage for usage in constraints["usage"] if usage != "cpu"] or ["none"]
 
 
+def joined(names):
+    """At most four names as a text has them."""
+    return " and ".join([", ".join(names[:-1])] * (len(names) > 1) + names[-1:])
+
+
+def numbers_changed(before, after, told):
+    """Judges that just the entries are changed whose numbers are told, if some are: the first of them."""
+    numbers = [str(number) for number, (was, now) in enumerate(zip(before, after), 1) if was != now]
+    if told:
+        listed = joined(numbers) if len(numbers) < 5 else f"{', '.join(numbers[:3])} and {len(numbers) - 3} more"
+        judge(told == listed, f"entries {numbers} are told to be {told}")
+
+
 def taken(constraints, what):
     """Makes a change that takes more, and says whether the words are of such a one."""
-    exchange = re.fullmatch(r"(\w+) \S+ and (\w+) \S+ exchanged", what)
-    colour = re.fullmatch(r"color_spaces .*, with (\w+) too", what)
+    exchange = re.fullmatch(r"(\w+) (?:\S+ )?and (\w+) (?:\S+ )?exchanged(?: in entries (.*))?", what)
+    colour = re.fullmatch(r"color_spaces (?:(.*), )?with (\w+) too(?: in entries (.*))?", what)
     pair = re.fullmatch(
         r"pixel_format (\w+ \w+) too, in an entry before the others that is else like (?:the first|entry (\d+)) \(.*\)",
         what,
@@ -89,11 +108,17 @@ def taken(constraints, what):
     alone = re.fullmatch(r"permitted_heaps (.+) becomes (\S+#\d+)", what)
     first = re.fullmatch(r"entry (\d+) \(.*\) put first", what)
     if exchange:
+        before = json.loads(json.dumps(constraints.get(ENTRIES, [])))
         exchanged(constraints, exchange[1], exchange[2])
+        numbers_changed(before, constraints.get(ENTRIES, []), exchange[3])
     elif colour:
+        before = json.loads(json.dumps(constraints[ENTRIES]))
         for entry in constraints[ENTRIES]:
-            if colour[1] not in entry["color_spaces"]:
-                entry["color_spaces"].append(colour[1])
+            if colour[2] not in entry["color_spaces"]:
+                told = len(entry["color_spaces"]) > 4 or colour[1] in (None, joined(entry["color_spaces"]))
+                judge(told, f"{what}: the list of an entry is {entry['color_spaces']}")
+                entry["color_spaces"].append(colour[2])
+        numbers_changed(before, constraints[ENTRIES], colour[3])
     elif pair:
         like = constraints[ENTRIES][int(pair[2] or 1) - 1]
         constraints[ENTRIES].insert(0, entry_like(like, pair[1]))
@@ -159,6 +184,15 @@ def with_field(constraints, field, was, change):
         change(place)
 
 
+def with_bound(constraints, field, was, amount):
+    """States a bound in all entries, some of which are told to lack it."""
+    stated = list(dict.fromkeys(spelled(entry[field]) for entry in constraints[ENTRIES] if field in entry))
+    told = f"{joined(stated)} or absent" if stated else was
+    judge(told == was and any(field not in entry for entry in constraints[ENTRIES]), f"{field} is told to be {was}")
+    for entry in constraints[ENTRIES]:
+        entry[field] = amount
+
+
 def changed(script, words):
     """A script with one participant's constraints changed as the words say."""
     both = re.fullmatch(
@@ -193,6 +227,9 @@ def changed(script, words):
         field, was, value = re.fullmatch(rf"(\w+) (.+) becomes ([\dx]+){BESIDE}", what).groups()
         sides = [int(side) for side in value.split("x")]
         amount = sides[0] if len(sides) == 1 else {"width": sides[0], "height": sides[1]}
+        if re.match(LACKED, what):
+            with_bound(constraints, field, was, amount)
+            return script
         put_back = keep_untold(constraints, field, was, amount)
         with_field(constraints, field, was, lambda place: place.update({field: amount}))
         put_back()
@@ -206,6 +243,8 @@ def compare_lines(name, words, text):
     for told, what in re.findall(r"\S+ \(call \d+, lines? ([^)]*)\): (.*)", words):
         if what.startswith("entry "):
             keys = ["{"]
+        elif lacked := re.match(LACKED, what):
+            keys = ["{", f'"{lacked[1]}"']
         elif "(absent" in what:
             keys = ['"constraints"', f'"{MEMORY}"']
         elif what.endswith(" (a count of all buffers)"):
@@ -379,9 +418,9 @@ def ended_after(script, words):
     """A script in which calls that release or close somebody come after another call; without these calls the domain is
     the same, where that is said."""
     ends, names, each, late, after, never = re.fullmatch(
-        r"it has room only since calls? ([\d, and]+?) (?:together )?(?:released or closed|released|closed) (.*?)"
-        r"(, all of which it needs)?; with calls? ([\d, and]+) after call (\d+)(, or left out,)? it would be, with the "
-        r"calls numbered anew:",
+        r"it has room (?:with these children )?only since calls? ([\d, and]+?) (?:together )?"
+        r"(?:released or closed|released|closed) (.*?)(, all of which it needs)?; "
+        r"with calls? ([\d, and]+) after call (\d+)(, or left out,)? it would be, with the calls numbered anew:",
         words,
     ).groups()
     calls, numbers = script["calls"], [int(number) for number in re.findall(r"\d+", late)]
@@ -399,10 +438,10 @@ def ended_after(script, words):
 
 
 def group_first(script, words):
-    """A script in which a call that makes a group comes before one that makes another."""
+    """A script in which a call that makes a group, or what it hangs below, comes before one that makes another so."""
     first, second, later, made = re.fullmatch(
-        r"(\S+) is made before (\S+), so its choice weighs more; with call (\d+), which makes \2, before call (\d+) it "
-        r"would be:",
+        r"(\S+?)(?:, which \S+ hangs below,)? is made before (\S+?)(?:, which \S+ hangs below)?, so "
+        r"(?:its|\S+'s) choice weighs more; with call (\d+), which makes \2, before call (\d+) it would be:",
         words,
     ).groups()
     calls = script["calls"]
@@ -431,8 +470,8 @@ OTHERWISE = {
     "with release in the place of close ": released,
     " only later, by call": ended_before,
     " with their names exchanged in calls ": names_exchanged,
-    "it has room only since call": ended_after,
-    ", so its choice weighs more; ": group_first,
+    " only since call": ended_after,
+    " choice weighs more; ": group_first,
     " on the platform ": widened,
     " moved after ": moved,
     " the script has, its calls numbered anew:": added,

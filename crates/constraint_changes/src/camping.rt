@@ -24,8 +24,8 @@ use value_sources::NamedParticipant;
 const CAMPING: Edit = Edit::NoCount(Field::MinBufferCountForCamping);
 
 /// Tries a participant's count for camping as the least count of all buffers, where it states none
-/// of these, and others need fewer once its own is left out, by which this was found; tells it where
-/// so many are decided then.
+/// of these, and others need fewer once its own is left out, by which this was found, or an attached
+/// domain has just so many; tells it where so many are decided then.
 pub(crate) fn try_whole_count(
     search: &mut Search<'_, '_>,
     group: Group<'_, '_>,
@@ -36,7 +36,9 @@ pub(crate) fn try_whole_count(
 ) -> Result<(), AllocError> {
     let counts = participant.asked.counts();
     let count = counts.min_buffer_count_for_camping;
-    let is_enough = reached_by(&found.outcome).count < count;
+    let decided = reached_by(&found.outcome).count;
+    let are_given = count > 1 && decided == count && is_attached(group);
+    let is_enough = decided < count || are_given;
     if edit != CAMPING || counts.min_buffer_count > 0 || !is_enough {
         return Ok(());
     }
@@ -55,6 +57,16 @@ pub(crate) fn try_whole_count(
         Some(promise) => tell_whole_count(search, group, participant, count, promise),
         None => Ok(()),
     }
+}
+
+/// Whether the domain of a group was attached: its buffers were decided before.
+fn is_attached(group: Group<'_, '_>) -> bool {
+    for domain in &group.story.domains {
+        if domain.root == group.root && domain.host.is_some() {
+            return true;
+        }
+    }
+    false
 }
 
 /// Adds the call at a place, where its record asks for so many buffers and for none for camping;

@@ -14,19 +14,35 @@ use crate::trials::{
     Group, Party, RestatedConstraints, Trial, TrialResult, are_sized, can_help, change_leaves_none,
     entries_behind, has_groups, is_worth, leaves_none, parties_of, put_choice, reached_by,
 };
-use constraint_edits::{Amount, Change, Edit, Slip, changes, edited, is_absurd, slips_of};
+use constraint_edits::{
+    Amount, Change, Edit, Slip, amounts_in, changes, edited, is_absurd, slips_of,
+};
 use domain_reasons::{choices_in, rooms_needed};
 use explanation_text::wording::put_joined;
 use explanation_text::{Items, Label, Text, TextBuilder};
 use script_story::{Effort, Milestone, Story, asked_in};
+use settings_reasons::failing;
 use std::alloc::{AllocError, Global};
 use std::slice::from_ref;
+use sysmem_counts::Field;
 use value_sources::NamedParticipant;
 
 /// How many changes are told.
 const MOST: usize = 5;
 /// How many are tried.
 const TRIES: usize = 300;
+
+/// The bounds by which a late one may ask for what nobody asked before, and somebody might have.
+const ASKED_LATE: [Field; 8] = [
+    Field::SizeAlignment,
+    Field::BytesPerRowDivisor,
+    Field::StartOffsetDivisor,
+    Field::DisplayRectAlignment,
+    Field::MinSize,
+    Field::MinBytesPerRow,
+    Field::RequiredMaxSize,
+    Field::RequiredMinSize,
+];
 
 /// What was found of changes so far.
 #[derive(Drop)]
@@ -151,26 +167,74 @@ fn try_all(
     Ok(())
 }
 
-/// Tries that more buffers are asked for in the initial domain, where those that were decided don't
-/// do for the one of an index, which was attached.
+/// Tries that more is asked for in the initial domain, where what was decided doesn't do for the one
+/// of an index, which was attached: more buffers, or the bounds that are asked for late.
 fn try_room(
     search: &mut Search<'_, '_>,
     group: Group<'_, '_>,
     index: usize,
 ) -> Result<(), AllocError> {
     for count in &rooms_needed(search.alloc, group.story, index)? {
-        try_counts(search, group, index, *count)?;
+        try_before(search, group, index, Edit::LeastCount(*count))?;
+    }
+    for edit in &bounds_asked(search.alloc, group, index)? {
+        try_before(search, group, index, *edit)?;
     }
     Ok(())
 }
 
-/// Tries that somebody asks for so many buffers in the initial domain, until one helps: first whom
+/// That a bound is stated which those of a group ask for, and which what was decided before the
+/// domain of an index, which is theirs, doesn't meet.
+fn bounds_asked(
+    alloc: Global,
+    group: Group<'_, '_>,
+    index: usize,
+) -> Result<Vec<Edit>, AllocError> {
+    let mut edits = Vec::new(alloc);
+    let Some(before) = host_of(group.story, index).and_then(|host| group.story.domain_of(host))
+    else {
+        return Ok(edits);
+    };
+    let Some(settings) = &before.settings else {
+        return Ok(edits);
+    };
+    let platform = group.scenario.platform;
+    for participant in group.participants {
+        for field in &failing(alloc, platform, settings, participant.asked)? {
+            add_bounds(&mut edits, participant, *field)?;
+        }
+    }
+    Ok(edits)
+}
+
+/// Adds that a bound is stated with each amount that a participant states, each once.
+fn add_bounds(
+    edits: &mut Vec<Edit>,
+    participant: &NamedParticipant<'_>,
+    field: Field,
+) -> Result<(), AllocError> {
+    let Some(value) = participant.stated else {
+        return Ok(());
+    };
+    if !ASKED_LATE.contains(&field) {
+        return Ok(());
+    }
+    for amount in amounts_in(*edits.allocator(), value, Edit::NoBound(field))? {
+        let edit = Edit::States(field, amount);
+        if !edits.contains(&edit) {
+            edits.push(edit)?;
+        }
+    }
+    Ok(())
+}
+
+/// Tries that somebody asks for more in the initial domain by an edit, until one helps: first whom
 /// the domain of an index was attached to.
-fn try_counts(
+fn try_before(
     search: &mut Search<'_, '_>,
     group: Group<'_, '_>,
     index: usize,
-    count: u32,
+    edit: Edit,
 ) -> Result<(), AllocError> {
     let alloc = search.alloc;
     let story = group.story;
@@ -179,14 +243,14 @@ fn try_counts(
     };
     let participants = asked_in(alloc, story, initial_of(story), true)?;
     for whom in [Whom::Host, Whom::Stating, Whom::Others] {
-        if try_count(search, group, &participants, whom, host, count)? {
+        if try_whom(search, group, &participants, whom, host, edit)? {
             break;
         }
     }
     Ok(())
 }
 
-/// Those who may ask for more buffers.
+/// Those who may ask for more.
 #[derive(Clone, Copy)]
 enum Whom {
     /// Whom a domain was attached to.
@@ -208,19 +272,20 @@ impl Whom {
     }
 }
 
-/// Tries that one of these participants asks for so many buffers, until one helps; whether one does.
-fn try_count(
+/// Tries an edit of each of these participants, until one helps; whether one does.
+fn try_whom(
     search: &mut Search<'_, '_>,
     group: Group<'_, '_>,
     participants: &[NamedParticipant<'_>],
     whom: Whom,
     host: usize,
-    count: u32,
+    edit: Edit,
 ) -> Result<bool, AllocError> {
     let before = search.count;
     for participant in participants {
-        if search.count == before && whom.is(participant, host) {
-            try_one(search, group, participant, Edit::LeastCount(count))?;
+        let is_left = search.count == before && !search.is_done(group.scenario.effort);
+        if is_left && whom.is(participant, host) {
+            try_one(search, group, participant, edit)?;
         }
     }
     Ok(search.count > before)
@@ -381,7 +446,7 @@ fn put_least(
 fn is_likely(edit: Edit) -> bool {
     matches!(
         edit,
-        Edit::MeansHeap(_) | Edit::EntryFirst(_) | Edit::LeastCount(_)
+        Edit::MeansHeap(_) | Edit::EntryFirst(_) | Edit::LeastCount(_) | Edit::States(_, _)
     )
 }
 

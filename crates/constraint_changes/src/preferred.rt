@@ -15,7 +15,7 @@ mod wish;
 
 use crate::preferred::children::{try_groups, try_late_groups};
 use crate::preferred::colours::try_colours;
-use crate::preferred::heaps::try_later_heap;
+use crate::preferred::heaps::try_later_heaps;
 use crate::preferred::kinds::try_kinds;
 use crate::preferred::pairs::try_pairs;
 use crate::preferred::places::{try_other_domain, try_places};
@@ -24,15 +24,17 @@ pub use crate::preferred::telling::ToldChange;
 use crate::preferred::wish::{Goal, Wish};
 use crate::trials::Group;
 use constraint_edits::Edit;
-use explanation_text::{Items, Label};
+use explanation_text::wording::put_count;
+use explanation_text::{Items, Label, TextBuilder};
 use script_story::asked_in;
 use std::alloc::AllocError;
 
 /// Tells of a domain that is chosen the changes of one field of one participant by which another
 /// would come: a child, a pair, its colour space or a place that comes before the chosen one, or a
 /// place that would do too and is contiguous, secure, of another coherency domain, or of a later
-/// heap; of an attached domain, which has the initial one's image and place, a child alone. Each with the decision that
-/// would come: the line of the report of the changed script. Gives them.
+/// heap; of an attached domain, which has the initial one's image and place, a child alone. Each
+/// with the decision that would come: the line of the report of the changed script. A note counts
+/// what wasn't tried, since enough was. Gives the changes.
 pub fn list_preferred(
     items: &mut Items,
     group: Group<'_, '_>,
@@ -70,9 +72,25 @@ pub fn list_preferred(
         made: _,
         count: _,
         runs: _,
+        untried,
     } = found;
     items.append(list);
+    if untried > 0 {
+        put_untried(items, untried);
+    }
     Ok(told)
+}
+
+/// Puts how many children, images and places weren't tried.
+fn put_untried(items: &mut Items, untried: usize) {
+    let mut words = TextBuilder::new(items.alloc());
+    put_count(
+        &mut words,
+        untried,
+        "other child, image or place wasn't tried",
+        "other children, images or places weren't tried",
+    );
+    items.say(1, Label::Note, words);
 }
 
 /// Tries what would let another pair or place be chosen in an initial domain.
@@ -88,7 +106,7 @@ fn try_settings(
     try_colours(found, wish, &selected)?;
     try_places(found, wish, &selected)?;
     try_other_domain(found, wish, &selected)?;
-    try_later_heap(found, wish, &selected)
+    try_later_heaps(found, wish, &selected)
 }
 
 fn put_head(items: &mut Items, found: &Found) {

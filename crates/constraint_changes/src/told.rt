@@ -1,7 +1,7 @@
 //! Changes that help, as they are told: those that several participants may make alike as one.
 
-use crate::lost::Losses;
 use crate::trials::{Group, RestatedConstraints};
+use domain_reasons::Losses;
 use explanation_text::{Item, Items, Label, Text};
 use script_story::Outcome;
 use std::alloc::{AllocError, Global};

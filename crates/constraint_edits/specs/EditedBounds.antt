@@ -72,17 +72,26 @@ abbrev pub is_between : Size → Size → Size → Bool
 is_between a b size =
     lies_between a.width b.width size.width && lies_between a.height b.height size.height
 
+-- an entry with this value of a field
+abbrev pub value_put : Field → Size → Entry → Entry
+value_put f value entry = record entry { bounds = with_value f value entry.bounds }
+
 -- an entry with another value of a field; as it is where its value asks for no more than that one:
 -- it is that or the absent one, or lies between them
 abbrev pub value_changed : Field → Size → Entry → Entry
 value_changed f value entry =
     if is_between value (absent_at f) (value_at f entry.bounds) then entry
-    else record entry { bounds = with_value f value entry.bounds }
+    else value_put f value entry
 
 -- the entries after a bound of theirs is left out, or has this amount
 abbrev pub bound_edited : Field → Option Amount → List Entry → Option (List Entry)
 bound_edited f amount entries =
     option_map (λ value. map (value_changed f value) entries) (value_given f amount)
+
+-- the entries after each states this amount of a bound
+abbrev pub bound_stated : Field → Amount → List Entry → Option (List Entry)
+bound_stated f amount entries =
+    option_map (λ value. map (value_put f value) entries) (value_given f (Some amount))
 
 -- a size is above another in a dimension at least
 abbrev pub is_above : Size → Size → Bool

@@ -5,6 +5,7 @@ ghost use Rattle.std.specs.Prelude.{◌≡◌, Some, IfOk, IfSome};
 use crate::applying::asks_more;
 use crate::change::Change;
 use crate::edits::{Edit, EditedConstraints, EditedRecord};
+use crate::halving::others_beside;
 use crate::objects::{ENTRIES, MEMORY, entries_of, exact_value, put_values, with};
 use explanation_text::{Deed, Fact, ListBuilder, Said, TextBuilder};
 use serde_json::Value;
@@ -128,7 +129,7 @@ impl Amount {
     }
 
     /// The value as JSON.
-    fn value(self, alloc: Global) -> Result<Value, AllocError> {
+    pub(crate) fn value(self, alloc: Global) -> Result<Value, AllocError> {
         match self {
             Amount::Number(number) => Ok(exact_value(number)),
             Amount::Sides(width, height) => {
@@ -183,7 +184,11 @@ fn tightest_bound<'a>(value: &'a Value, field: Field) -> Option<&'a Value> {
 
 /// The value of a bound by which an entry asks for more than with an amount, or than where the bound
 /// isn't stated; `None` where it doesn't.
-fn asked_bound<'a>(entry: &'a Value, field: Field, amount: Option<Amount>) -> Option<&'a Value> {
+pub(crate) fn asked_bound<'a>(
+    entry: &'a Value,
+    field: Field,
+    amount: Option<Amount>,
+) -> Option<&'a Value> {
     let bound = entry.get(field.name())?;
     match amount_of(bound) {
         Some(stated) if !asks_more(field, stated, amount) => None,
@@ -191,22 +196,44 @@ fn asked_bound<'a>(entry: &'a Value, field: Field, amount: Option<Amount>) -> Op
     }
 }
 
-/// Whether the field that a change leaves out has one value: a bound in all entries that ask for
-/// something by it.
-pub(crate) fn has_one_amount(alloc: Global, value: &Value, edit: Edit) -> Result<bool, AllocError> {
+/// The values of the field that a change leaves out, each once: of a bound those of the entries.
+pub fn amounts_in(alloc: Global, value: &Value, edit: Edit) -> Result<Vec<Amount>, AllocError> {
+    let mut amounts: Vec<Amount> = Vec::new(alloc);
+    let Edit::NoBound(field) = edit else {
+        if let Some(amount) = amount_in(value, edit) {
+            amounts.push(amount)?;
+        }
+        return Ok(amounts);
+    };
+    for entry in entries_of(value) {
+        if let Some(amount) = entry.get(field.name()).and_then(amount_of) {
+            if !amounts.contains(&amount) {
+                amounts.push(amount)?;
+            }
+        }
+    }
+    Ok(amounts)
+}
+
+/// Whether an amount comes in the place of this one value alone of the field that a change leaves
+/// out: of a bound in all entries that ask for more by it.
+pub(crate) fn has_one_amount(
+    alloc: Global,
+    value: &Value,
+    edit: Edit,
+    stated: Amount,
+    amount: Amount,
+) -> Result<bool, AllocError> {
     let Edit::NoBound(field) = edit else {
         return Ok(true);
     };
-    let bounds = asked_bounds(alloc, entries_of(value), field, None)?;
-    let Some(first) = bounds.first() else {
-        return Ok(false);
-    };
+    let bounds = asked_bounds(alloc, entries_of(value), field, Some(amount))?;
     for bound in &bounds {
-        if *bound != *first {
+        if amount_of(*bound) != Some(stated) {
             return Ok(false);
         }
     }
-    Ok(true)
+    Ok(!bounds.is_empty())
 }
 
 /// The values of a bound by which entries ask for more than with an amount, or than where it isn't
@@ -290,8 +317,8 @@ fn words_to(
     Ok(words)
 }
 
-/// The constraints with another value of the field that a change would leave out; `None` where it
-/// isn't there.
+/// The constraints with another value of the field that a change would leave out, and in words which
+/// others do where this one does; `None` where it isn't there.
 pub fn edited_to(
     alloc: Global,
     value: &Value,
@@ -301,7 +328,7 @@ pub fn edited_to(
     ensures { IfOk result (λ made. IfSome made (λ changed. changed.change
         ≡ record { edit = edit; amount = Some amount; start = 0; end = 0 })) }
 {
-    edited_as(alloc, value, edit, amount, "")
+    edited_as(alloc, value, edit, amount, others_beside(edit, amount))
 }
 
 /// The same, with words behind the value.

@@ -5,7 +5,7 @@ ghost use Rattle.sysmem_counts.specs.Usage.{uses_cpu};
 ghost use Rattle.constraint_edits.specs.Drafts.{drafted};
 ghost use Rattle.constraint_edits.specs.Edited.{edited, exchanged, naming, permitting, put_first, taking, with_counts, with_entries, with_heaps, with_memory, without_cpu};
 ghost use Rattle.constraint_edits.specs.EditedNumbers.{counts_edited, memory_edited, supporting, unsupporting};
-ghost use Rattle.constraint_edits.specs.EditedBounds.{bound_edited, bounds_exchanged};
+ghost use Rattle.constraint_edits.specs.EditedBounds.{bound_edited, bound_stated, bounds_exchanged};
 
 mod bounds;
 mod entries;
@@ -16,7 +16,7 @@ use crate::amount::Amount;
 use crate::change::Change;
 use crate::edits::Edit;
 use bitflags::Flags;
-use bounds::{bound_edited, bounds_exchanged};
+use bounds::{bound_edited, bound_stated, bounds_exchanged};
 use entries::{naming, taking_colour};
 use negotiation_inputs::Constraints;
 use numbers::{copied_heap, copied_memory, counts_edited, counts_exchanged};
@@ -25,8 +25,8 @@ use sysmem_counts::{CountConstraints, Field, Usage};
 use sysmem_formats::{ColourSpace, Pair};
 use sysmem_image::Entry;
 use sysmem_memory::{HeapInfo, MemoryConstraints};
-pub(crate) use values::asks_more;
 use values::is_same_field;
+pub(crate) use values::{absent_amount, asks_more};
 
 /// What a participant asks after the changes so far.
 #[derive(Drop)]
@@ -83,6 +83,7 @@ impl Draft {
             Edit::NoCount(field) => Ok(self.put_count(field, change.amount)),
             Edit::NoMemory(field) => Ok(self.put_memory(field, change.amount)),
             Edit::NoBound(field) => self.put_bound(field, change.amount),
+            Edit::States(field, amount) => self.state_bound(field, amount),
             Edit::TakesColour(colour) => self.take_colour(colour),
             Edit::TakesPair(pair) => self.take_pair(pair, change.start),
             Edit::NoCpu => Ok(self.drop_cpu()),
@@ -262,6 +263,15 @@ impl Draft {
             (bound_edited field amount self.old.entries.items) ≡ Some (drafted self.new)) }
     {
         let made = bound_edited(self.alloc, &self.entries, field, amount)?;
+        Ok(self.put_entries(made))
+    }
+
+    /// States an amount of a bound in each entry.
+    fn state_bound(&mut self, field: Field, amount: Amount) -> Result<bool, AllocError>
+        ensures { IfOk result (λ made. IsTrue made → with_entries (drafted self.old)
+            (bound_stated field amount self.old.entries.items) ≡ Some (drafted self.new)) }
+    {
+        let made = bound_stated(self.alloc, &self.entries, field, amount)?;
         Ok(self.put_entries(made))
     }
 

@@ -2,6 +2,7 @@
 
 ghost use Rattle.std.specs.Prelude.{◌≡◌, IfOk, IfSome};
 
+use crate::amount::Amount;
 use crate::change::Change;
 use crate::exchanging::{exchanged, exchanges};
 use crate::locating::change_of;
@@ -11,6 +12,7 @@ use crate::objects::{
 use crate::permitting::{
     meaning, means, permits_more, permits_others, permitting, permitting_alone,
 };
+use crate::stating::{can_state, stating};
 use crate::taking::{lacks_colour, putting_first, taking_colour, taking_pair};
 use crate::using::{asking_for, asks_for, has_cpu, without_cpu};
 use explanation_text::{Deed, Fact, ListBuilder, Said, Text, TextBuilder};
@@ -38,6 +40,8 @@ pub enum Edit {
     NoMemory(Field),
     /// A bound is left out of all entries.
     NoBound(Field),
+    /// A bound is stated by all entries with this amount.
+    States(Field, Amount),
     /// A colour space is taken by all entries too.
     TakesColour(ColourSpace),
     /// A format with a modifier is taken by an entry more.
@@ -251,6 +255,7 @@ fn record_after(
         Edit::NoCount(field) => without(alloc, value, field),
         Edit::NoMemory(field) => without_memory(alloc, value, field),
         Edit::NoBound(field) => without_bound(alloc, value, field),
+        Edit::States(field, amount) => stating(alloc, value, field, amount),
         Edit::TakesColour(colour) => taking_colour(alloc, value, colour.name()),
         Edit::TakesPair(pair) => taking_pair(alloc, value, pair),
         Edit::PermitsHeap(index) => permitting(alloc, value, heaps.get(index)),
@@ -276,6 +281,7 @@ pub fn changes(
         Edit::NoCount(field) => value.get(field.name()).is_some(),
         Edit::NoMemory(field) => memory_of(value, field.name()).is_some(),
         Edit::NoBound(field) => have(value, field.name()),
+        Edit::States(field, amount) => can_state(value, field, amount),
         Edit::TakesColour(colour) => lacks_colour(alloc, value, colour.name())?,
         Edit::TakesPair(_) => !entries_of(value).is_empty(),
         Edit::PermitsHeap(index) => permits_more(value, heaps.get(index)),

@@ -1,9 +1,10 @@
 //! Constraints that contradict themselves, with a least and a greatest value exchanged.
 
-use crate::amount::amount_of;
+use crate::amount::{Amount, amount_of};
 use crate::edits::{EditedRecord, with_entries};
 use crate::objects::{MEMORY, entries_of, have, with};
-use explanation_text::{Deed, Fact, ListBuilder, Text, TextBuilder};
+use crate::several::ChangedEntries;
+use explanation_text::{Deed, Fact, ListBuilder, TextBuilder};
 use serde_json::Value;
 use std::alloc::{AllocError, Global};
 use sysmem_counts::Field;
@@ -27,18 +28,19 @@ pub(crate) fn exchanged(
     if !have(value, least.name()) {
         return Ok(None);
     }
-    let mut words = Text::new(alloc);
+    let mut changed = ChangedEntries::none(alloc);
     let mut copy = ListBuilder::new(alloc);
-    for entry in entries_of(value) {
+    for (index, entry) in entries_of(value).iter().enumerate() {
         match exchanged_in(alloc, entry, least, most)? {
             Some(change) => {
                 let (entry, said) = change.into_parts();
-                words = said;
+                changed.add(index, said)?;
                 copy.add(entry);
             }
             None => copy.add(entry.clone()?),
         }
     }
+    let words = changed.into_words(words_between(alloc, least, None, most, None))?;
     with_entries(alloc, value, copy.done()?, words)
 }
 
@@ -60,14 +62,37 @@ fn exchanged_in(
         return Ok(None);
     }
     let lowered = with(alloc, Some(object), least.name(), high.clone()?)?;
-    let mut words = TextBuilder::new(alloc);
-    words.field(least).put(" ").put_number(a).put(" and ");
-    words.field(most).put(" ").put_number(b).put(" exchanged");
-    words.tell(Fact::Change(Deed::Exchange(least, most)));
+    let words = words_between(alloc, least, Some(a), most, Some(b));
     Ok(Some(EditedRecord {
         value: with(alloc, Some(&lowered), most.name(), low.clone()?)?,
         words: words.into_text()?,
     }))
+}
+
+/// `min_size 640x480 and max_size 320x240 exchanged`, or without values `min_size and max_size
+/// exchanged`.
+fn words_between(
+    alloc: Global,
+    least: Field,
+    low: Option<Amount>,
+    most: Field,
+    high: Option<Amount>,
+) -> TextBuilder {
+    let mut words = TextBuilder::new(alloc);
+    words.field(least);
+    put_behind(&mut words, low);
+    words.put(" and ").field(most);
+    put_behind(&mut words, high);
+    words.put(" exchanged");
+    words.tell(Fact::Change(Deed::Exchange(least, most)));
+    words
+}
+
+/// Puts a value behind a field, if there is one.
+fn put_behind(text: &mut TextBuilder, amount: Option<Amount>) {
+    if let Some(amount) = amount {
+        text.put(" ").put_number(amount);
+    }
 }
 
 /// Whether the first field is somewhere above the second.

@@ -130,21 +130,27 @@ impl Halving {
         value: &Value,
         amount: Amount,
     ) -> Result<EditedConstraints, AllocError> {
-        let others = self.others(amount);
+        let others = others_beside(self.edit, amount);
         with_amount(alloc, value, self.edit, self.stated, amount, others)
     }
+}
 
-    /// Which other values do where a number does. A greater greatest value, or a lesser least one,
-    /// refuses nothing that this one admits: what was to be chosen from is there still, so something
-    /// is chosen then too, maybe something else. It is so too where the search for the number was
-    /// cut short. A lesser divisor may refuse more, as 7 where 8 does; and of sides it would have to
-    /// be said of which. A 0 in the place of a 1 asks for nothing, which isn't worth a word.
-    fn others(&self, amount: Amount) -> &'static str {
-        match (self.way, amount) {
-            (Way::Raised, Amount::Number(_)) => " or more",
-            (Way::Lowered, Amount::Number(number)) if number > 1 => " or less",
-            _ => "",
-        }
+/// Which other values of the field that an edit leaves out do where a number does. A greater
+/// greatest value, or a lesser least one, refuses nothing that this one admits: what was to be
+/// chosen from is there still, so something is chosen then too, maybe something else. It is so too
+/// where the search for the number was cut short, and where others are changed with it. A lesser
+/// divisor may refuse more, as 7 where 8 does; and of sides it would have to be said of which. A 0 in
+/// the place of a 1 asks for nothing, which isn't worth a word.
+pub(crate) fn others_beside(edit: Edit, amount: Amount) -> &'static str {
+    let (Some(field), Amount::Number(number)) = (edit.left_out(), amount) else {
+        return "";
+    };
+    if raised(field, Reached::NOTHING).is_some() {
+        return " or more";
+    }
+    match way_of(field) {
+        Some(Way::Lowered) if number > 1 => " or less",
+        _ => "",
     }
 }
 

@@ -22,11 +22,13 @@ mod objects;
 mod permitting;
 mod reached;
 mod reading;
+mod several;
 mod slips;
+mod stating;
 mod taking;
 mod using;
 
-pub use amount::{Amount, edited_to};
+pub use amount::{Amount, amounts_in, edited_to};
 pub use change::{Change, apply_all};
 pub use edits::{Edit, EditedConstraints, changes, edited, edits_on};
 pub use halving::{Halving, is_absurd};

@@ -2,7 +2,7 @@
 
 ghost use Rattle.std.specs.Prelude.{◌≡◌, Some, IfOk, IfSome};
 
-use crate::amount::{Amount, amount_in, edited_as, has_one_amount};
+use crate::amount::{Amount, amounts_in, edited_as, has_one_amount};
 use crate::edits::{Edit, EditedConstraints};
 use serde_json::Value;
 use std::alloc::{AllocError, Global};
@@ -68,19 +68,24 @@ const KIBI: Factor = Factor {
 /// How often what suffices goes at most into a number that was taken for a decimal one.
 const HEXADECIMAL_ROOM: u64 = 4;
 
+/// How many values that may be meant are tried of a field.
+const MOST: usize = 8;
+
 /// More digits than a number has.
 const DIGITS: usize = 20;
 
-/// Which way the number of a field has a unit that may be mistaken.
+/// Which way the number of a field may be mistaken.
 #[derive(Clone, Copy)]
 enum Unit {
-    /// A greatest value, which has this limit.
+    /// A greatest value, which has this limit, in another unit.
     Greatest(u64),
-    /// A least value, or a divisor.
+    /// A least value, or a divisor, in another unit.
     Least,
+    /// A greatest number of something, by its digits.
+    Count,
 }
 
-/// The unit of a field; `None` of counts, which have none.
+/// The unit of a field; `None` of those that have none.
 fn unit_of(field: Field) -> Option<Unit> {
     match field {
         Field::MaxSizeBytes | Field::MaxWidthTimesHeight => Some(Unit::Greatest(u64::MAX)),
@@ -89,15 +94,17 @@ fn unit_of(field: Field) -> Option<Unit> {
         | Field::MinBytesPerRow
         | Field::BytesPerRowDivisor
         | Field::StartOffsetDivisor => Some(Unit::Least),
+        Field::MaxBufferCount => Some(Unit::Count),
         _ => None,
     }
 }
 
 /// The values that may be meant in the place of the one of the field that a change leaves out,
-/// where this one suffices: at most four, the likely ones first. A width and a height are
-/// exchanged. A number is taken in another unit, or by hexadecimal digits, as far as it suffices
-/// then, and isn't far more than that: else about every value that is too tight would seem to be
-/// mistaken.
+/// where this one suffices: at most eight, the likely ones of a value first; of a bound only those by
+/// which one value alone is changed. A width and a height are exchanged. A number is taken in another unit, or
+/// by hexadecimal digits, as far as it suffices then, and isn't far more than that: else about every
+/// value that is too tight would seem to be mistaken. A count, and a width or a height, is just what
+/// suffices by hexadecimal digits.
 pub fn slips_of(
     alloc: Global,
     value: &Value,
@@ -105,21 +112,58 @@ pub fn slips_of(
     enough: Option<Amount>,
 ) -> Result<Vec<Slip>, AllocError> {
     let mut slips = Vec::new(alloc);
-    let (Some(field), Some(stated)) = (edit.left_out(), amount_in(value, edit)) else {
-        return Ok(slips);
-    };
-    if !has_one_amount(alloc, value, edit)? {
-        return Ok(slips);
+    for stated in &amounts_in(alloc, value, edit)? {
+        add_slips(&mut slips, value, edit, *stated, enough)?;
     }
-    match (stated, enough) {
-        (Amount::Sides(width, height), _) if width != height => {
-            slips.push(Slip {
-                amount: Amount::Sides(height, width),
-                why: " (width and height exchanged)",
-            })?;
+    Ok(slips)
+}
+
+/// Adds those that may be meant in the place of one value, which they alone change, up to a number
+/// of them.
+fn add_slips(
+    slips: &mut Vec<Slip>,
+    value: &Value,
+    edit: Edit,
+    stated: Amount,
+    enough: Option<Amount>,
+) -> Result<(), AllocError> {
+    let alloc = *slips.allocator();
+    let Some(field) = edit.left_out() else {
+        return Ok(());
+    };
+    for slip in slips_from(alloc, field, stated, enough)? {
+        if slips.len() < MOST && has_one_amount(alloc, value, edit, stated, slip.amount)? {
+            slips.push(slip)?;
         }
+    }
+    Ok(())
+}
+
+/// What may be meant in the place of a value that is stated.
+fn slips_from(
+    alloc: Global,
+    field: Field,
+    stated: Amount,
+    enough: Option<Amount>,
+) -> Result<Vec<Slip>, AllocError> {
+    let mut slips = Vec::new(alloc);
+    match (stated, enough) {
         (Amount::Number(number), Some(Amount::Number(enough))) => {
             add_numbers(&mut slips, field, number, enough)?;
+        }
+        (Amount::Sides(width, height), enough) => {
+            if width != height {
+                slips.push(Slip {
+                    amount: Amount::Sides(height, width),
+                    why: " (width and height exchanged)",
+                })?;
+            }
+            if let (Field::MaxSize, Some(slip)) = (
+                field,
+                hexadecimal_sides(width, height, enough),
+            ) {
+                slips.push(slip)?;
+            }
         }
         _ => {}
     }
@@ -140,14 +184,18 @@ fn add_numbers(
         let slip = match unit {
             Unit::Greatest(most) => more(number, factor, enough, most),
             Unit::Least => less(number, factor, enough),
+            Unit::Count => None,
         };
         if let Some(slip) = slip {
             slips.push(slip)?;
         }
     }
-    if let Unit::Greatest(most) = unit
-        && let Some(slip) = hexadecimal(number, enough, most)
-    {
+    let slip = match unit {
+        Unit::Greatest(most) => hexadecimal(number, enough, most),
+        Unit::Count => hexadecimal(number, enough, enough),
+        Unit::Least => None,
+    };
+    if let Some(slip) = slip {
         slips.push(slip)?;
     }
     Ok(())
@@ -190,19 +238,49 @@ fn less(number: u64, factor: Factor, enough: u64) -> Option<Slip> {
 }
 
 /// The number whose hexadecimal digits are the decimal ones of a round number, if it suffices, and
-/// isn't far more than what does, or than the most.
+/// isn't far more than what does, or than the most. A number that is just what does may have any
+/// digits but one alone, which is the same in both.
 fn hexadecimal(number: u64, enough: u64, most: u64) -> Option<Slip> {
-    if number % 100 != 0 {
-        return None;
-    }
     let meant = read_as_hexadecimal(number)?;
-    if meant < enough || meant > enough.saturating_mul(HEXADECIMAL_ROOM).min(most) {
+    let is_round = number % 100 == 0 || meant == most;
+    let room = enough.saturating_mul(HEXADECIMAL_ROOM).min(most);
+    if !is_round || number == meant || meant < enough || meant > room {
         return None;
     }
-    Some(Slip {
-        amount: Amount::Number(meant),
+    Some(as_hexadecimal(Amount::Number(meant)))
+}
+
+/// A width and a height of which one, or each, has hexadecimal digits for decimal ones, and is just
+/// what suffices so; the other one suffices as it is.
+fn hexadecimal_sides(width: u64, height: u64, enough: Option<Amount>) -> Option<Slip> {
+    let Some(Amount::Sides(least_width, least_height)) = enough else {
+        return None;
+    };
+    let meant_width = side_meant(width, least_width)?;
+    let meant_height = side_meant(height, least_height)?;
+    if meant_width == width && meant_height == height {
+        return None;
+    }
+    Some(as_hexadecimal(Amount::Sides(meant_width, meant_height)))
+}
+
+/// A side that suffices, by its hexadecimal digits if it is just what does so.
+fn side_meant(side: u64, enough: u64) -> Option<u64> {
+    if side >= enough {
+        Some(side)
+    } else if read_as_hexadecimal(side)? == enough {
+        Some(enough)
+    } else {
+        None
+    }
+}
+
+/// A value that was written with decimal digits.
+fn as_hexadecimal(amount: Amount) -> Slip {
+    Slip {
+        amount,
         why: " (hexadecimal written as decimal)",
-    })
+    }
 }
 
 /// The number that the decimal digits of a number are in hexadecimal; `None` where they are many.

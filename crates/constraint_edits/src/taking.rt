@@ -3,8 +3,9 @@
 
 use crate::edits::{EditedRecord, with_entries};
 use crate::objects::{entries_of, lacking, text_value, with};
+use crate::several::ChangedEntries;
 use explanation_text::wording::put_few;
-use explanation_text::{Deed, Fact, ListBuilder, Text, TextBuilder};
+use explanation_text::{Deed, Fact, ListBuilder, TextBuilder};
 use serde_json::Value;
 use std::alloc::{AllocError, Global};
 use sysmem_counts::Field;
@@ -33,19 +34,18 @@ pub(crate) fn taking_colour(
     value: &Value,
     colour: &str,
 ) -> Result<Option<EditedRecord>, AllocError> {
-    let mut words = Text::new(alloc);
+    let mut changed = ChangedEntries::none(alloc);
     let mut copy = ListBuilder::new(alloc);
-    for entry in entries_of(value) {
+    for (index, entry) in entries_of(value).iter().enumerate() {
         let names = names_in(alloc, entry.get(COLOURS))?;
         if names.contains(&colour) {
             copy.add(entry.clone()?);
             continue;
         }
-        if words.is_empty() {
-            words = words_beside(alloc, colour, &names).into_text()?;
-        }
+        changed.add(index, words_beside(alloc, colour, &names).into_text()?)?;
         copy.add(with_colour(alloc, entry, colour)?);
     }
+    let words = changed.into_words(words_beside(alloc, colour, &[]))?;
     with_entries(alloc, value, copy.done()?, words)
 }
 
@@ -59,12 +59,15 @@ pub(crate) fn lacks_colour(alloc: Global, value: &Value, colour: &str) -> Result
     Ok(false)
 }
 
-/// `color_spaces SRGB, with REC709 too`.
+/// `color_spaces SRGB, with REC709 too`, or without names `color_spaces with REC709 too`.
 fn words_beside(alloc: Global, colour: &str, names: &[&str]) -> TextBuilder {
     let mut words = TextBuilder::new(alloc);
     words.field(Field::ColorSpaces).put(" ");
-    put_few(&mut words, names, 3);
-    words.put(", with ");
+    if !names.is_empty() {
+        put_few(&mut words, names, 3);
+        words.put(", ");
+    }
+    words.put("with ");
     let start = words.len();
     words.put(colour);
     let added = words.since(start);

@@ -1,25 +1,14 @@
-//! What a script's calls do, in a few lines.
+//! Why domains have no settings, in a few lines.
 
-use crate::answer::answer_of;
 use crate::domains::add_domain;
 use crate::selecting::{DomainView, add_left_out};
-use explanation_text::{Items, Label, TextBuilder};
+use explanation_text::Items;
 use negotiation_inputs::Platform;
-use script_story::{Became, Story, refused_words};
+use script_story::{Became, Story};
 use std::alloc::AllocError;
 
 /// How many lines are told of a domain.
 const MOST: usize = 12;
-
-/// Tells the answer of a story, and which calls are refused.
-pub fn add_in_short(items: &mut Items, story: &Story<'_>) -> Result<(), AllocError> {
-    let alloc = items.alloc();
-    items.say(2, Label::Plain, answer_of(alloc, story));
-    for text in &refused_words(alloc, story)? {
-        items.say(2, Label::Plain, TextBuilder::of_text(alloc, text));
-    }
-    Ok(())
-}
 
 /// Tells why a domain has no settings, or none with an earlier child, in a few lines.
 pub fn add_shortly(

@@ -10,9 +10,9 @@ use crate::mended::mended;
 use crate::mended_words::put_corrections;
 use crate::not_chosen::add_not_chosen;
 use constraint_changes::put_choice;
-use domain_reasons::{add_shortly, answer_of};
+use domain_reasons::{add_shortly, answer_of, domain_now, put_head};
 use explanation_text::{Correction, Item, Items, Kind, Label, TextBuilder, repeated_keys};
-use other_outcomes::{domain_now, list_added, list_meant, list_moved, put_head};
+use other_outcomes::{list_added, list_meant, list_moved};
 use script_faults::{Document, add_fault};
 use script_reading::{
     ParseFault, Script, ScriptFault, parse_script, read_records, read_script, shared_calls,

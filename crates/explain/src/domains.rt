@@ -9,9 +9,9 @@ use constraint_changes::{
     Group, RestatedConstraints, ToldChange, add_together, list_changes, list_preferred, restated,
 };
 use constraint_edits::edits_on;
-use domain_reasons::add_domain;
+use domain_reasons::{add_domain, add_gone, add_lost};
 use explanation_text::{Item, Items, Kind, Label};
-use other_outcomes::{add_ended_later, add_gone, add_heaps, add_lost, add_platform};
+use other_outcomes::{add_ended_later, add_heaps, add_platform};
 use script_faults::Document;
 use script_reading::Call;
 use script_story::{Scenario, Story, asked_in, story_of};
@@ -237,11 +237,12 @@ fn add_with(
                     return add_not_chosen(items, &other, value, &story, index, depth);
                 }
             }
-            add_lost(items, &other, &story, group.story, depth)
         }
-        _ => {
+        _ if matches!(part, Part::All) => {
             add_gone(items, &story, group.story, depth);
-            Ok(())
+            return Ok(());
         }
+        _ => {}
     }
+    add_lost(items, &other, &story, group.story, depth)
 }

@@ -7,9 +7,8 @@ ghost use Rattle.constraint_changes.specs.Edited.{IsPromised};
 
 use constraint_changes::{RestatedConstraints, Trial, entry_place, line_at, put_choice, restated};
 use constraint_edits::{Change, Edit, EditedConstraints, edited};
-use domain_reasons::choices_in;
+use domain_reasons::{Losses, choices_in};
 use explanation_text::{Items, Label, Step, TextBuilder};
-use other_outcomes::add_lost_in;
 use script_faults::{Document, RecordPart};
 use script_story::{Became, Milestone, Outcome, Scenario, Story, asked_in};
 use settings_reasons::{holder_of, is_taken, unused_entries};
@@ -204,7 +203,9 @@ impl Teller<'_, '_> {
             calls: &calls,
             effort: &*self.scenario.effort,
         };
-        add_lost_in(items, &other, self.document.value, self.story, 2)
+        let value = self.document.value;
+        Losses::by(items.alloc(), &other, value, self.story, 2)?.put_into(items);
+        Ok(())
     }
 
     fn write_first(&self, items: &mut Items, item: usize, end: &str) {

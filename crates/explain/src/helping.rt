@@ -8,12 +8,13 @@ use crate::domains::add_edits;
 use crate::drafts::{Draft, places_of, remade};
 use crate::not_chosen::add_not_chosen;
 use constraint_changes::{RestatedConstraints, put_choice, restated};
-use domain_reasons::{add_domain, choices_in};
+use domain_reasons::{
+    add_domain, add_gone, add_reasons, choices_in, domain_now, put_end, put_head,
+};
 use explanation_text::{Items, Label, Text, are_same};
 use other_outcomes::{
-    Otherwise, add_ended_earlier, add_gone, add_groups_exchanged, add_later_children, add_reasons,
-    add_released, add_taken_pairs, add_then, add_without, domain_now, is_lost, put_end, put_head,
-    reordered, with_calls,
+    Otherwise, add_ended_earlier, add_groups_exchanged, add_later_children, add_released,
+    add_taken_pairs, add_then, add_without, reordered, with_calls,
 };
 use script_reading::Call;
 use script_story::{Became, Domain, Scenario, Story, refused_calls, story_of};
@@ -395,7 +396,7 @@ pub(crate) fn add_why(
     levels: usize,
     deeper: usize,
 ) -> Result<(), AllocError> {
-    add_reasons(items, scenario, story, index, deeper)?;
+    add_reasons(items, scenario.platform, story, index, deeper)?;
     if scenario.effort.is_spent() {
         return Ok(());
     }
@@ -409,7 +410,7 @@ fn is_new(now: &Story<'_>, then: &Story<'_>, domain: &Domain) -> bool {
         Some(known) if known.became == Became::Failed => {
             known.host.is_some() && domain.became != Became::Failed
         }
-        Some(_) => is_lost(now, then, domain),
+        Some(known) => known.became == Became::Chosen && domain.became != Became::Chosen,
         None => true,
     }
 }
@@ -441,7 +442,7 @@ fn add_index(
         return add_chosen(items, draft, scenario, story, index, place.is_chosen);
     }
     if place.is_chosen {
-        return add_reasons(items, scenario, story, index, 1);
+        return add_reasons(items, scenario.platform, story, index, 1);
     }
     add_why(items, draft, scenario, story, index, place.levels, 1)
 }

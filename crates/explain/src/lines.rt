@@ -125,11 +125,12 @@ impl Told<'_> {
             .any(|(item, is_own)| *is_own && names(item, Thing::Node(node)))
     }
 
-    /// Whether one of these names a node and a field.
+    /// Whether one of these names a field of a node.
     fn names_of(&self, node: usize, field: Field) -> bool {
-        self.items.iter().zip(self.is_own).any(|(item, is_own)| {
-            *is_own && names(item, Thing::Node(node)) && names(item, Thing::Field(field))
-        })
+        self.items
+            .iter()
+            .zip(self.is_own)
+            .any(|(item, is_own)| *is_own && names_of(item, node, field))
     }
 
     /// Whether one that tells of the domain tells a change of a field that the constraints of a
@@ -229,6 +230,32 @@ fn names(item: &Item, thing: Thing) -> bool {
         && (is_counted(item, thing) || item.mentions.iter().any(|mention| mention.thing == thing))
 }
 
+/// Whether an item names a field of a node: a field is of those nodes that were named last before
+/// it, as both in `a needs more (min_size); b takes less (max_size)`, or of all that are named where
+/// none was.
+fn names_of(item: &Item, node: usize, field: Field) -> bool {
+    if !names(item, Thing::Node(node)) {
+        return false;
+    }
+    if is_counted(item, Thing::Field(field)) {
+        return true;
+    }
+    let mut is_begun = false;
+    let mut is_owner = true;
+    for mention in &item.mentions {
+        match mention.thing {
+            Thing::Field(named) if named == field && is_owner => return true,
+            Thing::Field(_) => is_begun = false,
+            Thing::Node(named) => {
+                is_owner = named == node || (is_begun && is_owner);
+                is_begun = true;
+            }
+            _ => {}
+        }
+    }
+    false
+}
+
 /// Whether a thing is a field of which the count is made that an item is on.
 fn is_counted(item: &Item, thing: Thing) -> bool {
     match thing {
@@ -264,19 +291,18 @@ fn without_placed(
     Ok(left)
 }
 
-/// Whether an item tells a change of the value of a field that the constraints of a call state,
-/// with its lines: `encoder (call 7, line 23): max_size 1920x1088 becomes 4096x2160`.
+/// Whether an item tells a change of a field that the constraints of a call state, with its lines:
+/// `encoder (call 7, line 23): max_size 1920x1088 becomes 4096x2160`. One of the entries has the line
+/// of their list.
 fn places(item: &Item, number: usize, field: Field) -> bool {
     item.facts.contains(&Fact::Lined(number))
-        && item.facts.iter().any(|fact| is_stated(*fact, field))
+        && names(item, Thing::Field(field))
+        && !item.facts.iter().any(|fact| is_of_entries(*fact))
 }
 
-/// Whether it is told that a field that is stated gets another value, or is left out.
-fn is_stated(fact: Fact, field: Field) -> bool {
-    match fact {
-        Fact::Change(Deed::Set { field: one, .. } | Deed::LeaveOut(one, _)) => one == field,
-        _ => false,
-    }
+/// Whether it is told that an entry is added, or put first.
+fn is_of_entries(fact: Fact) -> bool {
+    matches!(fact, Fact::Change(Deed::AddEntry(_) | Deed::PutFirst(_)))
 }
 
 /// The fields of some that the constraints of a call state, each with its line.

@@ -3,8 +3,8 @@
 ghost use Rattle.std.specs.Prelude.{◌≡◌, map, IfOk, IfSome};
 ghost use Rattle.other_outcomes.specs.Exchanged.{IsPromisedExchanged, on_other};
 
-use crate::lost::add_lost_in;
 use crate::pending::place_of;
+use domain_reasons::Losses;
 use explanation_text::{Items, Label, ListBuilder, TextBuilder};
 use script_reading::{Act, Call};
 use script_story::{MadeCall, Outcome, Scenario, Story};
@@ -221,7 +221,8 @@ fn add_lost_then(
         calls: &calls,
         effort: &*scenario.effort,
     };
-    add_lost_in(items, &other, value, story, 2)
+    Losses::by(items.alloc(), &other, value, story, 2)?.put_into(items);
+    Ok(())
 }
 
 /// The calls with those on one of two children's names made on the other, each of which is made by

@@ -26,9 +26,20 @@ struct NeededEnds {
     are_each: bool,
 }
 
-/// Tells who was released or closed before an attached domain was chosen that has room only since
-/// then, and what the domain at a path would be if that came after it: of the first of them without
-/// whom it has no room, else of all. Says with which calls that would be so.
+/// An attached domain that is chosen.
+#[derive(Clone, Copy)]
+struct LateDomain<'b> {
+    path: &'b str,
+    /// The call after which it was decided, by number.
+    decided: usize,
+    /// The numbers of the children that its groups chose.
+    chosen: &'b [u8],
+}
+
+/// Tells who was released or closed before an attached domain was chosen that has room, or room with
+/// the children that its groups chose, only since then, and what the domain at a path would be if
+/// that came after it: of the first of them without whom it has no room, else of all. Says with which
+/// calls that would be so.
 pub fn add_ended_earlier<'a>(
     items: &mut Items,
     scenario: &Scenario<'a>,
@@ -37,36 +48,24 @@ pub fn add_ended_earlier<'a>(
     path: &str,
 ) -> Result<Option<Otherwise<'a>>, AllocError> {
     let alloc = items.alloc();
-    let decided = match story.domains.get(index) {
-        Some(domain) => domain.ended,
-        None => None,
-    };
-    let (Some(decided), Some(count)) = (decided, count_above(story, index)) else {
+    let (Some(domain), Some(count)) = (story.domains.get(index), count_above(story, index)) else {
         return Ok(None);
+    };
+    let Some(decided) = domain.ended else {
+        return Ok(None);
+    };
+    let late = LateDomain {
+        path,
+        decided,
+        chosen: domain.told.selection(),
     };
     let needed = needed_ends(alloc, story, index, decided, u64::from(count))?;
     if !needed.are_each {
-        return add_after(
-            items,
-            scenario,
-            story,
-            &needed.ends,
-            &needed.ends,
-            decided,
-            path,
-        );
+        return add_after(items, scenario, story, &needed.ends, &needed.ends, late);
     }
-    let ends = roomless_without(alloc, scenario, &needed.ends, decided, path)?;
+    let ends = roomless_without(alloc, scenario, &needed.ends, late)?;
     match ends.first() {
-        Some(first) => add_after(
-            items,
-            scenario,
-            story,
-            &ends,
-            from_ref(first),
-            decided,
-            path,
-        ),
+        Some(first) => add_after(items, scenario, story, &ends, from_ref(first), late),
         None => Ok(None),
     }
 }
@@ -138,55 +137,57 @@ fn ends_of(
     Ok(ends)
 }
 
-/// Those of some ends of which each alone, if it came after the call of a number, would leave
-/// nothing chosen in the domain at a path.
+/// Those of some ends of which each alone, if it came after a late domain was decided, would leave
+/// what it chose without room.
 fn roomless_without(
     alloc: Global,
     scenario: &Scenario<'_>,
     ends: &[End],
-    decided: usize,
-    path: &str,
+    late: LateDomain<'_>,
 ) -> Result<Vec<End>, AllocError> {
     let mut roomless = Vec::new(alloc);
     for end in ends {
-        let moves = moves_of(alloc, from_ref(end), decided)?;
-        match outcome_moved(alloc, scenario, &moves, path)? {
-            Some(outcome) if is_roomless(&outcome) => roomless.push(*end)?,
+        let moves = moves_of(alloc, from_ref(end), late.decided)?;
+        match outcome_moved(alloc, scenario, &moves, late.path)? {
+            Some(outcome) if is_roomless(&outcome, late) => roomless.push(*end)?,
             _ => {}
         }
     }
     Ok(roomless)
 }
 
-/// Whether a domain is decided, and nothing is chosen.
-fn is_roomless(outcome: &Outcome) -> bool {
-    !matches!(outcome.became(), Became::Chosen | Became::Pending)
+/// Whether a late domain is decided, and nothing is chosen, or other children are than were.
+fn is_roomless(outcome: &Outcome, late: LateDomain<'_>) -> bool {
+    match outcome.became() {
+        Became::Pending => false,
+        Became::Chosen => outcome.selection() != late.chosen,
+        _ => true,
+    }
 }
 
-/// Tells since whose ends the domain at a path has room, and what it would be if some of them came
-/// after the call of a number, if nothing would be chosen then, and says with which calls.
+/// Tells since whose ends a late domain has room, and what it would be if some of them came after it
+/// was decided, if nothing would be chosen then, or other children, and says with which calls.
 fn add_after<'a>(
     items: &mut Items,
     scenario: &Scenario<'a>,
     story: &Story<'_>,
     ends: &[End],
-    late: &[End],
-    decided: usize,
-    path: &str,
+    moved: &[End],
+    late: LateDomain<'_>,
 ) -> Result<Option<Otherwise<'a>>, AllocError> {
-    if late.is_empty() {
+    if moved.is_empty() {
         return Ok(None);
     }
     let alloc = items.alloc();
-    let moves = moves_of(alloc, late, decided)?;
-    match outcome_moved(alloc, scenario, &moves, path)? {
-        Some(outcome) if is_roomless(&outcome) => {
+    let moves = moves_of(alloc, moved, late.decided)?;
+    match outcome_moved(alloc, scenario, &moves, late.path)? {
+        Some(outcome) if is_roomless(&outcome, late) => {
             let then = with_moves(alloc, scenario, &moves, &outcome)?;
-            let never = is_so_without(alloc, scenario, late, path, &outcome)?;
-            let mut text = since_text(alloc, story, ends, late);
-            put_tried(&mut text, late, decided, never);
+            let never = is_so_without(alloc, scenario, moved, late.path, &outcome)?;
+            let mut text = since_text(alloc, story, ends, moved, !late.chosen.is_empty());
+            put_tried(&mut text, moved, late.decided, never);
             items.say(1, Label::Then, text);
-            put_promised(items, scenario, path, outcome);
+            put_promised(items, scenario, late.path, outcome);
             Ok(Some(then))
         }
         _ => Ok(None),
@@ -219,12 +220,24 @@ fn is_so_without(
     }
 }
 
-/// Since when it has room: `it has room only since call 11 released first`. Those that come late in
-/// what is tried are all of them, or the first of several that are all needed.
-fn since_text(alloc: Global, story: &Story<'_>, ends: &[End], late: &[End]) -> TextBuilder {
+/// Since when it has room, or room with the children of groups: `it has room only since call 11
+/// released first`. Those that come late in what is tried are all of them, or the first of several
+/// that are all needed.
+fn since_text(
+    alloc: Global,
+    story: &Story<'_>,
+    ends: &[End],
+    late: &[End],
+    has_groups: bool,
+) -> TextBuilder {
     let are_each = late.len() < ends.len();
     let are_together = !are_each && ends.len() > 1;
-    let mut text = TextBuilder::of(alloc, "it has room only since ");
+    let mut text = TextBuilder::of(alloc, "it has room");
+    text.put(if has_groups {
+        " with these children only since "
+    } else {
+        " only since "
+    });
     put_calls(&mut text, ends);
     text.put(if are_together { " together " } else { " " });
     text.put(ending(story, ends)).put(" ");

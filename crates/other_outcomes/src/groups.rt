@@ -1,4 +1,5 @@
-//! Two groups of one parent of which the other one is made first.
+//! Two groups of which the one that stands first in the tree weighs more, and what the other order
+//! chooses.
 
 ghost use Rattle.std.specs.Prelude.{◌≡◌, map, IfOk, IfSome};
 ghost use Rattle.other_outcomes.specs.Earlier.{IsEarlier, IsPromisedEarlier, in_turn};
@@ -15,19 +16,22 @@ use std::alloc::{AllocError, Global};
 /// How many pairs of groups are tried.
 const MOST: usize = 4;
 
-/// Two groups of one parent, the one first that is made first, with the numbers of the calls that
-/// make them.
+/// Two groups, neither below the other, the one first that stands first in the tree; the children of
+/// the node above both that they are or hang below, and the numbers of the calls that make these.
 #[derive(Clone, Copy)]
 struct Groups {
     first: usize,
     second: usize,
+    above_first: usize,
+    above_second: usize,
     made: usize,
     later: usize,
 }
 
-/// Tells of the groups of a chosen domain that the one that is made first weighs more, and what the
-/// domain at a path would be if another one were made before it, where that chooses other children
-/// of the two. Says with which calls that would be so.
+/// Tells of the groups of a chosen domain which weighs more, since the other hangs below it, or since
+/// it is made first or hangs below what is; and what the domain at a path would be if the other, or
+/// what that hangs below, were made before it, where that chooses other children of the two. Says
+/// with which calls that would be so.
 pub fn add_groups_exchanged<'a>(
     items: &mut Items,
     scenario: &Scenario<'a>,
@@ -36,7 +40,13 @@ pub fn add_groups_exchanged<'a>(
     index: usize,
     path: &str,
 ) -> Result<Option<Otherwise<'a>>, AllocError> {
-    let pairs = groups_in(items.alloc(), story, index)?;
+    let alloc = items.alloc();
+    let behind = groups_behind(alloc, story, index)?;
+    let mut pairs = Vec::new(alloc);
+    for group in &behind {
+        put_outer(items, story, *group)?;
+        add_pairs(&mut pairs, story, *group)?;
+    }
     for pair in pairs.iter().take(MOST) {
         let told = list_exchanged(items, scenario, value, story, *pair, path)?;
         if told.is_some() {
@@ -46,20 +56,15 @@ pub fn add_groups_exchanged<'a>(
     Ok(None)
 }
 
-/// The pairs of groups of a domain that isn't attached that are selected and have one parent, and
-/// the later of which chose another than its first child.
-fn groups_in(alloc: Global, story: &Story<'_>, index: usize) -> Result<Vec<Groups>, AllocError> {
-    let mut pairs = Vec::new(alloc);
-    let is_first = match story.domains.get(index) {
-        Some(domain) => domain.host.is_none(),
-        None => false,
-    };
-    for (second, known) in story.nodes.iter().enumerate() {
-        if is_first && known.domain == index && is_behind(alloc, story, second)? {
-            add_pairs(&mut pairs, story, second)?;
+/// The selected groups of a domain that chose another than their first child.
+fn groups_behind(alloc: Global, story: &Story<'_>, index: usize) -> Result<Vec<usize>, AllocError> {
+    let mut groups = Vec::new(alloc);
+    for (group, known) in story.nodes.iter().enumerate() {
+        if known.domain == index && is_behind(alloc, story, group)? {
+            groups.push(group)?;
         }
     }
-    Ok(pairs)
+    Ok(groups)
 }
 
 /// Whether a node is a selected group that chose another than its first child.
@@ -73,26 +78,139 @@ fn is_behind(alloc: Global, story: &Story<'_>, group: usize) -> Result<bool, All
     }
 }
 
-/// Adds a group with each one of its parent that was made before it, the nearest first: so the
-/// least move that chooses others is told.
-fn add_pairs(pairs: &mut Vec<Groups>, story: &Story<'_>, second: usize) -> Result<(), AllocError> {
-    let (Some(parent), Some(later)) = (story.parent(second), story.maker(second)) else {
+/// Tells that a group weighs less than the one that it hangs below, where that could choose a later
+/// child: `g weighs more than h, which hangs below its child a: a with a later child of h comes
+/// before b`.
+fn put_outer(items: &mut Items, story: &Story<'_>, inner: usize) -> Result<(), AllocError> {
+    let alloc = items.alloc();
+    let Some((outer, child)) = outer_of(story, inner) else {
         return Ok(());
     };
-    let siblings = story.children(*pairs.allocator(), parent)?;
-    for first in siblings.iter().rev() {
-        let first = *first;
-        match story.maker(first) {
-            Some(made) if is_before(made, later) && story.is_group(first) => pairs.push(Groups {
-                first,
-                second,
-                made,
-                later,
-            })?,
-            _ => {}
+    let Some(later) = next_child(alloc, story, outer, child)? else {
+        return Ok(());
+    };
+    let mut words = TextBuilder::of_name(alloc, story.called(outer));
+    words.put(" weighs more than ").name(story.called(inner));
+    words
+        .put(", which hangs below its child ")
+        .name(story.called(child));
+    words
+        .put(": ")
+        .name(story.called(child))
+        .put(" with a later child of ");
+    words
+        .name(story.called(inner))
+        .put(" comes before ")
+        .name(story.called(later));
+    items.say(1, Label::Note, words);
+    Ok(())
+}
+
+/// The child of a group that comes after one of them.
+fn next_child(
+    alloc: Global,
+    story: &Story<'_>,
+    group: usize,
+    child: usize,
+) -> Result<Option<usize>, AllocError> {
+    let children = story.children(alloc, group)?;
+    for (k, other) in children.iter().enumerate() {
+        if *other == child {
+            return Ok(children.get(k.saturating_add(1)).copied());
+        }
+    }
+    Ok(None)
+}
+
+/// The nearest group of the same domain that a group hangs below, and its child above that.
+fn outer_of(story: &Story<'_>, inner: usize) -> Option<(usize, usize)> {
+    let domain = story.nodes.get(inner)?.domain;
+    let mut below = inner;
+    for _node in 0..story.nodes.len() {
+        let parent = story.parent(below)?;
+        if story.nodes.get(parent)?.domain != domain {
+            return None;
+        }
+        if story.is_group(parent) {
+            return Some((parent, below));
+        }
+        below = parent;
+    }
+    None
+}
+
+/// Adds a group with each selected one of its domain that stands before it in the tree, the one that
+/// was made last first: so the least move that chooses others is told.
+fn add_pairs(pairs: &mut Vec<Groups>, story: &Story<'_>, second: usize) -> Result<(), AllocError> {
+    let ways = ways_to(*pairs.allocator(), story, second)?;
+    for first in (0..story.nodes.len()).rev() {
+        if story.is_group(first)
+            && story.is_selected(first)
+            && let Some(pair) = pair_of(story, &ways, first, second)
+        {
+            pairs.push(pair)?;
         }
     }
     Ok(())
+}
+
+/// For each node its child that a node is or hangs below, if it does.
+fn ways_to(
+    alloc: Global,
+    story: &Story<'_>,
+    node: usize,
+) -> Result<Vec<Option<usize>>, AllocError> {
+    let mut ways: Vec<Option<usize>> = vec![in alloc; None; story.nodes.len()]?;
+    let mut below = node;
+    for _node in 0..story.nodes.len() {
+        let Some(parent) = story.parent(below) else {
+            break;
+        };
+        if let Some(way) = ways.get_mut(parent) {
+            *way = Some(below);
+        }
+        below = parent;
+    }
+    Ok(ways)
+}
+
+/// A group with another one, to which these ways lead, if it stands before that in the tree.
+fn pair_of(
+    story: &Story<'_>,
+    ways: &[Option<usize>],
+    first: usize,
+    second: usize,
+) -> Option<Groups> {
+    let (above_first, above_second) = parted(story, ways, first)?;
+    let made = story.maker(above_first)?;
+    let later = story.maker(above_second)?;
+    let is_own = story.nodes.get(first)?.domain == story.nodes.get(second)?.domain;
+    if !is_own || !is_before(made, later) {
+        return None;
+    }
+    Some(Groups {
+        first,
+        second,
+        above_first,
+        above_second,
+        made,
+        later,
+    })
+}
+
+/// Where the way up from a node meets these ways: the children of one node, the first of which the
+/// node is or hangs below. `None` where one of the two nodes hangs below the other.
+fn parted(story: &Story<'_>, ways: &[Option<usize>], node: usize) -> Option<(usize, usize)> {
+    let mut above = node;
+    for _node in 0..story.nodes.len() {
+        let parent = story.parent(above)?;
+        match ways.get(parent) {
+            Some(Some(way)) if *way == above => return None,
+            Some(Some(way)) => return Some((above, *way)),
+            _ => above = parent,
+        }
+    }
+    None
 }
 
 /// Whether a call stands before another one, and not too far to be carried there.
@@ -214,21 +332,42 @@ fn in_turn<'a>(call: &Call<'a>, first: usize, second: usize) -> Call<'a>
     Call { place, ..*call }
 }
 
-/// Puts what is tried: `g is made before h, so its choice weighs more; with call 5, which makes h,
-/// before call 2 it would be:`.
+/// Puts what is tried: `a, which g hangs below, is made before h, so g's choice weighs more; with call
+/// 5, which makes h, before call 2 it would be:`.
 fn put_head(items: &mut Items, story: &Story<'_>, pair: Groups) {
-    let mut words = TextBuilder::of_name(items.alloc(), story.called(pair.first));
+    let mut words = TextBuilder::new(items.alloc());
+    let is_itself = pair.above_first == pair.first;
+    put_above(&mut words, story, pair.above_first, pair.first);
+    words.put(if is_itself {
+        " is made before "
+    } else {
+        ", is made before "
+    });
+    put_above(&mut words, story, pair.above_second, pair.second);
+    if is_itself {
+        words.put(", so its");
+    } else {
+        words.put(", so ").name(story.called(pair.first)).put("'s");
+    }
     words
-        .put(" is made before ")
-        .name(story.called(pair.second))
-        .put(", so its choice weighs more; with call ")
+        .put(" choice weighs more; with call ")
         .call(pair.later)
-        .put(", which makes ")
-        .name(story.called(pair.second))
-        .put(", before call ")
-        .call(pair.made)
-        .put(" it would be:");
+        .put(", which makes ");
+    words
+        .name(story.called(pair.above_second))
+        .put(", before call ");
+    words.call(pair.made).put(" it would be:");
     items.say(1, Label::Then, words)
+}
+
+/// Puts a node after a text, and that a group hangs below it, if it does.
+fn put_above(text: &mut TextBuilder, story: &Story<'_>, above: usize, group: usize) {
+    text.name(story.called(above));
+    if above != group {
+        text.put(", which ")
+            .name(story.called(group))
+            .put(" hangs below");
+    }
 }
 
 /// Whether other children of two groups are chosen once these calls are made.

@@ -4,8 +4,8 @@
 ghost use Rattle.std.specs.Prelude.{◌≡◌, IfOk, IfSome};
 ghost use Rattle.other_outcomes.specs.OtherPlatform.{IsPromisedOn, with_first};
 
-use crate::lost::add_lost_in;
 use crate::platforms::{heaps_of, outcome_on};
+use domain_reasons::Losses;
 use explanation_text::{Items, Label, TextBuilder};
 use negotiation_inputs::Platform;
 use script_story::{Outcome, Scenario, Story, asked_in};
@@ -84,7 +84,8 @@ fn add_lost_then(
         calls: scenario.calls,
         effort: scenario.effort,
     };
-    add_lost_in(items, &other, value, story, 2)
+    Losses::by(items.alloc(), &other, value, story, 2)?.put_into(items);
+    Ok(())
 }
 
 /// The pairs after one of them; none where it isn't there.

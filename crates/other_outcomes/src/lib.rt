@@ -18,7 +18,6 @@ mod ended_later;
 mod groups;
 mod heaps;
 mod later_pairs;
-mod lost;
 mod meant;
 mod moved;
 mod otherwise;
@@ -34,9 +33,6 @@ pub use ended_later::add_ended_later;
 pub use groups::add_groups_exchanged;
 pub use heaps::add_heaps;
 pub use later_pairs::add_taken_pairs;
-pub use lost::{
-    add_gone, add_lost, add_lost_in, add_reasons, domain_now, is_lost, put_end, put_head,
-};
 pub use meant::list_meant;
 pub use moved::{add_then, list_moved};
 pub use otherwise::{Otherwise, reordered, with_calls};

@@ -16,6 +16,7 @@ mod call_fault;
 mod help;
 mod keys;
 mod no_json;
+mod only;
 mod record;
 mod record_alone;
 mod script_fault;

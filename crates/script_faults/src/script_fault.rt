@@ -1,7 +1,7 @@
 //! The faults of a script, in words.
 
 use crate::call_fault::add_call_fault;
-use crate::help::{Help, did_you_mean};
+use crate::help::{Help, did_you_mean, missing};
 use crate::keys::SCRIPT;
 use crate::no_json::{Broken, add_break, is_blank};
 use crate::record::{Document, RecordPart, add_record_fault, first_unknown, key_of, wrong_kind};
@@ -113,12 +113,8 @@ fn add_members(items: &mut Items, document: &Document<'_>) {
 }
 
 fn add_missing(items: &mut Items, document: &Document<'_>, key: &str) {
-    let mut words = TextBuilder::of(items.alloc(), key);
-    words.put(" is missing");
-    match words.done() {
-        Ok(note) => document.point(items, 1, &[], RecordPart::Begin, &note, &[]),
-        Err(AllocError) => items.refuse(),
-    }
+    let note = missing(items.alloc(), key);
+    document.note(items, 1, &[], RecordPart::Begin, note)
 }
 
 /// Tells a value of a wrong kind.
@@ -129,10 +125,8 @@ fn add_wrong(
     value: &Value,
     due: &str,
 ) {
-    match wrong_kind(items.alloc(), value, due).done() {
-        Ok(note) => document.point(items, 1, path, RecordPart::Value, &note, &[]),
-        Err(AllocError) => items.refuse(),
-    }
+    let note = wrong_kind(items.alloc(), value, due);
+    document.note(items, 1, path, RecordPart::Value, note)
 }
 
 /// Tells a key that a script can't have.

@@ -22,7 +22,7 @@ pub use asked::{asked_by, asked_in};
 pub use effort::Effort;
 pub use moves::{Move, moves_in};
 pub use outcome::Outcome;
-pub use refused::{list_refused, put_domain, refused_calls, refused_words};
+pub use refused::{list_refused, put_domain, refused_calls};
 pub use scenario::Scenario;
 pub use story::{Became, Domain, MadeCall, Milestone, Milestones, Node, Story};
 pub use telling::story_of;

@@ -5,15 +5,16 @@ use crate::listed::listed_before;
 use crate::offer_words::{least_side, offer_name};
 use crate::offering::{are_refused, offers_of};
 use crate::placing::{place_name, places_of};
-use crate::refusing::{add_no_image, add_offers, place_rows};
-use crate::rows::add_rows;
+use crate::refusing::{Parties, add_no_image, add_offers, place_rows};
+use crate::rows::Unchosen;
 use explanation_text::wording::{MOST_NAMES, put_few};
 use explanation_text::{Fact, Items, Label, ListBuilder, Said, Text, TextBuilder};
 use negotiation_inputs::Platform;
 use std::alloc::{AllocError, Global};
 use sysmem_counts::Field;
-use sysmem_formats::{Offer, Pair, bytes_per_pixel};
+use sysmem_formats::{ColourSpace, Offer, Pair, bytes_per_pixel};
 use sysmem_image::entry_for;
+use sysmem_memory::Place;
 use sysmem_merge::Settings;
 use value_sources::{DerivedNumber, LeastCount, NamedParticipant, Side, Wishes, held};
 
@@ -24,9 +25,14 @@ pub fn add_settings(
     participants: &[NamedParticipant<'_>],
     settings: &Settings,
 ) -> Result<(), AllocError> {
-    add_count(items, participants, settings);
-    add_chosen_place(items, platform, participants, settings)?;
-    add_offer(items, platform, participants, settings)?;
+    let parties = Parties {
+        platform,
+        participants,
+        whole: true,
+    };
+    add_count(items, participants, settings.count);
+    add_chosen_place(items, parties, settings.place)?;
+    add_offer(items, parties, settings.offer)?;
     let wishes = Wishes {
         participants,
         offer: settings.offer,
@@ -38,11 +44,11 @@ pub fn add_settings(
 }
 
 /// Tells the count, and where it comes from, if it is the least that the participants need.
-fn add_count(items: &mut Items, participants: &[NamedParticipant<'_>], settings: &Settings) {
+fn add_count(items: &mut Items, participants: &[NamedParticipant<'_>], count: u32) {
     let mut words = TextBuilder::new(items.alloc());
-    words.value(u128::from(settings.count));
+    words.value(u128::from(count));
     if let Some(least) = LeastCount::of(participants) {
-        if least.number() == u64::from(settings.count) {
+        if least.number() == u64::from(count) {
             let mark = if held(participants) > 0 { " = " } else { ": " };
             words.put(mark).put_words(&least.why(items.alloc()));
         }
@@ -171,74 +177,56 @@ fn is_multiple(number: u128, divisor: u32) -> bool {
 /// Tells the place, who refused each of those before it, and what is to be said of those after it.
 fn add_chosen_place(
     items: &mut Items,
-    platform: &Platform,
-    participants: &[NamedParticipant<'_>],
-    settings: &Settings,
+    parties: Parties<'_, '_>,
+    place: Place,
 ) -> Result<(), AllocError> {
     let alloc = items.alloc();
-    items.say(1, Label::Place, place_name(alloc, platform, settings.place));
-    let places = places_of(alloc, platform)?;
-    let earlier = before(&places, &settings.place);
-    let rows = place_rows(alloc, platform, earlier, participants, false)?;
-    add_rows(items, 2, "not ", &rows, usize::MAX, "places before it");
-    let later = after(&places, &settings.place);
-    add_later_places(items, platform, participants, settings.place, later)
-}
-
-/// Tells what would do too, but stands after what was chosen, if something does.
-fn add_later(items: &mut Items, names: &[Text]) {
-    if let Some(words) = later_words(items.alloc(), names) {
-        items.say(2, Label::Plain, words);
-    }
+    items.say(1, Label::Place, place_name(alloc, parties.platform, place));
+    let places = places_of(alloc, parties.platform)?;
+    let (earlier, later) = around(&places, &place);
+    let rows = place_rows(alloc, parties, earlier)?;
+    Unchosen::of(" places before it").add(items, &rows);
+    add_later_places(items, parties, place, later)
 }
 
 /// Tells the offer, and who refused each of those before it.
-fn add_offer(
-    items: &mut Items,
-    platform: &Platform,
-    participants: &[NamedParticipant<'_>],
-    settings: &Settings,
-) -> Result<(), AllocError> {
+fn add_offer(items: &mut Items, parties: Parties<'_, '_>, chosen: Offer) -> Result<(), AllocError> {
     let alloc = items.alloc();
-    let name = match settings.offer {
+    let name = match chosen {
         Offer::NoImage => TextBuilder::of(alloc, "none"),
         offer => offer_name(alloc, &offer),
     };
     items.say(1, Label::Image, name);
-    let offers = offers_of(alloc, platform)?;
-    let earlier = before(&offers, &settings.offer);
-    let images = add_image(items, participants, earlier)?;
-    add_offers(
-        items,
-        platform,
-        participants,
-        images,
-        "not ",
-        "offers before it",
-    )?;
-    add_listed(items, platform, participants, settings)?;
-    add_later_colours(items, platform, participants, settings)
+    let offers = offers_of(alloc, parties.platform)?;
+    let (earlier, _) = around(&offers, &chosen);
+    let images = add_image(items, parties, earlier)?;
+    add_offers(items, parties, images, " offers before it")?;
+    if let Offer::Image(pair, colour) = chosen {
+        add_listed(items, parties, pair)?;
+        add_later_colours(items, parties, pair, colour)?;
+    }
+    Ok(())
 }
 
 /// Tells in which colour spaces after the chosen one nobody refuses the chosen pair.
 fn add_later_colours(
     items: &mut Items,
-    platform: &Platform,
-    participants: &[NamedParticipant<'_>],
-    settings: &Settings,
+    parties: Parties<'_, '_>,
+    pair: Pair,
+    chosen: ColourSpace,
 ) -> Result<(), AllocError> {
-    let Offer::Image(pair, chosen) = settings.offer else {
-        return Ok(());
-    };
     let alloc = items.alloc();
     let mut names = ListBuilder::new(alloc);
-    for colour in after(platform.colours(), &chosen) {
+    let (_, later) = around(parties.platform.colours(), &chosen);
+    for colour in later {
         let offer = Offer::Image(pair, *colour);
-        if !are_refused(&[offer], participants, true) {
+        if !are_refused(&[offer], parties.participants, true) {
             names.add_text(offer_name(alloc, &offer));
         }
     }
-    add_later(items, &names.done()?);
+    if let Some(words) = later_words(alloc, &names.done()?) {
+        items.say(2, Label::Plain, words);
+    }
     Ok(())
 }
 
@@ -246,12 +234,12 @@ fn add_later_colours(
 /// which of them are images.
 fn add_image<'b>(
     items: &mut Items,
-    participants: &[NamedParticipant<'_>],
+    parties: Parties<'_, '_>,
     refused: &'b [Offer],
 ) -> Result<&'b [Offer], AllocError> {
     match refused.split_first() {
         Some((none, images)) if *none == Offer::NoImage => {
-            add_no_image(items, participants)?;
+            add_no_image(items, parties)?;
             Ok(images)
         }
         _ => Ok(refused),
@@ -260,39 +248,15 @@ fn add_image<'b>(
 
 /// Tells who refuses each pair that participants list before the chosen one, where all its offers
 /// are refused: such a pair stands later on the platform.
-fn add_listed(
-    items: &mut Items,
-    platform: &Platform,
-    participants: &[NamedParticipant<'_>],
-    settings: &Settings,
-) -> Result<(), AllocError> {
-    let Offer::Image(chosen, _) = settings.offer else {
-        return Ok(());
-    };
-    let pairs = listed_before(items.alloc(), platform, participants, chosen)?;
+fn add_listed(items: &mut Items, parties: Parties<'_, '_>, chosen: Pair) -> Result<(), AllocError> {
+    let alloc = items.alloc();
+    let participants = parties.participants;
+    let pairs = listed_before(alloc, parties.platform, participants, chosen)?;
     for pair in &pairs {
-        add_refused_pair(items, platform, participants, *pair)?;
-    }
-    Ok(())
-}
-
-/// Tells who refuses a pair, where all its offers are refused.
-fn add_refused_pair(
-    items: &mut Items,
-    platform: &Platform,
-    participants: &[NamedParticipant<'_>],
-    pair: Pair,
-) -> Result<(), AllocError> {
-    let offers = offers_with(items.alloc(), platform, pair)?;
-    if are_refused(&offers, participants, true) {
-        return add_offers(
-            items,
-            platform,
-            participants,
-            &offers,
-            "not ",
-            "offers after it",
-        );
+        let offers = offers_with(alloc, parties.platform, *pair)?;
+        if are_refused(&offers, participants, true) {
+            add_offers(items, parties, &offers, " offers after it")?;
+        }
     }
     Ok(())
 }
@@ -306,24 +270,16 @@ fn offers_with(alloc: Global, platform: &Platform, pair: Pair) -> Result<Vec<Off
     Ok(offers)
 }
 
-/// The front of a list up to the first item that is equal to one; all of it where none is.
-fn before<'a, T: PartialEq>(list: &'a [T], one: &T) -> &'a [T] {
+/// The items of a list before the first that is equal to one, and those after it; all of it, and
+/// none, where none is.
+fn around<'a, T: PartialEq>(list: &'a [T], one: &T) -> (&'a [T], &'a [T]) {
     for (k, other) in list.iter().enumerate() {
         if *other == *one {
-            return list.get(..k).unwrap_or(list);
+            let after = list.get(k.saturating_add(1)..).unwrap_or(&[]);
+            return (list.get(..k).unwrap_or(list), after);
         }
     }
-    list
-}
-
-/// The items of a list after the first that is equal to one; none where none is.
-fn after<'a, T: PartialEq>(list: &'a [T], one: &T) -> &'a [T] {
-    for (k, other) in list.iter().enumerate() {
-        if *other == *one {
-            return list.get(k.saturating_add(1)..).unwrap_or(&[]);
-        }
-    }
-    &[]
+    (list, &[])
 }
 
 /// Tells where an image's width, height and row come from.

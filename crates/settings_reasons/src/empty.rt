@@ -11,7 +11,7 @@ use crate::count_reason::CountReason;
 use crate::lacking::{add_no_heaps, add_no_images};
 use crate::offering::{are_refused, offers_of};
 use crate::placing::{has_no_place, places_of};
-use crate::refusing::{offer_rows, place_rows};
+use crate::refusing::{Parties, offer_rows, place_rows};
 use crate::rows::{add_rows, nearest};
 use crate::unmet::InTheWay;
 use explanation_text::wording::MOST_NAMES;
@@ -19,7 +19,6 @@ use explanation_text::{Items, Label, TextBuilder};
 use negotiation_inputs::Platform;
 use std::alloc::{AllocError, Global};
 use sysmem_counts::Field;
-use sysmem_formats::Offer;
 use sysmem_merge::Aggregate;
 use value_sources::{NamedParticipant, put_participants};
 
@@ -34,11 +33,16 @@ pub fn add_conflict(
     participants: &[NamedParticipant<'_>],
     whole: bool,
 ) -> Result<(), AllocError> {
+    let parties = Parties {
+        platform,
+        participants,
+        whole,
+    };
     add_contradictions(items, depth, participants);
     add_in_the_way(items, depth, platform, participants)?;
     add_counts(items, depth, participants);
-    add_refused_places(items, depth, platform, participants)?;
-    add_offers(items, depth, platform, participants, whole)
+    add_refused_places(items, depth, parties)?;
+    add_refused_offers(items, depth, parties)
 }
 
 /// Tells why no count suits participants, where none does.
@@ -54,72 +58,37 @@ fn add_counts(items: &mut Items, depth: usize, participants: &[NamedParticipant<
 fn add_refused_places(
     items: &mut Items,
     depth: usize,
-    platform: &Platform,
-    participants: &[NamedParticipant<'_>],
+    parties: Parties<'_, '_>,
 ) -> Result<(), AllocError> {
-    if !has_no_place(platform, participants) {
+    if !has_no_place(parties.platform, parties.participants) {
         return Ok(());
     }
-    add_place_rows(items, depth, platform, participants)?;
-    add_no_heaps(items, depth, platform, participants)
-}
-
-/// Tells who refuses each place.
-fn add_place_rows(
-    items: &mut Items,
-    depth: usize,
-    platform: &Platform,
-    participants: &[NamedParticipant<'_>],
-) -> Result<(), AllocError> {
     let alloc = items.alloc();
-    let places = places_of(alloc, platform)?;
+    let places = places_of(alloc, parties.platform)?;
     items.say(depth, Label::Place, none_of(alloc, "place", places.len()));
-    let rows = place_rows(alloc, platform, &places, participants, true)?;
+    let rows = place_rows(alloc, parties, &places)?;
     let below = depth.saturating_add(1);
-    add_rows(
-        items,
-        below,
-        "",
-        &rows,
-        usize::MAX,
-        "places are refused too",
-    );
-    Ok(())
+    add_rows(items, below, &rows, usize::MAX, " places are refused too");
+    add_no_heaps(items, depth, parties)
 }
 
 /// Tells who refuses each offer, where somebody does.
-fn add_offers(
+fn add_refused_offers(
     items: &mut Items,
     depth: usize,
-    platform: &Platform,
-    participants: &[NamedParticipant<'_>],
-    whole: bool,
-) -> Result<(), AllocError> {
-    let offers = offers_of(items.alloc(), platform)?;
-    if !are_refused(&offers, participants, whole) {
-        return Ok(());
-    }
-    add_offer_rows(items, depth, platform, &offers, participants, whole)?;
-    add_no_images(items, depth, platform, participants)
-}
-
-/// Tells who refuses each of a platform's offers.
-fn add_offer_rows(
-    items: &mut Items,
-    depth: usize,
-    platform: &Platform,
-    offers: &[Offer],
-    participants: &[NamedParticipant<'_>],
-    whole: bool,
+    parties: Parties<'_, '_>,
 ) -> Result<(), AllocError> {
     let alloc = items.alloc();
+    let offers = offers_of(alloc, parties.platform)?;
+    if !are_refused(&offers, parties.participants, parties.whole) {
+        return Ok(());
+    }
     items.say(depth, Label::Image, none_of(alloc, "offer", offers.len()));
-    let colours = platform.colours().len();
-    let rows = offer_rows(alloc, offers, participants, whole, true, colours)?;
+    let rows = offer_rows(alloc, parties, &offers, false)?;
     let far = nearest(&rows).saturating_add(1);
     let below = depth.saturating_add(1);
-    add_rows(items, below, "", &rows, far, "offers are refused too");
-    Ok(())
+    add_rows(items, below, &rows, far, " offers are refused too");
+    add_no_images(items, depth, parties)
 }
 
 fn none_of(alloc: Global, what: &str, count: usize) -> TextBuilder {

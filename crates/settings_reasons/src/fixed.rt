@@ -12,7 +12,7 @@ use crate::offer_words::{offer_name, put_offer_reason};
 use crate::offering::{are_refused, offers_of};
 use crate::place_reason::PlaceReason;
 use crate::placing::{put_place, put_place_reason};
-use crate::refusing::add_offers;
+use crate::refusing::{Parties, add_offers};
 use explanation_text::{Items, Label, ListBuilder, TextBuilder};
 use negotiation_inputs::{Constraints, Platform};
 use std::alloc::{AllocError, Global};
@@ -105,14 +105,12 @@ fn add_refused_images(
             return Ok(());
         }
     }
-    add_offers(
-        items,
+    let parties = Parties {
         platform,
-        before,
-        &offers,
-        "not ",
-        "offers that it takes",
-    )
+        participants: before,
+        whole: true,
+    };
+    add_offers(items, parties, &offers, " offers that it takes")
 }
 
 /// Tells that nobody refuses an offer.

@@ -2,6 +2,7 @@
 
 use crate::listed::is_taken;
 use crate::offer_words::pair_name;
+use crate::refusing::Parties;
 use crate::rows::{FailureRow, add, add_rows};
 use explanation_text::{Items, Label, Text, TextBuilder};
 use negotiation_inputs::Platform;
@@ -22,23 +23,16 @@ struct LackedName<'a> {
 pub(crate) fn add_no_images(
     items: &mut Items,
     depth: usize,
-    platform: &Platform,
-    participants: &[NamedParticipant<'_>],
+    parties: Parties<'_, '_>,
 ) -> Result<(), AllocError> {
     let mut lacked: Vec<LackedName<'_>> = Vec::new(items.alloc());
-    for participant in participants {
+    for participant in parties.participants {
         for entry in participant.asked.entries() {
-            add_lacked(&mut lacked, platform, entry, participant)?;
+            add_lacked(&mut lacked, parties.platform, entry, participant)?;
         }
     }
-    add_lacked_rows(
-        items,
-        depth,
-        &lacked,
-        participants.len(),
-        "takes it",
-        "take it",
-    )
+    let count = parties.participants.len();
+    add_lacked_rows(items, depth, &lacked, count, ("takes it", "take it"))
 }
 
 /// Adds what a participant's entry names, if the platform lacks it.
@@ -63,28 +57,21 @@ fn add_lacked<'a>(
 pub(crate) fn add_no_heaps(
     items: &mut Items,
     depth: usize,
-    platform: &Platform,
-    participants: &[NamedParticipant<'_>],
+    parties: Parties<'_, '_>,
 ) -> Result<(), AllocError> {
     let alloc = items.alloc();
     let mut lacked: Vec<LackedName<'_>> = Vec::new(alloc);
-    for participant in participants {
+    for participant in parties.participants {
         for heap in &participant.asked.memory().permitted_heaps {
-            if !has_heap(platform, heap) {
+            if !has_heap(parties.platform, heap) {
                 let mut name = TextBuilder::of(alloc, &heap.heap_type);
                 name.put("#").put_number(heap.id);
                 add_named(&mut lacked, name.into_text()?, participant)?;
             }
         }
     }
-    add_lacked_rows(
-        items,
-        depth,
-        &lacked,
-        participants.len(),
-        "permits it",
-        "permit it",
-    )
+    let count = parties.participants.len();
+    add_lacked_rows(items, depth, &lacked, count, ("permits it", "permit it"))
 }
 
 /// Whether the platform has a pair that an entry takes.
@@ -142,21 +129,19 @@ fn add_lacked_rows(
     depth: usize,
     lacked: &[LackedName<'_>],
     participants: usize,
-    one: &str,
-    many: &str,
+    words: (&str, &str),
 ) -> Result<(), AllocError> {
     if lacked.is_empty() {
         return Ok(());
     }
-    let alloc = items.alloc();
     items.list_text(depth, Label::Lacks, "the platform doesn't have these:");
-    let mut rows: Vec<FailureRow> = Vec::new(alloc);
+    let mut rows: Vec<FailureRow> = Vec::new(items.alloc());
     for named in lacked {
         let far = participants.saturating_sub(named.participants.len());
-        add_lacked_row(&mut rows, named, far, one, many)?;
+        add_lacked_row(&mut rows, named, far, words)?;
     }
     let below = depth.saturating_add(1);
-    add_rows(items, below, "", &rows, usize::MAX, "aren't there either");
+    add_rows(items, below, &rows, usize::MAX, " aren't there either");
     Ok(())
 }
 
@@ -165,9 +150,9 @@ fn add_lacked_row(
     rows: &mut Vec<FailureRow>,
     named: &LackedName<'_>,
     far: usize,
-    one: &str,
-    many: &str,
+    words: (&str, &str),
 ) -> Result<(), AllocError> {
+    let (one, many) = words;
     let alloc = *rows.allocator();
     let mut text = TextBuilder::new(alloc);
     put_has(&mut text, &named.participants, one, many);

@@ -2,11 +2,10 @@
 
 use crate::place_reason::place_reasons;
 use crate::placing::{heap_name, place_name};
-use crate::refusing::place_rows;
-use crate::rows::add_later_rows;
+use crate::refusing::{Parties, place_rows};
+use crate::rows::Unchosen;
 use explanation_text::wording::{MOST_NAMES, put_few};
 use explanation_text::{Items, Label, ListBuilder, Text, TextBuilder};
-use negotiation_inputs::Platform;
 use std::alloc::{AllocError, Global};
 use sysmem_counts::Field;
 use sysmem_memory::{HeapInfo, Place};
@@ -56,11 +55,10 @@ impl HeapTrait {
     }
 }
 
-/// A platform, with participants and the heap that was chosen for them.
+/// Participants on a platform, and the heap that was chosen for them.
 #[derive(Clone, Copy)]
 struct Chosen<'a, 'b> {
-    platform: &'b Platform,
-    participants: &'b [NamedParticipant<'a>],
+    parties: Parties<'a, 'b>,
     heap: &'b HeapInfo,
 }
 
@@ -69,24 +67,19 @@ struct Chosen<'a, 'b> {
 /// of heaps.
 pub(crate) fn add_later_places(
     items: &mut Items,
-    platform: &Platform,
-    participants: &[NamedParticipant<'_>],
+    parties: Parties<'_, '_>,
     place: Place,
     later: &[Place],
 ) -> Result<(), AllocError> {
-    let Some(heap) = platform.heaps().get(place.heap) else {
+    let Some(heap) = parties.platform.heaps().get(place.heap) else {
         return Ok(());
     };
-    let chosen = Chosen {
-        platform,
-        participants,
-        heap,
-    };
+    let chosen = Chosen { parties, heap };
     let taken = chosen.unrefused(items.alloc(), later)?;
     chosen.add_taken(items, &taken)?;
     let others = chosen.in_other_heaps(items.alloc(), later, &taken)?;
-    let rows = place_rows(items.alloc(), platform, &others, participants, false)?;
-    add_later_rows(items, 2, &rows, "more places in other heaps");
+    let rows = place_rows(items.alloc(), parties, &others)?;
+    Unchosen::after(" more places in other heaps, after it").add(items, &rows);
     Ok(())
 }
 
@@ -117,10 +110,10 @@ impl<'b> Chosen<'_, 'b> {
 
     /// Whether somebody refuses a place.
     fn is_refused(&self, alloc: Global, place: Place) -> Result<bool, AllocError> {
-        let Some(heap) = self.platform.heaps().get(place.heap) else {
+        let Some(heap) = self.parties.platform.heaps().get(place.heap) else {
             return Ok(true);
         };
-        let reasons = place_reasons(alloc, heap, place.coherency, self.participants)?;
+        let reasons = place_reasons(alloc, heap, place.coherency, self.parties.participants)?;
         Ok(!reasons.is_empty())
     }
 
@@ -130,7 +123,7 @@ impl<'b> Chosen<'_, 'b> {
         let alloc = items.alloc();
         let mut names = ListBuilder::new(alloc);
         for place in places {
-            names.add_text(place_name(alloc, self.platform, *place));
+            names.add_text(place_name(alloc, self.parties.platform, *place));
         }
         if let Some(mut words) = later_words(alloc, &names.done()?) {
             self.put_unasked(&mut words, &self.heaps_of(alloc, places)?, places.len())?;
@@ -144,7 +137,7 @@ impl<'b> Chosen<'_, 'b> {
         let mut heaps = Vec::new(alloc);
         let mut last = usize::MAX;
         for place in places {
-            if let Some(heap) = self.platform.heaps().get(place.heap) {
+            if let Some(heap) = self.parties.platform.heaps().get(place.heap) {
                 if place.heap != last {
                     heaps.push(heap)?;
                 }
@@ -201,7 +194,7 @@ impl<'b> Chosen<'_, 'b> {
 
     /// Whether somebody requires this of a heap.
     fn is_required(&self, kind: HeapTrait) -> bool {
-        for participant in self.participants {
+        for participant in self.parties.participants {
             if kind.is_required_by(participant) {
                 return true;
             }
@@ -229,7 +222,7 @@ impl<'b> Chosen<'_, 'b> {
     /// Whether a place lies in a heap of another type than the chosen one, or in one that is
     /// contiguous or secure while that isn't.
     fn is_other(&self, place: Place) -> bool {
-        let Some(heap) = self.platform.heaps().get(place.heap) else {
+        let Some(heap) = self.parties.platform.heaps().get(place.heap) else {
             return false;
         };
         let chosen = self.heap;

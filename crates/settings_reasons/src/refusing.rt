@@ -1,11 +1,11 @@
 //! Rows of the places and offers that participants refuse.
 
-use crate::offer_reason::{OfferReason, offer_reasons};
+use crate::offer_reason::{OfferGround, OfferReason, offer_reasons};
 use crate::offer_words::{offer_name, pair_name, put_offer_reason};
 use crate::offering::distance_of;
-use crate::place_reason::{PlaceReason, place_reasons};
+use crate::place_reason::place_reasons;
 use crate::placing::{put_heap_place, put_place_reason};
-use crate::rows::{FailureRow, add, add_rows};
+use crate::rows::{FailureRow, Unchosen, add, put_reasons, shared};
 use explanation_text::{Items, Label, ListBuilder, Text, TextBuilder};
 use negotiation_inputs::Platform;
 use std::alloc::{AllocError, Global};
@@ -14,38 +14,42 @@ use sysmem_formats::Offer;
 use sysmem_memory::{CoherencyDomain, HeapInfo, Place};
 use value_sources::NamedParticipant;
 
-/// Rows of places that participants refuse. Where all reasons of all are asked for, the nearest
-/// place has the fewest who refuse it; else the first reason is enough, and the order stays.
+/// Participants on a platform, who are all that there are if `whole` says so.
+#[derive(Clone, Copy)]
+pub(crate) struct Parties<'a, 'b> {
+    pub(crate) platform: &'b Platform,
+    pub(crate) participants: &'b [NamedParticipant<'a>],
+    pub(crate) whole: bool,
+}
+
+/// Rows of places that participants refuse. The nearest has the fewest who refuse it.
 pub(crate) fn place_rows(
     alloc: Global,
-    platform: &Platform,
+    parties: Parties<'_, '_>,
     places: &[Place],
-    participants: &[NamedParticipant<'_>],
-    all: bool,
 ) -> Result<Vec<FailureRow>, AllocError> {
     let mut rows = Vec::new(alloc);
     for place in places {
-        if let Some(heap) = platform.heaps().get(place.heap) {
-            add_place(&mut rows, heap, place.coherency, participants, all)?;
+        if let Some(heap) = parties.platform.heaps().get(place.heap) {
+            add_place(&mut rows, heap, place.coherency, parties.participants)?;
         }
     }
     Ok(rows)
 }
 
-/// Adds a place with the reasons against it.
+/// Adds a place with the reasons against it. Who refuses it by two fields counts twice.
 fn add_place(
     rows: &mut Vec<FailureRow>,
     heap: &HeapInfo,
     coherency: CoherencyDomain,
     participants: &[NamedParticipant<'_>],
-    all: bool,
 ) -> Result<(), AllocError> {
     let alloc = *rows.allocator();
-    let reasons = place_reasons(alloc, heap, coherency, participants)?;
-    let far = if all { refusals(&reasons) } else { 0 };
-    let most = if all { reasons.len() } else { 1 };
+    let mut far = 0usize;
     let mut texts: ListBuilder<Text> = ListBuilder::new(alloc);
-    for reason in reasons.iter().take(most) {
+    let reasons = place_reasons(alloc, heap, coherency, participants)?;
+    for reason in &reasons {
+        far = far.saturating_add(reason.participants().len());
         let mut text = TextBuilder::new(alloc);
         put_place_reason(&mut text, reason);
         texts.add_text(text);
@@ -55,48 +59,23 @@ fn add_place(
     add(rows, name.into_text()?, texts.done()?, far, 1)
 }
 
-/// How many refusals these are: who refuses by two fields counts twice.
-fn refusals(reasons: &[PlaceReason<'_, '_>]) -> usize {
-    let mut count = 0usize;
-    for reason in reasons {
-        count = count.saturating_add(reason.participants().len());
-    }
-    count
-}
-
-/// The reasons against an offer in words, or the first of them.
-fn texts_of(
-    alloc: Global,
-    reasons: &[OfferReason<'_>],
-    all: bool,
-) -> Result<Vec<Text>, AllocError> {
-    let most = if all { reasons.len() } else { 1 };
-    let mut texts: ListBuilder<Text> = ListBuilder::new(alloc);
-    for reason in reasons.iter().take(most) {
-        let mut text = TextBuilder::new(alloc);
-        put_offer_reason(&mut text, reason);
-        texts.add_text(text);
-    }
-    texts.done()
-}
-
-/// Rows of offers that participants refuse, in the same way. A pair that is refused in each of so
-/// many colour spaces for the same reasons is named once.
+/// Rows of offers that participants refuse, in the same way; with who lacks the colour space beside
+/// who has no entry, where each is asked for. A pair that is refused in each of so many colour
+/// spaces for the same reasons is named once.
 pub(crate) fn offer_rows(
     alloc: Global,
+    parties: Parties<'_, '_>,
     offers: &[Offer],
-    participants: &[NamedParticipant<'_>],
-    whole: bool,
-    all: bool,
-    colours: usize,
+    each: bool,
 ) -> Result<Vec<FailureRow>, AllocError> {
+    let colours = parties.platform.colours().len();
     let mut rows = Vec::new(alloc);
     let mut pair: Vec<RefusedOffer> = Vec::new(alloc);
     for offer in offers {
         if is_next_pair(&pair, offer) {
             add_pair(&mut rows, &mut pair, colours)?;
         }
-        pair.push(refused_by(alloc, offer, participants, whole, all)?)?;
+        pair.push(refused_by(alloc, parties, offer, each)?)?;
     }
     add_pair(&mut rows, &mut pair, colours)?;
     Ok(rows)
@@ -105,29 +84,20 @@ pub(crate) fn offer_rows(
 /// Tells who refuses each of some offers, in their order.
 pub(crate) fn add_offers(
     items: &mut Items,
-    platform: &Platform,
-    participants: &[NamedParticipant<'_>],
+    parties: Parties<'_, '_>,
     offers: &[Offer],
-    before: &str,
-    what: &str,
+    what: &'static str,
 ) -> Result<(), AllocError> {
-    let colours = platform.colours().len();
-    let rows = offer_rows(items.alloc(), offers, participants, true, false, colours)?;
-    add_rows(items, 2, before, &rows, usize::MAX, what);
+    let rows = offer_rows(items.alloc(), parties, offers, true)?;
+    Unchosen::of(what).add(items, &rows);
     Ok(())
 }
 
 /// Tells why there has to be an image: who refuses to have none.
-pub(crate) fn add_no_image(
-    items: &mut Items,
-    participants: &[NamedParticipant<'_>],
-) -> Result<(), AllocError> {
-    let alloc = items.alloc();
-    let refused = refused_by(alloc, &Offer::NoImage, participants, true, false)?;
-    let mut words = TextBuilder::of(alloc, "there has to be an image");
-    for reason in &refused.texts {
-        words.put(": ").put_text(reason);
-    }
+pub(crate) fn add_no_image(items: &mut Items, parties: Parties<'_, '_>) -> Result<(), AllocError> {
+    let refused = refused_by(items.alloc(), parties, &Offer::NoImage, true)?;
+    let mut words = TextBuilder::of(items.alloc(), "there has to be an image: ");
+    put_reasons(&mut words, &refused.texts);
     items.say(2, Label::Plain, words);
     Ok(())
 }
@@ -140,25 +110,56 @@ struct RefusedOffer {
     distance: usize,
 }
 
-/// An offer with the reasons against it.
+/// An offer with the reasons against it; with who lacks its colour space beside who has no entry for
+/// it, where each is asked for.
 fn refused_by(
     alloc: Global,
+    parties: Parties<'_, '_>,
     offer: &Offer,
-    participants: &[NamedParticipant<'_>],
-    whole: bool,
-    all: bool,
+    each: bool,
 ) -> Result<RefusedOffer, AllocError> {
-    let reasons = offer_reasons(alloc, offer, participants, whole)?;
-    let distance = if all {
-        distance_of(offer, &reasons, participants.len())
-    } else {
-        0
-    };
+    let participants = parties.participants;
+    let reasons = offer_reasons(alloc, offer, participants, parties.whole)?;
+    let distance = distance_of(offer, &reasons, participants.len());
+    let mut texts = ListBuilder::new(alloc);
+    for reason in &reasons {
+        add_reason(&mut texts, reason);
+    }
+    if each && lacks_entry(&reasons) {
+        add_colour_reason(&mut texts, offer, participants)?;
+    }
     Ok(RefusedOffer {
         offer: *offer,
-        texts: texts_of(alloc, &reasons, all)?,
+        texts: texts.done()?,
         distance,
     })
+}
+
+/// Whether reasons name who has no entry.
+fn lacks_entry(reasons: &[OfferReason<'_>]) -> bool {
+    match reasons.first() {
+        Some(reason) => matches!(reason.ground(), OfferGround::NoEntry),
+        None => false,
+    }
+}
+
+/// Adds who has an entry for an offer that doesn't take its colour space, if somebody has.
+fn add_colour_reason(
+    texts: &mut ListBuilder<Text>,
+    offer: &Offer,
+    participants: &[NamedParticipant<'_>],
+) -> Result<(), AllocError> {
+    if let Some(reason) = OfferReason::without_colour(texts.alloc(), offer, participants, true)? {
+        add_reason(texts, &reason);
+    }
+    Ok(())
+}
+
+/// Adds a reason against an offer in words.
+fn add_reason(texts: &mut ListBuilder<Text>, reason: &OfferReason<'_>) {
+    let mut text = TextBuilder::new(texts.alloc());
+    put_offer_reason(&mut text, reason);
+    texts.add_text(text);
 }
 
 /// Whether an offer is of another pair than those before it.
@@ -177,21 +178,26 @@ fn are_one_pair(a: &Offer, b: &Offer) -> bool {
 }
 
 /// Moves the offers of one pair to the rows: as one, where they fail in all of so many colour
-/// spaces for the same reasons.
+/// spaces for the same reasons, or in one of them for no other than in all.
 fn add_pair(
     rows: &mut Vec<FailureRow>,
     offers: &mut Vec<RefusedOffer>,
     colours: usize,
 ) -> Result<(), AllocError> {
     let alloc = *rows.allocator();
-    let is_one = is_one_row(offers, colours);
+    let most = fewest(offers);
+    let is_one = 1 < colours && offers.len() == colours && start_alike(offers, most);
     let count = if is_one { colours } else { 1 };
     if is_one {
         offers.truncate(1);
     }
     for refused in mem::replace(offers, Vec::new(alloc)) {
         let name = name_of(alloc, &refused.offer, is_one).into_text()?;
-        add(rows, name, refused.texts, refused.distance, count)?;
+        let mut reasons = refused.texts;
+        if is_one {
+            reasons.truncate(most);
+        }
+        add(rows, name, reasons, refused.distance, count)?;
     }
     Ok(())
 }
@@ -206,16 +212,24 @@ fn name_of(alloc: Global, offer: &Offer, is_pair: bool) -> TextBuilder {
     }
 }
 
-/// Whether offers are all those of a pair in so many colour spaces, each refused for the same
-/// reasons.
-fn is_one_row(offers: &[RefusedOffer], colours: usize) -> bool {
+/// The least number of reasons against one of some offers.
+fn fewest(offers: &[RefusedOffer]) -> usize {
+    let mut least = usize::MAX;
+    for refused in offers {
+        least = least.min(refused.texts.len());
+    }
+    least
+}
+
+/// Whether the first reasons against offers, so many, are the same.
+fn start_alike(offers: &[RefusedOffer], most: usize) -> bool {
     let Some(first) = offers.first() else {
         return false;
     };
     for other in offers {
-        if other.texts != first.texts {
+        if shared(&other.texts, &first.texts) < most {
             return false;
         }
     }
-    1 < colours && offers.len() == colours
+    true
 }

@@ -62,14 +62,9 @@ fn tell_verdict(text: &mut String, verdict: &Verdict) -> Result<(), AllocError> 
     }
 }
 
-/// What is found of what is frozen: the verdict with the choices and the number of buffers, the
-/// visits, and those of which the gate is told with the most choices of one.
-pub(crate) fn tell_search(
-    text: &mut String,
-    alloc: Global,
-    frozen: &Frozen,
-) -> Result<(), AllocError> {
-    let found = search_frozen(alloc, frozen)?;
+/// What was found: the verdict with the choices and the number of buffers, the visits, and those of
+/// which the gate was told with the most choices of one.
+pub(crate) fn tell_search(text: &mut String, found: &SearchRun) -> Result<(), AllocError> {
     tell_verdict(text, &found.verdict)?;
     let (visits, told, most) = (found.visits, found.told, found.most_choices);
     write!(text, " visits {visits} told {told} most {most}")

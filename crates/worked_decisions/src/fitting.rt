@@ -4,7 +4,6 @@ use crate::equal::is_equal;
 use crate::playing::{frozen_after, played};
 use std::alloc::Global;
 use std::process::Abort;
-use std::test::Fail;
 use sysmem_alloc::Frozen;
 
 // Of a, whose token c was duplicated, and b, all of whom are set: c is made last here.
@@ -13,7 +12,7 @@ const FROZEN: &str =
 
 // Books that have what was frozen of that one still: itself, with a token attached since, and with
 // c made before b.
-const FITTING: [&str; 3] = [
+const FITTING: &[&str] = &[
     FROZEN,
     "/ duplicate duplicate /0 duplicate bind cpu /1 bind camps_on_2 /0/0 bind cpu / release /1 attach_token",
     "/ duplicate /0 duplicate / duplicate /0 bind cpu /0/0 bind cpu /1 bind camps_on_2 / release",
@@ -21,7 +20,7 @@ const FITTING: [&str; 3] = [
 
 // Books that haven't: decided, not ready, with other constraints, with one more token, with c made
 // by b.
-const OTHER: [&str; 5] = [
+const OTHER: &[&str] = &[
     "/ duplicate duplicate /0 duplicate bind cpu /1 bind camps_on_2 /0/0 bind cpu / release decide",
     "/ duplicate duplicate /0 duplicate bind cpu /1 bind camps_on_2 /0/0 bind cpu",
     "/ duplicate duplicate /0 duplicate bind cpu /1 bind camps_on_1 /0/0 bind cpu / release",
@@ -48,58 +47,26 @@ const SLACK: &str =
 const SLACK_DECIDED: &str =
     "/ duplicate duplicate release /0 bind camps_on_2_and_slack /1 bind camps_on_3_and_slack decide";
 
-fn is_fitting(
-    rt: &impl Abort,
-    alloc: Global,
-    frozen: &Frozen,
-    script: &str,
-    wanted: bool,
-) -> Result<(), Fail> {
-    let book = played(alloc, script)?;
-    is_equal(rt, script, &book.fits(frozen), &wanted);
-    Ok(())
-}
+// A script, those of books that have what was frozen of its book still, and those of books that
+// haven't.
+const CASES: [(&str, &[&str], &[&str]); 3] = [
+    (FROZEN, FITTING, OTHER),
+    (RELEASED, &[RELEASED], &[ACCEPTED_ASKS_LESS, FROZEN]),
+    (SLACK, &[SLACK], &[SLACK_DECIDED]),
+];
 
-fn fits_all(
-    rt: &impl Abort,
-    alloc: Global,
-    frozen: &Frozen,
-    scripts: &[&str],
-    wanted: bool,
-) -> Result<(), Fail> {
+fn fits_all(rt: &impl Abort, alloc: Global, frozen: &Frozen, scripts: &[&str], wanted: bool) {
     for script in scripts {
-        is_fitting(rt, alloc, frozen, script, wanted)?;
+        let book = played(rt, alloc, script);
+        is_equal(rt, script, &book.fits(frozen), &wanted);
     }
-    Ok(())
-}
-
-// What is frozen is lent, so that the tests aren't proved to free it where a book can't be played.
-fn fits_these_alone(
-    rt: &impl Abort,
-    alloc: Global,
-    frozen: &Frozen,
-    fitting: &[&str],
-    other: &[&str],
-) -> Result<(), Fail> {
-    fits_all(rt, alloc, frozen, fitting, true)?;
-    fits_all(rt, alloc, frozen, other, false)
 }
 
 #[test]
-fn which_books_fit(rt: HostRuntime) -> Result<(), Fail> {
-    let frozen = frozen_after(rt.alloc(), FROZEN)?;
-    fits_these_alone(&rt, rt.alloc(), &frozen, &FITTING, &OTHER)
-}
-
-#[test]
-fn which_books_of_an_attached_domain_fit(rt: HostRuntime) -> Result<(), Fail> {
-    let frozen = frozen_after(rt.alloc(), RELEASED)?;
-    let other = [ACCEPTED_ASKS_LESS, FROZEN];
-    fits_these_alone(&rt, rt.alloc(), &frozen, &[RELEASED], &other)
-}
-
-#[test]
-fn the_book_of_slack_fits_until_it_is_decided(rt: HostRuntime) -> Result<(), Fail> {
-    let frozen = frozen_after(rt.alloc(), SLACK)?;
-    fits_these_alone(&rt, rt.alloc(), &frozen, &[SLACK], &[SLACK_DECIDED])
+fn which_books_fit(rt: HostRuntime) {
+    for (script, fitting, other) in CASES {
+        let frozen = frozen_after(&rt, rt.alloc(), script);
+        fits_all(&rt, rt.alloc(), &frozen, fitting, true);
+        fits_all(&rt, rt.alloc(), &frozen, other, false);
+    }
 }

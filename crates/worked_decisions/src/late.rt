@@ -5,7 +5,6 @@ use crate::equal::is_equal;
 use crate::playing::{frozen_after, played};
 use std::alloc::{AllocError, Global};
 use std::process::Abort;
-use std::test::Fail;
 use sysmem_alloc::{Book, Frozen};
 use sysmem_proof::check;
 use sysmem_search::{NoGate, prove, search};
@@ -39,14 +38,6 @@ fn is_taken(frozen: &Frozen, claim: &Claim) -> bool {
     check(platform, tree, domain, frozen.base(), claim).is_ok()
 }
 
-fn is_proved_empty(rt: &impl Abort, alloc: Global, frozen: &Frozen) -> Result<(), AllocError> {
-    let claim = proved(alloc, frozen)?;
-    let is_empty = matches!(claim.verdict, Verdict::IntersectionEmpty);
-    is_equal(rt, "empty", &is_empty, &true);
-    is_equal(rt, "checked", &is_taken(frozen, &claim), &true);
-    Ok(())
-}
-
 // The book has this verdict for the domain of the node at the path, by its ordinals.
 fn is_entered_empty(rt: &impl Abort, book: &Book, path: &[u32]) {
     let entered = match book.tree().node_at(path) {
@@ -58,14 +49,16 @@ fn is_entered_empty(rt: &impl Abort, book: &Book, path: &[u32]) {
 }
 
 #[test]
-fn the_released_still_count_for_who_waits(rt: HostRuntime) -> Result<(), Fail> {
-    let frozen = frozen_after(rt.alloc(), LATE)?;
-    Ok(is_proved_empty(&rt, rt.alloc(), &frozen)?)
+fn the_released_still_count_for_who_waits(rt: HostRuntime) {
+    let frozen = frozen_after(&rt, rt.alloc(), LATE);
+    let claim = proved(rt.alloc(), &frozen).expect(&rt, LATE);
+    let is_empty = matches!(claim.verdict, Verdict::IntersectionEmpty);
+    is_equal(&rt, "empty", &is_empty, &true);
+    is_equal(&rt, "checked", &is_taken(&frozen, &claim), &true);
 }
 
 #[test]
-fn who_waits_is_decided_so(rt: HostRuntime) -> Result<(), Fail> {
-    let book = played(rt.alloc(), LATE_DECIDED)?;
+fn who_waits_is_decided_so(rt: HostRuntime) {
+    let book = played(&rt, rt.alloc(), LATE_DECIDED);
     is_entered_empty(&rt, &book, &[1, 0]);
-    Ok(())
 }

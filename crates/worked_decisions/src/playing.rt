@@ -8,34 +8,23 @@ ghost use Rattle.sysmem_alloc.specs.State.{base_of, next_ready};
 
 use crate::steps::{action, platform};
 use std::alloc::Global;
+use std::process::Abort;
 use std::sync::Arc;
-use std::test::Fail;
 use sysmem_alloc::{Book, Frozen};
 use sysmem_search::{NoGate, search};
-use sysmem_tree::{DomainId, Event};
+use sysmem_tree::{DomainId, Event, NodeId};
 use verdict_claims::{Claim, Proof};
 
-fn read_ordinals(ordinals: &mut Vec<u32>, text: &str) -> Result<(), Fail> {
-    for part in text.split('/') {
-        if !part.is_empty() {
-            ordinals.push(part.parse::<u32>()?)?;
+// The node at a path, as `/0/12`, which has to be there.
+fn node_at(rt: &impl Abort, alloc: Global, book: &Book, path: &str) -> NodeId {
+    let mut ordinals = Vec::new(alloc);
+    for step in path.split('/') {
+        if !step.is_empty() {
+            let ordinal = step.parse::<u32>().expect(rt, path);
+            ordinals.push(ordinal).expect(rt, path);
         }
     }
-    Ok(())
-}
-
-// Does what the word says to the node at the path, as `/0/12`, which has to be accepted.
-fn act(alloc: Global, book: &mut Book, place: &str, word: &str) -> Result<(), Fail> {
-    let mut ordinals = Vec::new(alloc);
-    read_ordinals(&mut ordinals, place)?;
-    let Some(node) = book.tree().node_at(&ordinals) else {
-        return Err(Fail::new("no node at this path"));
-    };
-    let action = action(alloc, word)?;
-    match book.apply(Event { node, action }) {
-        Ok(_done) => Ok(()),
-        Err(_refusal) => Err(Fail::new("refused")),
-    }
+    book.tree().node_at(&ordinals).expect(rt, path)
 }
 
 // An optimal verdict of the domain that is to be decided next; `None` where memory is refused.
@@ -64,45 +53,40 @@ fn claim_for(alloc: Global, book: &Book, domain: DomainId) -> Option<Arc<Claim>>
 }
 
 // Decides the domain that is to be decided next.
-fn decide_next(alloc: Global, book: &mut Book) -> Result<(), Fail> {
+fn decide_next(rt: &impl Abort, alloc: Global, book: &mut Book) {
     let Some(domain) = book.next_ready() else {
-        return Err(Fail::new("no domain waits"));
+        panic!(rt; "no domain waits");
     };
     let claim = claim_for(alloc, book, domain);
     book.decide(domain, claim);
-    Ok(())
 }
 
 // Plays a script: a path that begins with `/`, and what is done to its node, a word each, each of
 // which has to be accepted. `decide` decides the domain that waits.
-fn play(alloc: Global, book: &mut Book, script: &str) -> Result<(), Fail> {
-    let mut place = "/";
+fn play(rt: &impl Abort, alloc: Global, book: &mut Book, script: &str) {
+    let mut node = book.tree().root();
     for word in script.split_whitespace() {
         if word.starts_with('/') {
-            place = word;
+            node = node_at(rt, alloc, book, word);
         } else if word == "decide" {
-            decide_next(alloc, book)?;
+            decide_next(rt, alloc, book);
         } else {
-            act(alloc, book, place, word)?;
+            let action = action(rt, alloc, word);
+            let _done = book.apply(Event { node, action }).expect(rt, word);
         }
     }
-    Ok(())
 }
 
 /// The book of a script.
-pub(crate) fn played(alloc: Global, script: &str) -> Result<Book, Fail> {
-    let mut book = Book::new(alloc, platform(alloc)?)?;
-    match play(alloc, &mut book, script) {
-        Ok(()) => Ok(book),
-        Err(fail) => Err(fail),
-    }
+pub(crate) fn played(rt: &impl Abort, alloc: Global, script: &str) -> Book {
+    let mut book = Book::new(alloc, platform(rt, alloc)).expect(rt, script);
+    play(rt, alloc, &mut book, script);
+    book
 }
 
 /// What is frozen at the end of a script, when a domain waits.
-pub(crate) fn frozen_after(alloc: Global, script: &str) -> Result<Frozen, Fail> {
-    let book = played(alloc, script)?;
-    match book.frozen() {
-        Ok(Some(frozen)) => Ok(frozen),
-        _ => Err(Fail::new("no domain waits, or no memory is left")),
-    }
+pub(crate) fn frozen_after(rt: &impl Abort, alloc: Global, script: &str) -> Frozen {
+    let book = played(rt, alloc, script);
+    let frozen = book.frozen().expect(rt, script);
+    frozen.expect(rt, script)
 }

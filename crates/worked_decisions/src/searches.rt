@@ -2,11 +2,10 @@
 //! The scripts of the same names in `tests/data/rows` have what proves the verdicts.
 
 use crate::equal::is_equal;
-use crate::finding::tell_search;
+use crate::finding::{search_frozen, tell_search};
 use crate::playing::frozen_after;
 use std::alloc::{AllocError, Global};
 use std::process::Abort;
-use std::test::Fail;
 use sysmem_alloc::Frozen;
 
 // Groups of two children each, below the root, without the second ones, and without the first ones
@@ -23,11 +22,11 @@ fn tell_groups(script: &mut String, many: u32) -> Result<(), AllocError> {
 }
 
 /// What is frozen after these groups and steps.
-pub(crate) fn frozen(alloc: Global, many: u32, then: &str) -> Result<Frozen, Fail> {
+pub(crate) fn frozen(rt: &impl Abort, alloc: Global, many: u32, then: &str) -> Frozen {
     let mut script = String::new(alloc);
-    tell_groups(&mut script, many)?;
-    script.push_str(then)?;
-    frozen_after(alloc, &script)
+    tell_groups(&mut script, many).expect(rt, then);
+    script.push_str(then).expect(rt, then);
+    frozen_after(rt, alloc, &script)
 }
 
 /// A name, how many groups of two there are, the steps, and what is found.
@@ -112,30 +111,18 @@ pub(crate) const ROWS: &[Row] = &[
     ),
 ];
 
-fn is_found(
-    rt: &impl Abort,
-    alloc: Global,
-    frozen: &Frozen,
-    name: &str,
-    wanted: &str,
-) -> Result<(), AllocError> {
-    let mut found = String::new(alloc);
-    tell_search(&mut found, alloc, frozen)?;
-    is_equal(rt, name, &found.as_str(), &wanted);
-    Ok(())
-}
-
-fn is_as_worked(rt: &impl Abort, alloc: Global, row: Row) -> Result<(), Fail> {
+fn is_as_worked(rt: &impl Abort, alloc: Global, row: Row) {
     let (name, many, then, wanted) = row;
-    let frozen = frozen(alloc, many, then)?;
-    is_found(rt, alloc, &frozen, name, wanted)?;
-    Ok(())
+    let frozen = frozen(rt, alloc, many, then);
+    let found = search_frozen(alloc, &frozen).expect(rt, name);
+    let mut text = String::new(alloc);
+    tell_search(&mut text, &found).expect(rt, name);
+    is_equal(rt, name, &text.as_str(), &wanted);
 }
 
 #[test]
-fn what_is_found(rt: HostRuntime) -> Result<(), Fail> {
+fn what_is_found(rt: HostRuntime) {
     for row in ROWS {
-        is_as_worked(&rt, rt.alloc(), *row)?;
+        is_as_worked(&rt, rt.alloc(), *row);
     }
-    Ok(())
 }

@@ -6,28 +6,15 @@ use crate::finding::search_frozen;
 use crate::playing::frozen_after;
 use std::alloc::{AllocError, Global};
 use std::process::Abort;
-use std::test::Fail;
-use sysmem_alloc::Frozen;
 use verdict_claims::Verdict;
 
-// A group: the path of the node below which it stands, its own path, and how many children it has.
-type Group = (&'static str, &'static str, u8);
-
-// Groups in the order of their choices: those of a child before the next one of the node above it.
-const SHAPES: [&[Group]; 4] = [
-    &[("/", "/0", 2), ("/", "/1", 3)],
-    &[("/", "/0", 2), ("/0/0", "/0/0/0", 2), ("/", "/1", 2)],
-    &[
-        ("/", "/0", 3),
-        ("/0/1", "/0/1/0", 2),
-        ("/0/1/0/1", "/0/1/0/1/0", 2),
-    ],
-    &[
-        ("/", "/0", 1),
-        ("/0/0", "/0/0/0", 2),
-        ("/0/0", "/0/0/1", 2),
-        ("/", "/1", 2),
-    ],
+// Scripts, in which a number stands for what the participant of that number asks. Groups stand in
+// the order of their choices: those of a child before the next one of the node above it.
+const SHAPES: [&str; 4] = [
+    "/ create_group /0 create_child create_child all_children_present / create_group /1 create_child create_child create_child all_children_present /0/0 bind 1 /0/1 bind 2 /1/0 bind 5 /1/1 bind 6 /1/2 bind 7 / bind 0",
+    "/ create_group /0 create_child create_child all_children_present /0/0 create_group /0/0/0 create_child create_child all_children_present / create_group /1 create_child create_child all_children_present /0/0 bind 1 /0/1 bind 2 /0/0/0/0 bind 5 /0/0/0/1 bind 6 /1/0 bind 9 /1/1 bind 10 / bind 0",
+    "/ create_group /0 create_child create_child create_child all_children_present /0/1 create_group /0/1/0 create_child create_child all_children_present /0/1/0/1 create_group /0/1/0/1/0 create_child create_child all_children_present /0/0 bind 1 /0/1 bind 2 /0/2 bind 3 /0/1/0/0 bind 5 /0/1/0/1 bind 6 /0/1/0/1/0/0 bind 9 /0/1/0/1/0/1 bind 10 / bind 0",
+    "/ create_group /0 create_child all_children_present /0/0 create_group /0/0/0 create_child create_child all_children_present /0/0 create_group /0/0/1 create_child create_child all_children_present / create_group /1 create_child create_child all_children_present /0/0 bind 1 /0/0/0/0 bind 5 /0/0/0/1 bind 6 /0/0/1/0 bind 9 /0/0/1/1 bind 10 /1/0 bind 13 /1/1 bind 14 / bind 0",
 ];
 
 // What participants ask: images, with and without names, and counts that can't all be shared.
@@ -50,82 +37,51 @@ fn asked(tree: usize, participant: usize) -> &'static str {
     WORDS[first.wrapping_add(second).wrapping_add(participant) % 7]
 }
 
-fn tell_group(script: &mut String, (below, at, children): Group) -> Result<(), AllocError> {
-    write!(script, "{below} create_group {at}")?;
-    for _child in 0..children {
-        script.push_str(" create_child")?;
-    }
-    script.push_str(" all_children_present ")
-}
-
-// Each child of the group of this index asks something; the root has the number 0 among all
-// participants.
-fn tell_asked(
-    script: &mut String,
-    index: usize,
-    group: Group,
-    tree: usize,
-) -> Result<(), AllocError> {
-    let (_, at, children) = group;
-    for child in 0..children {
-        let number = index.wrapping_mul(4).wrapping_add(child as usize);
-        let word = asked(tree, number.wrapping_add(1));
-        write!(script, "{at}/{child} bind {word} ")?;
+// The script of this shape for the tree of this number.
+fn tell_tree(script: &mut String, shape: &str, tree: usize) -> Result<(), AllocError> {
+    for word in shape.split_whitespace() {
+        let told = match word.parse::<usize>() {
+            Ok(participant) => asked(tree, participant),
+            Err(_) => word,
+        };
+        script.push_str(told)?;
+        script.push(' ')?;
     }
     Ok(())
 }
 
-// The script of the tree of this number with these groups, ready for its decision.
-fn tell_tree(script: &mut String, shape: &[Group], tree: usize) -> Result<(), AllocError> {
-    for group in shape {
-        tell_group(script, *group)?;
-    }
-    for (index, group) in shape.iter().enumerate() {
-        tell_asked(script, index, *group, tree)?;
-    }
-    write!(script, "/ bind {}", asked(tree, 0))
-}
-
-// What of one search was visited: the visits of which its gate was told, its visits, and whether it
-// chose.
-type VisitTally = (u64, u64, bool);
-
-fn visited(alloc: Global, frozen: &Frozen) -> Result<VisitTally, AllocError> {
-    let found = search_frozen(alloc, frozen)?;
-    let is_chosen = matches!(found.verdict, Verdict::Chosen(_));
-    Ok((found.told, found.visits, is_chosen))
-}
-
-fn visited_in(alloc: Global, shape: &[Group], tree: usize) -> Result<VisitTally, Fail> {
+// Whether the tree of this number has a choice, as a number, and its visits; the gate of the search
+// is told of each.
+fn visited(rt: &impl Abort, alloc: Global, shape: &str, tree: usize) -> (u64, u64) {
     let mut script = String::new(alloc);
-    tell_tree(&mut script, shape, tree)?;
-    let frozen = frozen_after(alloc, &script)?;
-    Ok(visited(alloc, &frozen)?)
+    tell_tree(&mut script, shape, tree).expect(rt, shape);
+    let frozen = frozen_after(rt, alloc, &script);
+    let found = search_frozen(alloc, &frozen).expect(rt, shape);
+    is_equal(rt, "told of", &found.told, &found.visits);
+    let is_chosen = matches!(found.verdict, Verdict::Chosen(_));
+    (is_chosen as u64, found.visits)
 }
 
-// How many of the 49 trees of a shape have a choice, and the visits of all; the gate of each search
-// is told of each visit.
-fn tally(rt: &impl Abort, alloc: Global, shape: &[Group]) -> Result<(u64, u64), Fail> {
+// How many of the 49 trees of a shape have a choice, and the visits of all.
+fn tally(rt: &impl Abort, alloc: Global, shape: &str) -> (u64, u64) {
     let (mut chosen, mut visits) = (0u64, 0u64);
     for tree in 0..49 {
-        let (told, more, is_chosen) = visited_in(alloc, shape, tree)?;
-        is_equal(rt, "told of", &told, &more);
-        chosen = chosen.wrapping_add(is_chosen as u64);
+        let (choices, more) = visited(rt, alloc, shape, tree);
+        chosen = chosen.wrapping_add(choices);
         visits = visits.wrapping_add(more);
     }
-    Ok((chosen, visits))
+    (chosen, visits)
 }
 
 // Each shape with 49 trees; how many are chosen and visited was counted by a program of other
 // hands.
 #[test]
-fn visits_of_small_trees(rt: HostRuntime) -> Result<(), Fail> {
+fn visits_of_small_trees(rt: HostRuntime) {
     let (mut chosen, mut visits) = (0u64, 0u64);
     for shape in SHAPES {
-        let (more_chosen, more_visits) = tally(&rt, rt.alloc(), shape)?;
-        chosen = chosen.wrapping_add(more_chosen);
-        visits = visits.wrapping_add(more_visits);
+        let (choices, more) = tally(&rt, rt.alloc(), shape);
+        chosen = chosen.wrapping_add(choices);
+        visits = visits.wrapping_add(more);
     }
     is_equal(&rt, "chosen, visits", &(chosen, visits), &(170, 857));
-    Ok(())
 }

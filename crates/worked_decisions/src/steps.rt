@@ -4,8 +4,8 @@ use negotiation_inputs::{Constraints, Platform};
 use record_reading::read_platform;
 use serde_json::Value;
 use std::alloc::Global;
+use std::process::Abort;
 use std::sync::Arc;
-use std::test::Fail;
 use sysmem_sanitise::read_constraints;
 use sysmem_tree::{Action, ActionKind};
 
@@ -79,19 +79,19 @@ const ASKED: &[(&str, &str)] = &[
     ),
 ];
 
-fn platform_of(alloc: Global, text: &str) -> Result<Platform, Fail> {
-    let record = Value::from_str(alloc, text)?;
-    Ok(read_platform(alloc, &record)?)
+fn platform_of(rt: &impl Abort, alloc: Global, text: &str) -> Platform {
+    let record = Value::from_str(alloc, text).expect(rt, text);
+    read_platform(alloc, &record).expect(rt, text)
 }
 
 /// The platform of all scripts: three heaps, five pairs, two colour spaces.
-pub(crate) fn platform(alloc: Global) -> Result<Platform, Fail> {
-    platform_of(alloc, PLATFORM)
+pub(crate) fn platform(rt: &impl Abort, alloc: Global) -> Platform {
+    platform_of(rt, alloc, PLATFORM)
 }
 
 /// A platform of many offers, for which a search is long.
-pub(crate) fn large_platform(alloc: Global) -> Result<Platform, Fail> {
-    platform_of(alloc, MANY_OFFERS)
+pub(crate) fn large_platform(rt: &impl Abort, alloc: Global) -> Platform {
+    platform_of(rt, alloc, MANY_OFFERS)
 }
 
 fn record_for(word: &str) -> Option<&'static str> {
@@ -103,23 +103,18 @@ fn record_for(word: &str) -> Option<&'static str> {
     None
 }
 
-fn read(alloc: Global, text: &str) -> Result<Constraints, Fail> {
-    let record = Value::from_str(alloc, text)?;
-    Ok(read_constraints(alloc, &record)?)
-}
-
 /// The constraints for which the word stands.
-pub(crate) fn asked(alloc: Global, word: &str) -> Result<Arc<Constraints>, Fail> {
-    let Some(text) = record_for(word) else {
-        return Err(Fail::new("no such word"));
-    };
-    Ok(Arc::new(alloc, read(alloc, text)?)?)
+pub(crate) fn asked(rt: &impl Abort, alloc: Global, word: &str) -> Arc<Constraints> {
+    let text = record_for(word).expect(rt, word);
+    let record = Value::from_str(alloc, text).expect(rt, word);
+    let constraints = read_constraints(alloc, &record).expect(rt, word);
+    Arc::new(alloc, constraints).expect(rt, word)
 }
 
 /// What a word does to a node; one that names no action names the constraints that are set.
-pub(crate) fn action(alloc: Global, word: &str) -> Result<Action, Fail> {
+pub(crate) fn action(rt: &impl Abort, alloc: Global, word: &str) -> Action {
     match ActionKind::from_name(word) {
-        Some(kind) if kind != ActionKind::SetConstraints => Ok(Action::plain(kind)),
-        _ => Ok(Action::SetConstraints(Some(asked(alloc, word)?))),
+        Some(kind) if kind != ActionKind::SetConstraints => Action::plain(kind),
+        _ => Action::SetConstraints(Some(asked(rt, alloc, word))),
     }
 }

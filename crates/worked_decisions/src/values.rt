@@ -5,8 +5,8 @@ use crate::equal::is_equal;
 use crate::steps::{asked, platform};
 use negotiation_inputs::{Constraints, Platform};
 use record_reading::{Code, Fault, FaultPlace};
-use std::alloc::{AllocError, Global};
-use std::test::Fail;
+use std::alloc::Global;
+use std::process::Abort;
 use sysmem_counts::Field;
 use sysmem_formats::{ColourSpace, Modifier, Offer, Pair, PixelFormat};
 use sysmem_image::{Corner, ImageBounds, corner};
@@ -14,14 +14,13 @@ use sysmem_memory::{CoherencyDomains, Heap, HeapInfo};
 use sysmem_merge::{Aggregate, Reason};
 
 #[test]
-fn want_of_memory(rt: HostRuntime) -> Result<(), Fail> {
+fn want_of_memory(rt: HostRuntime) {
     let fault = Fault {
         code: Code::WantOfMemory,
         at: FaultPlace::At(Field::Heaps),
     };
-    let text = fault.to_string(rt.alloc())?;
+    let text = fault.to_string(rt.alloc()).expect(&rt, "memory");
     is_equal(&rt, "fault", &text.as_str(), &"S13 heaps");
-    Ok(())
 }
 
 /// What stands for the smallest image where there is none.
@@ -40,68 +39,73 @@ fn no_image(rt: HostRuntime) {
 // Whether a copy of what is kept of one participant answers as its source; and then, with another
 // added to the source, whether that has no offer, and the copy answers as before.
 fn copies(
+    rt: &impl Abort,
     alloc: Global,
     platform: &Platform,
     first: &Constraints,
     second: &Constraints,
-) -> Result<[bool; 3], AllocError> {
-    let mut source = Aggregate::new(alloc, platform)?;
-    source.add(first)?;
-    let copy = source.copy()?;
+) -> [bool; 3] {
+    let mut source = Aggregate::new(alloc, platform).expect(rt, "new");
+    source.add(first).expect(rt, "add");
+    let copy = source.copy().expect(rt, "copy");
     let before = source.best_settings(true);
     let is_same = before.is_ok() && copy.best_settings(true) == before;
-    source.add(second)?;
+    source.add(second).expect(rt, "add");
     let is_empty = source.best_settings(true) == Err(Reason::NoOffer);
-    Ok([is_same, is_empty, copy.best_settings(true) == before])
+    [is_same, is_empty, copy.best_settings(true) == before]
 }
 
 #[test]
-fn a_copy_of_an_aggregate(rt: HostRuntime) -> Result<(), Fail> {
-    let platform = platform(rt.alloc())?;
-    let nv12 = asked(rt.alloc(), "nv12")?;
-    let r8 = asked(rt.alloc(), "r8")?;
-    let found = copies(rt.alloc(), &platform, &nv12, &r8)?;
+fn a_copy_of_an_aggregate(rt: HostRuntime) {
+    let platform = platform(&rt, rt.alloc());
+    let nv12 = asked(&rt, rt.alloc(), "nv12");
+    let r8 = asked(&rt, rt.alloc(), "r8");
+    let found = copies(&rt, rt.alloc(), &platform, &nv12, &r8);
     is_equal(&rt, "copy", &found, &[true; 3]);
-    Ok(())
 }
 
-// Heaps of a type and of these ids.
-fn heaps(alloc: Global, heap_type: &str, ids: &[u64]) -> Result<Vec<HeapInfo>, AllocError> {
+// A heap of a type and of this id.
+fn heap(rt: &impl Abort, alloc: Global, heap_type: &str, id: u64) -> HeapInfo {
     let mut domains = CoherencyDomains::NONE;
     domains.cpu = true;
-    let mut heaps = Vec::new(alloc);
-    for id in ids {
-        let heap = Heap {
-            heap_type: String::from_str(alloc, heap_type)?,
-            id: *id,
-        };
-        heaps.push(HeapInfo {
-            heap,
-            contiguous: false,
-            secure: false,
-            domains,
-        })?;
+    let heap_type = String::from_str(alloc, heap_type).expect(rt, heap_type);
+    HeapInfo {
+        heap: Heap { heap_type, id },
+        contiguous: false,
+        secure: false,
+        domains,
     }
-    Ok(heaps)
 }
 
-// What is amiss with a platform that has these heaps, and a pair and a colour space.
-fn amiss(alloc: Global, heap_type: &str, ids: &[u64]) -> Result<Option<Field>, AllocError> {
+// What is amiss with a platform that has heaps of this type and of these ids, and a pair and a
+// colour space.
+fn amiss(rt: &impl Abort, alloc: Global, heap_type: &str, ids: &[u64]) -> Option<Field> {
+    let mut heaps = Vec::new(alloc);
+    for id in ids {
+        heaps
+            .push(heap(rt, alloc, heap_type, *id))
+            .expect(rt, heap_type);
+    }
     let pair = Pair {
         format: PixelFormat::R8,
         modifier: Modifier::Linear,
     };
-    let pairs = Vec::from_slice(alloc, &[pair])?;
-    let colours = Vec::from_slice(alloc, &[ColourSpace::Srgb])?;
-    Ok(Platform::of(heaps(alloc, heap_type, ids)?, pairs, colours).err())
+    let pairs = Vec::from_slice(alloc, &[pair]).expect(rt, heap_type);
+    let colours = Vec::from_slice(alloc, &[ColourSpace::Srgb]).expect(rt, heap_type);
+    Platform::of(heaps, pairs, colours).err()
 }
 
+// The type of a platform's heaps, their ids, and what is amiss with it.
+const HEAPS: [(&str, &[u64], Option<Field>); 3] = [
+    ("a", &[1, 2, 1], Some(Field::Heaps)),
+    ("a b", &[1], Some(Field::HeapType)),
+    ("a", &[1, 2], None),
+];
+
 #[test]
-fn heaps_that_make_no_platform(rt: HostRuntime) -> Result<(), Fail> {
-    let twice = amiss(rt.alloc(), "a", &[1, 2, 1])?;
-    is_equal(&rt, "twice", &twice, &Some(Field::Heaps));
-    let unnamed = amiss(rt.alloc(), "a b", &[1])?;
-    is_equal(&rt, "unnamed", &unnamed, &Some(Field::HeapType));
-    is_equal(&rt, "two", &amiss(rt.alloc(), "a", &[1, 2])?, &None);
-    Ok(())
+fn heaps_that_make_no_platform(rt: HostRuntime) {
+    for (heap_type, ids, wanted) in HEAPS {
+        let found = amiss(&rt, rt.alloc(), heap_type, ids);
+        is_equal(&rt, heap_type, &found, &wanted);
+    }
 }

@@ -7,10 +7,9 @@ use crate::equal::is_equal;
 use crate::finding::search_frozen;
 use crate::gate::{Meeting, fresh};
 use crate::searches::{ROWS, Row, frozen};
-use std::alloc::{AllocError, Global};
+use std::alloc::Global;
 use std::process::Abort;
 use std::sync::atomic::Ordering;
-use std::test::Fail;
 use std::thread::Threads;
 use std::time::Clock;
 use sysmem_alloc::Frozen;
@@ -25,7 +24,7 @@ fn find_alike<R: Threads + Abort + Sync, G: Gate + Sync>(
     gate: &G,
     workers: u32,
     wanted: &Verdict,
-) -> Result<(), AllocError>
+)
     requires some { 1 ≤ workers }
     requires few { workers ≤ MOST_WORKERS }
 {
@@ -33,46 +32,31 @@ fn find_alike<R: Threads + Abort + Sync, G: Gate + Sync>(
     let tree = frozen.tree();
     let domain = frozen.domain();
     let base = frozen.base();
-    let found = search_wide(rt, alloc, platform, tree, domain, base, gate, workers)?;
-    is_equal(rt, "alike", &found.verdict.is_same(wanted), &true);
-    Ok(())
+    let found = search_wide(rt, alloc, platform, tree, domain, base, gate, workers);
+    let verdict = found.expect(rt, "search_wide").verdict;
+    is_equal(rt, "alike", &verdict.is_same(wanted), &true);
 }
 
 // One worker, two and the most find what one search does.
-fn all_find<R: Threads + Abort + Sync>(
-    rt: &R,
-    alloc: Global,
-    frozen: &Frozen,
-) -> Result<(), AllocError> {
-    let alone = search_frozen(alloc, frozen)?;
-    for workers in [1, 2, MOST_WORKERS as u32] {
-        find_alike(rt, alloc, frozen, &NoGate, workers, &alone.verdict)?;
-    }
-    Ok(())
-}
-
-fn all_find_in<R: Threads + Abort + Sync>(rt: &R, alloc: Global, row: Row) -> Result<(), Fail> {
+fn all_find<R: Threads + Abort + Sync>(rt: &R, alloc: Global, row: Row) {
     let (_name, many, then, _wanted) = row;
-    let frozen = frozen(alloc, many, then)?;
-    Ok(all_find(rt, alloc, &frozen)?)
+    let frozen = frozen(rt, alloc, many, then);
+    let alone = search_frozen(alloc, &frozen).expect(rt, "search");
+    for workers in [1, 2, MOST_WORKERS as u32] {
+        find_alike(rt, alloc, &frozen, &NoGate, workers, &alone.verdict);
+    }
 }
 
 #[test]
-fn workers_find_what_one_finds(rt: HostRuntime) -> Result<(), Fail> {
+fn workers_find_what_one_finds(rt: HostRuntime) {
     for row in ROWS {
-        all_find_in(&rt, rt.alloc(), *row)?;
+        all_find(&rt, rt.alloc(), *row);
     }
-    Ok(())
 }
 
 // As many workers as a group has children, each of which settings meet, are in their visits of one
 // choice at the same time.
-fn all_meet<R: Threads + Abort + Clock + Sync>(
-    rt: &R,
-    alloc: Global,
-    frozen: &Frozen,
-    workers: u32,
-) -> Result<(), AllocError>
+fn all_meet<R: Threads + Abort + Clock + Sync>(rt: &R, alloc: Global, then: &str, workers: u32)
     requires some { 1 ≤ workers }
     requires few { workers ≤ MOST_WORKERS }
 {
@@ -83,40 +67,25 @@ fn all_meet<R: Threads + Abort + Clock + Sync>(
         held: &held,
         wanted,
     };
-    let alone = search_frozen(alloc, frozen)?;
-    find_alike(rt, alloc, frozen, &gate, workers, &alone.verdict)?;
+    let frozen = frozen(rt, alloc, 0, then);
+    let alone = search_frozen(alloc, &frozen).expect(rt, "search");
+    find_alike(rt, alloc, &frozen, &gate, workers, &alone.verdict);
     is_equal(rt, "in vain", &held.in_vain.load(Ordering::SeqCst), &0);
     is_equal(rt, "entered", &held.entered.load(Ordering::SeqCst), &wanted);
-    Ok(())
-}
-
-// What is frozen is kept by one function for each group: a test that kept both would be proved to
-// free both at each `?`.
-fn meet<R: Threads + Abort + Clock + Sync>(
-    rt: &R,
-    alloc: Global,
-    then: &str,
-    workers: u32,
-) -> Result<(), Fail>
-    requires some { 1 ≤ workers }
-    requires few { workers ≤ MOST_WORKERS }
-{
-    let frozen = frozen(alloc, 0, then)?;
-    Ok(all_meet(rt, alloc, &frozen, workers)?)
 }
 
 #[test]
-fn workers_search_at_the_same_time(rt: HostRuntime) -> Result<(), Fail> {
-    meet(
+fn workers_search_at_the_same_time(rt: HostRuntime) {
+    all_meet(
         &rt,
         rt.alloc(),
         "/ create_group release /0 create_child create_child all_children_present /0/0 bind cpu /0/1 bind cpu",
         2,
-    )?;
-    meet(
+    );
+    all_meet(
         &rt,
         rt.alloc(),
         "/ create_group release /0 create_child create_child create_child create_child all_children_present /0/0 bind cpu /0/1 bind cpu /0/2 bind cpu /0/3 bind cpu",
         4,
-    )
+    );
 }

@@ -83,10 +83,12 @@ fn try_children(
 ) -> Result<(), AllocError> {
     let story = wish.group.story;
     for child in &story.children(found.items.alloc(), above)? {
-        if story.is_selected(*child) || found.is_done(wish.group.scenario.effort) {
+        if story.is_selected(*child) {
             break;
         }
-        try_child(found, wish, scope, edits, above, *child)?;
+        if !found.leaves(wish.group.scenario.effort) {
+            try_child(found, wish, scope, edits, above, *child)?;
+        }
     }
     Ok(())
 }

@@ -9,7 +9,7 @@ use std::alloc::AllocError;
 use sysmem_formats::{ColourSpace, Offer, Pair};
 use value_sources::NamedParticipant;
 
-/// Tries the colour spaces before the chosen one on the platform, until one helps.
+/// Tries the colour spaces before the chosen one on the platform.
 pub(crate) fn try_colours(
     found: &mut Found,
     wish: Wish<'_, '_>,
@@ -24,10 +24,8 @@ pub(crate) fn try_colours(
     else {
         return Ok(());
     };
-    let before = found.count;
     for colour in wish.group.scenario.platform.colours() {
-        let is_done = found.is_done(wish.group.scenario.effort);
-        if *colour == chosen || found.count > before || is_done {
+        if *colour == chosen {
             break;
         }
         try_colour(found, wish, selected, pair, *colour)?;
@@ -50,6 +48,9 @@ fn try_colour(
     let Some(participant) = only_lacking(selected, pair, colour) else {
         return Ok(());
     };
+    if found.leaves(wish.group.scenario.effort) {
+        return Ok(());
+    }
     let goal = Goal::Colour(colour);
     let edit = Edit::TakesColour(colour);
     let mut told: Vec<usize> = Vec::new(found.items.alloc());

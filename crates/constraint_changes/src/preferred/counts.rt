@@ -1,17 +1,11 @@
 //! Counts of buffers that leave an attached domain room for an earlier child.
 
-ghost use Rattle.std.specs.Prelude.{map};
-ghost use Rattle.serde_json.specs.View.{view};
-ghost use Rattle.script_reading.specs.Seen.{call_seen};
-ghost use Rattle.constraint_changes.specs.Edited.{IsTried};
-
-use crate::preferred::telling::{Found, put_wanted, trial_of, tried};
+use crate::preferred::telling::{Found, put_of, trial_of, tried};
 use crate::preferred::wish::Wish;
 use crate::trials::{MOST_HALVINGS, Trial, TrialResult, reached_by};
 use constraint_edits::{Edit, EditedConstraints, Halving, changes, edited};
 use serde_json::Value;
 use std::alloc::{AllocError, Global};
-use std::slice::from_ref;
 use value_sources::NamedParticipant;
 
 /// Tries to change each count of each of some participants.
@@ -68,10 +62,10 @@ fn try_one(
         return Ok(());
     };
     let Some(least) = least_of(alloc, found, wish, trial, value, edit, &one)? else {
-        return tell(found, wish, trial, participant, one);
+        return put_of(found, wish, trial, participant, one);
     };
     match tried(alloc, found, wish, trial, least)? {
-        Some(best) => tell(found, wish, trial, participant, best),
+        Some(best) => put_of(found, wish, trial, participant, best),
         None => Ok(()),
     }
 }
@@ -109,23 +103,4 @@ fn least_of(
         Some(amount) => Ok(Some(halving.changed(alloc, value, amount)?)),
         None => Ok(None),
     }
-}
-
-/// Tells a change of a participant by which comes what is wanted.
-fn tell(
-    found: &mut Found,
-    wish: Wish<'_, '_>,
-    trial: Trial<'_, '_>,
-    participant: &NamedParticipant<'_>,
-    one: TrialResult,
-) -> Result<(), AllocError>
-    requires { IsTried trial.scenario.now.platform.now
-        (map call_seen trial.scenario.now.calls.now) trial.place (view one.value)
-        trial.path.now one.outcome }
-{
-    let alloc = found.items.alloc();
-    let who = wish
-        .group
-        .who_changes(alloc, participant, one.change.edit, &one.value)?;
-    put_wanted(found, wish, trial, from_ref(&who), one)
 }

@@ -9,17 +9,43 @@ use std::alloc::AllocError;
 use sysmem_memory::{CoherencyDomain, HeapInfo, Place};
 use value_sources::NamedParticipant;
 
-/// Tries to permit the first heap alone that stands behind the chosen one, has a place that nobody
-/// refuses, and isn't contiguous or secure where the chosen one isn't; until one of those does it
-/// who permit others too.
-pub(crate) fn try_later_heap(
+/// Tries to permit each heap alone that stands behind the chosen one, has a place that nobody
+/// refuses, and isn't contiguous or secure where the chosen one isn't.
+pub(crate) fn try_later_heaps(
     found: &mut Found,
     wish: Wish<'_, '_>,
     selected: &[NamedParticipant<'_>],
 ) -> Result<(), AllocError> {
-    let Some(place) = later_place(wish, selected) else {
+    let heaps = wish.group.scenario.platform.heaps();
+    let Some(settled) = settled_by(wish.now) else {
         return Ok(());
     };
+    let chosen = settled.place.heap;
+    let Some(now) = heaps.get(chosen) else {
+        return Ok(());
+    };
+    for (heap, info) in heaps.iter().enumerate() {
+        let is_plain = (now.secure || !info.secure) && (now.contiguous || !info.contiguous);
+        if heap <= chosen || !is_plain {
+            continue;
+        }
+        if let Some(coherency) = first_open(info, selected) {
+            try_heap(found, wish, selected, Place { heap, coherency })?;
+        }
+    }
+    Ok(())
+}
+
+/// Tries to permit a place's heap alone, until one of those does it who permit others too.
+fn try_heap(
+    found: &mut Found,
+    wish: Wish<'_, '_>,
+    selected: &[NamedParticipant<'_>],
+    place: Place,
+) -> Result<(), AllocError> {
+    if found.leaves(wish.group.scenario.effort) {
+        return Ok(());
+    }
     let goal = Goal::Place(place);
     let edit = Edit::PermitsAlone(place.heap);
     let before = found.count;
@@ -39,23 +65,6 @@ pub(crate) fn try_later_heap(
         )?;
     }
     Ok(())
-}
-
-/// The first place of that heap that nobody refuses.
-fn later_place(wish: Wish<'_, '_>, selected: &[NamedParticipant<'_>]) -> Option<Place> {
-    let heaps = wish.group.scenario.platform.heaps();
-    let chosen = settled_by(wish.now)?.place.heap;
-    let now = heaps.get(chosen)?;
-    for (heap, info) in heaps.iter().enumerate() {
-        let is_plain = (now.secure || !info.secure) && (now.contiguous || !info.contiguous);
-        if heap > chosen
-            && is_plain
-            && let Some(coherency) = first_open(info, selected)
-        {
-            return Some(Place { heap, coherency });
-        }
-    }
-    None
 }
 
 /// The first coherency domain of a heap that none of some participants refuses.

@@ -20,7 +20,7 @@ pub(crate) fn try_kinds(
     selected: &[NamedParticipant<'_>],
 ) -> Result<(), AllocError> {
     for field in &KINDS {
-        if would_do(wish, selected, *field) {
+        if would_do(wish, selected, *field) && !found.leaves(wish.group.scenario.effort) {
             let goal = Goal::Kind(*field);
             try_flag(found, Wish { goal, ..wish }, selected, *field)?;
         }

@@ -13,7 +13,7 @@ use sysmem_memory::{Heap, HeapInfo};
 use value_sources::NamedParticipant;
 
 /// How many pairs are tried.
-const PAIRS: usize = 3;
+const PAIRS: usize = 8;
 
 /// Tries the pairs before the chosen one on the platform that all take who have entries, or all but
 /// one.
@@ -25,13 +25,18 @@ pub(crate) fn try_pairs(
 ) -> Result<(), AllocError> {
     let mut left = PAIRS;
     for pair in wish.group.scenario.platform.pairs() {
-        if is_chosen(wish.now, *pair) || left == 0 || found.is_done(wish.group.scenario.effort) {
+        if is_chosen(wish.now, *pair) {
             break;
         }
-        if lacking_pair(selected, *pair) < 2 {
-            left = left.saturating_sub(1);
-            try_pair(found, wish, selected, edits, *pair)?;
+        if lacking_pair(selected, *pair) > 1 || found.leaves(wish.group.scenario.effort) {
+            continue;
         }
+        if left == 0 {
+            found.untried = found.untried.saturating_add(1);
+            continue;
+        }
+        left = left.saturating_sub(1);
+        try_pair(found, wish, selected, edits, *pair)?;
     }
     Ok(())
 }

@@ -1,12 +1,12 @@
 //! Participants who are asked together and leave no settings, where each change of one is tried.
 
 use crate::preferred::counts::try_counts;
-use crate::preferred::telling::{Found, put_wanted, trial_of, tried};
+use crate::preferred::telling::{Found, put_of, trial_of, tried};
 use crate::preferred::wish::{Goal, Wish};
 use crate::trials::{
-    Group, Party, RestatedConstraints, change_leaves_none, hindering, is_worth, leaves_none,
+    Group, Party, RestatedConstraints, Trial, change_leaves_none, hindering, is_worth, leaves_none,
 };
-use constraint_edits::{Change, Edit, EditedConstraints, changes, edited};
+use constraint_edits::{Amount, Change, Edit, EditedConstraints, changes, edited, slips_of};
 use std::alloc::{AllocError, Global};
 use std::slice::from_ref;
 use value_sources::NamedParticipant;
@@ -90,10 +90,37 @@ fn try_one(
     if !wish.is_met(&least.outcome) {
         return Ok(());
     }
-    let who = wish
-        .group
-        .who_changes(alloc, participant, edit, &least.value)?;
-    put_wanted(found, wish, trial, from_ref(&who), least)
+    try_slips(found, wish, trial, participant, edit, least.change.amount)?;
+    put_of(found, wish, trial, participant, least)
+}
+
+/// Tries the values that may be meant in the place of the one of the field that an edit leaves out,
+/// where this one suffices, until what is wanted comes by one, and tells that.
+fn try_slips(
+    found: &mut Found,
+    wish: Wish<'_, '_>,
+    trial: Trial<'_, '_>,
+    participant: &NamedParticipant<'_>,
+    edit: Edit,
+    enough: Option<Amount>,
+) -> Result<(), AllocError> {
+    let alloc = found.items.alloc();
+    let Some(value) = participant.stated else {
+        return Ok(());
+    };
+    let before = found.count;
+    for slip in &slips_of(alloc, value, edit, enough)? {
+        if found.count > before || found.is_done(wish.group.scenario.effort) {
+            break;
+        }
+        let Some(made) = slip.changed(alloc, value, edit)? else {
+            continue;
+        };
+        if let Some(one) = tried(alloc, found, wish, trial, made)? {
+            put_of(found, wish, trial, participant, one)?;
+        }
+    }
+    Ok(())
 }
 
 /// Whether a party is known to leave no settings after a change of one of them.

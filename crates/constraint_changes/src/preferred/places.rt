@@ -52,7 +52,7 @@ fn try_heap(
             heap,
             coherency: *coherency,
         };
-        if place == chosen || found.is_done(wish.group.scenario.effort) {
+        if place == chosen {
             break;
         }
         if info.domains.has(*coherency) {
@@ -78,6 +78,9 @@ fn try_place(
     let Some(edit) = edit_for(alloc, wish.group, participant, field, place.heap)? else {
         return Ok(());
     };
+    if found.leaves(wish.group.scenario.effort) {
+        return Ok(());
+    }
     let goal = Goal::Place(place);
     let mut told: Vec<usize> = Vec::new(alloc);
     try_alike(
@@ -105,6 +108,9 @@ pub(crate) fn try_other_domain(
     let Some(place) = first_in_another(heaps, selected, chosen) else {
         return Ok(());
     };
+    if found.leaves(wish.group.scenario.effort) {
+        return Ok(());
+    }
     let edit = Edit::NoSupport(supported_by(chosen));
     let goal = Goal::Place(place);
     let wish = Wish { goal, ..wish };

@@ -15,13 +15,14 @@ use domain_reasons::choices_in;
 use explanation_text::{Items, Label, Text};
 use script_story::{Effort, Milestone, Outcome};
 use std::alloc::{AllocError, Global};
+use std::slice::from_ref;
 use value_sources::NamedParticipant;
 
 /// How many changes are told.
-const MOST: usize = 3;
+const MOST: usize = 5;
 
 /// How many are run.
-const RUNS: usize = 12;
+const RUNS: usize = 32;
 
 /// A change that was told.
 #[derive(Drop)]
@@ -52,6 +53,8 @@ pub(crate) struct Found {
     pub(crate) made: Vec<MadeChange>,
     pub(crate) count: usize,
     pub(crate) runs: usize,
+    /// How many children, images and places weren't tried, since enough was.
+    pub(crate) untried: usize,
 }
 
 impl Found {
@@ -63,12 +66,20 @@ impl Found {
             made: Vec::new(alloc),
             count: 0,
             runs: 0,
+            untried: 0,
         }
     }
 
     /// Whether enough were found or run.
     pub(crate) fn is_done(&self, effort: &Effort) -> bool {
         self.count >= MOST || self.runs >= RUNS || effort.is_spent()
+    }
+
+    /// The same, where one more child, image or place would be tried; it is counted.
+    pub(crate) fn leaves(&mut self, effort: &Effort) -> bool {
+        let is_done = self.is_done(effort);
+        self.untried = self.untried.saturating_add(usize::from(is_done));
+        is_done
     }
 
     /// The label of one more.
@@ -112,6 +123,25 @@ pub(crate) fn tried(
         Some(outcome) if wish.is_met(&outcome) => Ok(Some(TrialResult::of(change, outcome))),
         _ => Ok(None),
     }
+}
+
+/// Tells a change of a participant by which comes what is wanted, under the same conditions.
+pub(crate) fn put_of(
+    found: &mut Found,
+    wish: Wish<'_, '_>,
+    trial: Trial<'_, '_>,
+    participant: &NamedParticipant<'_>,
+    one: TrialResult,
+) -> Result<(), AllocError>
+    requires { IsTried trial.scenario.now.platform.now
+        (map call_seen trial.scenario.now.calls.now) trial.place (view one.value)
+        trial.path.now one.outcome }
+{
+    let alloc = found.items.alloc();
+    let who = wish
+        .group
+        .who_changes(alloc, participant, one.change.edit, &one.value)?;
+    put_wanted(found, wish, trial, from_ref(&who), one)
 }
 
 /// Tells a change by which comes what is wanted, if it may be meant, isn't told yet, and its record

@@ -10,12 +10,9 @@ const MEMORY: &str = "buffer_memory_constraints";
 
 const ENTRIES: &str = "image_format_constraints";
 
-/// How many lines are told.
-const MOST: usize = 4;
-
 /// The lines of the fields that the constraints of the call at a place, from 0, state otherwise
 /// than changed ones; of the object that lacks one where they don't state it, and of the list where
-/// they have fewer entries. Each once, in the order of the text, at most four.
+/// they have fewer entries. Each once, in the order of the text.
 pub(crate) fn changed_lines(
     alloc: Global,
     document: &Document<'_>,
@@ -77,9 +74,6 @@ fn add_line(
     path: &[Step<'_>],
     part: RecordPart,
 ) -> Result<(), AllocError> {
-    if lines.len() >= MOST {
-        return Ok(());
-    }
     if let Some(line) = line_at(*lines.allocator(), document, path, part)? {
         if !lines.contains(&line) {
             lines.push(line)?;

@@ -5,7 +5,7 @@ ghost use Rattle.sysmem_image.specs.Size.{most_multiple, some_sides, square};
 ghost use Rattle.record_reading.specs.Reading.Bounds.{divisor_read, stated_by};
 ghost use Rattle.record_reading.specs.Reading.Fields.{same_field};
 ghost use Rattle.constraint_edits.specs.Drafts.{size_of};
-ghost use Rattle.constraint_edits.specs.EditedBounds.{absent_at, bound_edited, bounds_exchanged, entry_exchanged, value_changed, values_exchanged, with_value};
+ghost use Rattle.constraint_edits.specs.EditedBounds.{absent_at, bound_edited, bound_stated, bounds_exchanged, entry_exchanged, value_changed, value_put, values_exchanged, with_value};
 
 use super::values::{
     Extent, absent_at, is_above, is_between, is_bound, is_same_field, value_at, value_given,
@@ -160,6 +160,14 @@ impl Given {
         if is_between(self.value, absent, was) {
             return Some(*entry);
         }
+        self.stated(entry)
+    }
+
+    /// An entry with the value.
+    fn stated(&self, entry: &Entry) -> Option<Entry>
+        ensures { IfSome result (λ made. made
+            ≡ value_put self.now.field (size_of self.now.value) entry.now) }
+    {
         let bounds = self.with_value(&entry.bounds)?;
         Some(bounded(entry, bounds))
     }
@@ -195,6 +203,31 @@ pub(super) fn bound_edited(
     let mut made = Vec::new(alloc);
     for entry in entries {
         match given.changed(absent, entry) {
+            Some(entry) => made.push(entry)?,
+            None => return Ok(None),
+        }
+    }
+    Ok(Some(made))
+}
+
+/// Entries that each state an amount of a bound; `None` where the field is no bound, or may not have
+/// it.
+pub(super) fn bound_stated(
+    alloc: Global,
+    entries: &[Entry],
+    field: Field,
+    amount: Amount,
+) -> Result<Option<Vec<Entry>>, AllocError>
+    ensures { IfOk result (λ made. IfSome made
+        (λ made. bound_stated field amount entries.now ≡ Some made.items)) }
+{
+    let Some(value) = value_given(field, Some(amount)) else {
+        return Ok(None);
+    };
+    let given = Given { field, value };
+    let mut made = Vec::new(alloc);
+    for entry in entries {
+        match given.stated(entry) {
             Some(entry) => made.push(entry)?,
             None => return Ok(None),
         }

@@ -198,6 +198,17 @@ pub(super) fn absent_at(field: Field) -> Option<Extent>
     bounds_table!(absents!(field))
 }
 
+/// What a bound asks for where it isn't stated, as an amount like another; `None` where that has no
+/// end, or the field is no bound.
+pub(crate) fn absent_amount(field: Field, like: Amount) -> Option<Amount> {
+    let absent = absent_at(field)?;
+    match like {
+        _ if absent.width >= u64::from(u32::MAX) => None,
+        Amount::Number(_) => Some(Amount::Number(absent.width)),
+        Amount::Sides(_, _) => Some(Amount::Sides(absent.width, absent.height)),
+    }
+}
+
 /// Whether a bound that is stated asks for more than with an amount, or than where it isn't.
 pub(crate) fn asks_more(field: Field, stated: Amount, amount: Option<Amount>) -> bool {
     let value = value_given(field, Some(stated));

@@ -33,6 +33,23 @@ fn add_unplaced(items: &mut Items, depth: usize, path: &str, note: &str) {
     items.say(depth, Label::Plain, words)
 }
 
+/// Keeps with the last item what may be meant by a part, where that is found.
+fn keep(items: &mut Items, found: Result<Option<Span>, AllocError>, meant: Meant) {
+    match found {
+        Ok(Some(span)) => items.correct(Correction { span, meant }),
+        Ok(None) => {}
+        Err(AllocError) => items.refuse(),
+    }
+}
+
+/// The same of a text of JSON.
+fn keep_written(items: &mut Items, found: Result<Option<Span>, AllocError>, written: TextBuilder) {
+    match written.done() {
+        Ok(written) => keep(items, found, Meant::Written(written)),
+        Err(AllocError) => items.refuse(),
+    }
+}
+
 /// `calls[4].constraints`, or `the script`.
 fn path_words(alloc: Global, path: &[Step<'_>], whole: Whole) -> TextBuilder {
     let mut words = TextBuilder::new(alloc);
@@ -143,7 +160,7 @@ impl<'a> Document<'a> {
         note: &str,
         help: Help,
     ) {
-        let Help { words, meant } = help;
+        let (words, meant) = help.into_parts();
         match words.done() {
             Ok(words) => {
                 self.point(items, depth, path, part, note, from_ref(&words));
@@ -161,14 +178,16 @@ impl<'a> Document<'a> {
         part: RecordPart,
         meant: Option<Meant>,
     ) {
-        let Some(meant) = meant else {
-            return;
-        };
-        match self.span(items.alloc(), path, part) {
-            Ok(Some(span)) => items.correct(Correction { span, meant }),
-            Ok(None) => {}
-            Err(AllocError) => items.refuse(),
+        if let Some(meant) = meant {
+            let span = self.span(items.alloc(), path, part);
+            keep(items, span, meant)
         }
+    }
+
+    /// Keeps with the last item that another value may be meant at a path, which is written as JSON.
+    pub(crate) fn replace(&self, items: &mut Items, path: &[Step<'_>], written: TextBuilder) {
+        let span = self.span(items.alloc(), path, RecordPart::Value);
+        keep_written(items, span, written)
     }
 
     /// Keeps with the last item that the member or the item of a list at a path may be left out.
@@ -178,11 +197,8 @@ impl<'a> Document<'a> {
 
     /// Keeps with the last item what may be meant by the member or the item of a list at a path.
     pub(crate) fn mean(&self, items: &mut Items, path: &[Step<'_>], meant: Meant) {
-        match self.whole_span(items.alloc(), path) {
-            Ok(Some(span)) => items.correct(Correction { span, meant }),
-            Ok(None) => {}
-            Err(AllocError) => items.refuse(),
-        }
+        let span = self.whole_span(items.alloc(), path);
+        keep(items, span, meant)
     }
 
     /// Keeps with the last item that the object at a path may lack a member with this value, which
@@ -192,34 +208,22 @@ impl<'a> Document<'a> {
         items: &mut Items,
         path: &[Step<'_>],
         key: &str,
-        written: &str,
+        written: TextBuilder,
     ) {
-        if written.contains('\\') {
+        if written.as_str().contains('\\') {
             return;
         }
-        match self.member_of(items.alloc(), path, key, written) {
-            Ok(Some(correction)) => items.correct(correction),
-            Ok(None) => {}
-            Err(AllocError) => items.refuse(),
-        }
+        let alloc = items.alloc();
+        let mut member = TextBuilder::of(alloc, "\"");
+        member.put(key).put("\": ").put_words(&written).put(", ");
+        let span = self.begin_of(alloc, path);
+        keep_written(items, span, member)
     }
 
-    /// A member with this value, before the others of the object at a path.
-    fn member_of(
-        &self,
-        alloc: Global,
-        path: &[Step<'_>],
-        key: &str,
-        written: &str,
-    ) -> Result<Option<Correction>, AllocError> {
-        let Some(at) = self.first_place(alloc, path)? else {
-            return Ok(None);
-        };
-        let member = format!(in alloc; "\"{key}\": {written}, ")?;
-        Ok(Some(Correction {
-            span: Span { start: at, end: at },
-            meant: Meant::Written(member),
-        }))
+    /// Where the first member of the object at a path would stand, if that has members.
+    fn begin_of(&self, alloc: Global, path: &[Step<'_>]) -> Result<Option<Span>, AllocError> {
+        let at = self.first_place(alloc, path)?;
+        Ok(at.map(|at| Span { start: at, end: at }))
     }
 
     /// The byte behind the bracket of the object at a path, if that has members.
@@ -267,7 +271,22 @@ impl<'a> Document<'a> {
         }
     }
 
-    /// The same of a part that is known, with the path to it in words.
+    /// Points at a part with a note that is put together, where nothing helps.
+    pub(crate) fn note(
+        &self,
+        items: &mut Items,
+        depth: usize,
+        path: &[Step<'_>],
+        part: RecordPart,
+        note: TextBuilder,
+    ) {
+        match note.done() {
+            Ok(note) => self.point(items, depth, path, part, &note, &[]),
+            Err(AllocError) => items.refuse(),
+        }
+    }
+
+    /// Points at a part that is known, with the path to it in words.
     pub fn show(
         &self,
         items: &mut Items,

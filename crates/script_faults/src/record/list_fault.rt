@@ -1,8 +1,8 @@
 //! What is wrong with a list, and what else it has than an item.
 
+use crate::help::listed;
 use crate::record::document::Document;
 use crate::record::firsts::{id_of, text_of};
-use crate::record::names::listed;
 use explanation_text::{Step, TextBuilder};
 use record_reading::Code;
 use serde_json::Value;

@@ -1,11 +1,10 @@
 //! The names of the profile, and other people's names for what it has.
 
-use crate::help::{Help, did_you_mean};
+use crate::help::{Help, did_you_mean, listed, near_or_listed};
 use crate::record::keys::{Table, found, is_one_of};
 use bitflags::Flags;
 use drm_images::letters_of;
-use explanation_text::wording::put_joined;
-use explanation_text::{TextBuilder, nearest};
+use explanation_text::TextBuilder;
 use std::alloc::{AllocError, Global};
 use sysmem_counts::{Field, Usage};
 use sysmem_formats::{ColourSpace, Modifier, PixelFormat};
@@ -287,15 +286,5 @@ fn hint_of_known(alloc: Global, name: &str, known: &[&str]) -> Result<Help, Allo
     if is_one_of(name, LEFT_OUT) {
         return Ok(Help::of_text(alloc, "Fuchsia has it, this profile doesn't"));
     }
-    Ok(match nearest(alloc, name, known)? {
-        Some(near) => Help::near(alloc, near),
-        None => Help::of(listed(alloc, "allowed: ", known, "or")),
-    })
-}
-
-/// Names after a text, the last with a word before it.
-pub(crate) fn listed(alloc: Global, text: &str, names: &[&str], word: &str) -> TextBuilder {
-    let mut words = TextBuilder::of(alloc, text);
-    put_joined(&mut words, names, word);
-    words
+    near_or_listed(alloc, name, known, "allowed: ", "or")
 }

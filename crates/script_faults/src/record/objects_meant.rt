@@ -4,8 +4,9 @@ use crate::record::document::Document;
 use crate::record::kinds::is_heap_type;
 use crate::record::names::format_of;
 use crate::record::on_platform::{colours_text, heap_id};
+use explanation_text::TextBuilder;
 use serde_json::Value;
-use std::alloc::{AllocError, Global};
+use std::alloc::Global;
 use sysmem_counts::Field;
 
 /// How many names of a list are looked at.
@@ -18,54 +19,40 @@ pub(crate) fn object_of(
     document: &Document<'_>,
     field: Field,
     value: &Value,
-) -> Result<Option<String>, AllocError> {
-    let Some(name) = value.as_str() else {
-        return Ok(None);
-    };
+) -> Option<TextBuilder> {
+    let name = value.as_str()?;
     match field {
         Field::PermittedHeaps => heap_of(alloc, document, name),
-        Field::Pairs | Field::PixelFormatAndModifiers => pair_of(alloc, name),
-        Field::ImageFormatConstraints => entry_of(alloc, document, name),
-        _ => Ok(None),
+        Field::Pairs | Field::PixelFormatAndModifiers => pair_of(alloc, name, None),
+        Field::ImageFormatConstraints => {
+            pair_of(alloc, name, Some(&colours_text(alloc, document)?))
+        }
+        _ => None,
     }
 }
 
-fn heap_of(
-    alloc: Global,
-    document: &Document<'_>,
-    name: &str,
-) -> Result<Option<String>, AllocError> {
+fn heap_of(alloc: Global, document: &Document<'_>, name: &str) -> Option<TextBuilder> {
     if !is_heap_type(name) {
-        return Ok(None);
+        return None;
     }
-    let id = heap_id(document, name).unwrap_or(0);
-    Ok(Some(if id > 0 {
-        format!(in alloc; "{{\"heap_type\": \"{name}\", \"id\": {id}}}")?
-    } else {
-        format!(in alloc; "{{\"heap_type\": \"{name}\"}}")?
-    }))
+    let mut text = TextBuilder::of(alloc, "{\"heap_type\": \"");
+    text.put(name).put("\"");
+    match heap_id(document, name) {
+        Some(id) if id > 0 => text.put(", \"id\": ").put_number(id).put("}"),
+        _ => text.put("}"),
+    };
+    Some(text)
 }
 
-fn pair_of(alloc: Global, name: &str) -> Result<Option<String>, AllocError> {
-    let Some(format) = format_of(name) else {
-        return Ok(None);
-    };
-    Ok(Some(format!(in alloc; "{{\"pixel_format\": \"{format}\"}}")?))
-}
-
-fn entry_of(
-    alloc: Global,
-    document: &Document<'_>,
-    name: &str,
-) -> Result<Option<String>, AllocError> {
-    let Some(format) = format_of(name) else {
-        return Ok(None);
-    };
-    let Some(colours) = colours_text(alloc, document)? else {
-        return Ok(None);
-    };
-    let front = format!(in alloc; "{{\"pixel_format\": \"{format}\"")?;
-    Ok(Some(format!(in alloc; "{front}, \"color_spaces\": {colours}}}")?))
+/// A pair of the format that a name means; or an entry, which has these colour spaces.
+fn pair_of(alloc: Global, name: &str, colours: Option<&TextBuilder>) -> Option<TextBuilder> {
+    let mut text = TextBuilder::of(alloc, "{\"pixel_format\": \"");
+    text.put(format_of(name)?).put("\"");
+    if let Some(colours) = colours {
+        text.put(", \"color_spaces\": ").put_words(colours);
+    }
+    text.put("}");
+    Some(text)
 }
 
 /// The same of each item of a list, in brackets; `None` where one of them means none.
@@ -74,18 +61,16 @@ pub(crate) fn objects_of(
     document: &Document<'_>,
     field: Field,
     list: &[Value],
-) -> Result<Option<String>, AllocError> {
+) -> Option<TextBuilder> {
     if list.len() > MOST {
-        return Ok(None);
+        return None;
     }
-    let mut text = String::new(alloc);
+    let mut text = TextBuilder::new(alloc);
     for item in list {
-        let Some(object) = object_of(alloc, document, field, item)? else {
-            return Ok(None);
-        };
-        text.push_str(if text.is_empty() { "[" } else { ", " })?;
-        text.push_str(&object)?;
+        let mark = if text.len() == 0 { "[" } else { ", " };
+        text.put(mark)
+            .put_words(&object_of(alloc, document, field, item)?);
     }
-    text.push_str("]")?;
-    Ok(Some(text))
+    text.put("]");
+    Some(text)
 }

@@ -1,8 +1,9 @@
 //! What the platform of a script has, of what may be meant in constraints.
 
+use crate::only::Only;
 use crate::record::document::Document;
 use crate::record::firsts::{id_of, text_of};
-use explanation_text::Step;
+use explanation_text::{Step, TextBuilder};
 use serde_json::Value;
 use std::alloc::{AllocError, Global};
 use sysmem_counts::Field;
@@ -39,41 +40,30 @@ pub(crate) fn heap_types<'a>(
 }
 
 /// The platform's colour spaces as JSON in one line, if it has some.
-pub(crate) fn colours_text(
-    alloc: Global,
-    document: &Document<'_>,
-) -> Result<Option<String>, AllocError> {
-    let mut text = String::new(alloc);
+pub(crate) fn colours_text(alloc: Global, document: &Document<'_>) -> Option<TextBuilder> {
+    let mut text = TextBuilder::new(alloc);
     for colour in list_at(document, Field::ColorSpaces) {
-        let Some(name) = colour.as_str() else {
-            return Ok(None);
-        };
-        text.push_str(if text.is_empty() { "[\"" } else { ", \"" })?;
-        text.push_str(name)?;
-        text.push_str("\"")?;
+        let mark = if text.len() == 0 { "[\"" } else { ", \"" };
+        text.put(mark).put(colour.as_str()?).put("\"");
     }
-    if text.is_empty() {
-        return Ok(None);
+    if text.len() == 0 {
+        return None;
     }
-    text.push_str("]")?;
-    Ok(Some(text))
+    text.put("]");
+    Some(text)
 }
 
 /// The only modifier but `LINEAR` that the platform's pairs have, of those of a format if one is
 /// given; `None` where they have several, or none.
 pub(crate) fn only_tiling<'a>(document: &Document<'a>, format: Option<&str>) -> Option<&'a str> {
-    let mut only = None;
+    let mut only = Only::Nothing;
     for pair in list_at(document, Field::Pairs) {
         let modifier = text_of(pair, Field::PixelFormatModifier.name(), "LINEAR");
-        if modifier == "LINEAR" || only == Some(modifier) || !is_of(pair, format) {
-            continue;
+        if modifier != "LINEAR" && is_of(pair, format) {
+            only = only.and(modifier);
         }
-        if only.is_some() {
-            return None;
-        }
-        only = Some(modifier);
     }
-    only
+    only.name()
 }
 
 /// Whether a pair is of a format, if one is given.

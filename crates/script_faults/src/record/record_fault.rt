@@ -1,6 +1,6 @@
 //! A record's first fault, in words.
 
-use crate::help::{Help, did_you_mean};
+use crate::help::{Help, did_you_mean, missing};
 use crate::record::document::{Document, RecordPart};
 use crate::record::firsts::put_first_like;
 use crate::record::keys::{SIZE, is_one_of, kind_at, names_of, put_allowed, range_of};
@@ -19,7 +19,7 @@ use crate::record::record_place::place_of;
 use crate::record::sides::{side_of, sides_in, sides_of, size_text};
 use crate::record::unknown::{first_unknown, key_of};
 use crate::record::unknown_key::{Elsewhere, KeyHelp, UnknownKey};
-use explanation_text::{Items, ListBuilder, Meant, Renamed, Step, TextBuilder, nearest};
+use explanation_text::{Items, ListBuilder, Meant, Moved, Renamed, Step, TextBuilder, nearest};
 use record_reading::{
     Code, ENTRY_FIELDS, Fault, FaultPlace, HEAP_FIELDS, HEAP_NAME_FIELDS, MEMORY_FIELDS,
     PAIR_FIELDS, PLATFORM_FIELDS,
@@ -30,6 +30,9 @@ use sysmem_counts::{Field, Kind};
 use sysmem_sanitise::CONSTRAINTS_FIELDS;
 
 const ID: &str = "id";
+
+/// What is said of a key that an object can't have.
+const UNKNOWN: &str = "unknown key";
 
 /// The first fault of a record, and where it is.
 #[derive(Clone, Copy)]
@@ -43,6 +46,39 @@ struct Faulty<'a, 'b> {
     path: &'b [Step<'a>],
     fault: Fault,
     is_platform: bool,
+}
+
+impl Faulty<'_, '_> {
+    /// What is allowed at the field, after a word.
+    fn allowed(&self, alloc: Global, word: &str) -> Help {
+        Help::of(help_allowed(alloc, word, self.fault.at, self.is_platform))
+    }
+
+    /// Points at a part of what stands at a path, with one sentence of what helps.
+    fn advise(
+        &self,
+        items: &mut Items,
+        path: &[Step<'_>],
+        part: RecordPart,
+        note: &str,
+        help: Help,
+    ) {
+        self.document
+            .advise(items, self.depth, path, part, note, help)
+    }
+
+    /// The same of a value, with a note that is put together.
+    fn tell(&self, items: &mut Items, path: &[Step<'_>], note: TextBuilder, help: Help) {
+        self.document
+            .tell(items, self.depth, path, RecordPart::Value, note, help)
+    }
+
+    /// Points at an object that lacks a member.
+    fn tell_missing(&self, items: &mut Items, object: &[Step<'_>], name: &str, help: Help) {
+        let note = missing(items.alloc(), name);
+        self.document
+            .tell(items, self.depth, object, RecordPart::Begin, note, help)
+    }
 }
 
 /// Tells the first fault of the record at a path.
@@ -97,8 +133,9 @@ fn add_value<'a>(
         Code::WrongKind if is_size && value.is_object() => add_object(items, faulty, value)?,
         Code::UnknownName => add_name(items, faulty, value)?,
         Code::WrongKind => add_kind(items, faulty, value)?,
-        Code::BadMultiple => add_multiple(items, faulty, value)?,
-        Code::NotAnObject => add_no_object(items, faulty, value)?,
+        Code::BadMultiple if value.is_object() => add_side(items, faulty, value)?,
+        Code::BadMultiple => add_number(items, faulty, faulty.path, value)?,
+        Code::NotAnObject => add_no_object(items, faulty, value),
         _ => add_list(items, faulty, value)?,
     }
     Ok(())
@@ -117,27 +154,13 @@ fn help_allowed(alloc: Global, word: &str, at: FaultPlace, is_platform: bool) ->
     words
 }
 
-fn missing_note(alloc: Global, name: &str) -> TextBuilder {
-    let mut words = TextBuilder::of(alloc, name);
-    words.put(" is missing");
-    words
-}
-
 /// A field that isn't there: the object that lacks it is pointed at.
 fn add_missing(items: &mut Items, faulty: Faulty<'_, '_>) {
     let at = faulty.fault.at;
     let last = faulty.path.len().saturating_sub(1);
     let object = faulty.path.get(..last).unwrap_or(&[]);
-    let help = help_allowed(items.alloc(), "needed", at, faulty.is_platform);
-    let note = missing_note(items.alloc(), at.name());
-    faulty.document.tell(
-        items,
-        faulty.depth,
-        object,
-        RecordPart::Begin,
-        note,
-        Help::of(help),
-    );
+    let help = faulty.allowed(items.alloc(), "needed");
+    faulty.tell_missing(items, object, at.name(), help);
     if at == FaultPlace::At(Field::ColorSpaces) && !faulty.is_platform {
         add_colours(items, faulty, object)
     }
@@ -153,7 +176,10 @@ fn add_colours(items: &mut Items, faulty: Faulty<'_, '_>, entry: &[Step<'_>]) {
     let document = faulty.document;
     match document.written(items.alloc(), &path) {
         Ok(written) => match std::str::from_utf8(written) {
-            Ok(colours) if !colours.is_empty() => document.add_member(items, entry, key, colours),
+            Ok(colours) if !colours.is_empty() => {
+                let written = TextBuilder::of(items.alloc(), colours);
+                document.add_member(items, entry, key, written)
+            }
             _ => {}
         },
         Err(AllocError) => items.refuse(),
@@ -202,7 +228,10 @@ fn add_object<'a>(
         return add_side(items, faulty, value);
     };
     match side_of(key_of(&unknown)) {
-        Some(side) if is_one_of(side, &keys) => add_side_key(items, faulty, &unknown, value, side),
+        Some(side) if is_one_of(side, &keys) => {
+            add_side_key(items, faulty, &unknown, value, side);
+            Ok(())
+        }
         _ => add_key(items, faulty, &unknown, &keys),
     }
 }
@@ -215,34 +244,33 @@ fn add_side_key(
     path: &[Step<'_>],
     size: &Value,
     side: &str,
-) -> Result<(), AllocError> {
+) {
     let alloc = items.alloc();
-    let document = faulty.document;
-    let note = "unknown key";
+    let (part, note) = (RecordPart::Key, UNKNOWN);
     match sides_of(size) {
-        Some(sides) if is_in_line(alloc, document, faulty.path)? => {
-            let text = size_text(alloc, sides)?;
-            let help = Help::of(did_you_mean(alloc, &text));
-            document.advise(items, faulty.depth, path, RecordPart::Key, note, help);
-            let meant = Some(Meant::Written(text));
-            document.correct(items, faulty.path, RecordPart::Value, meant);
+        Some(sides) if is_in_line(items, faulty.document, faulty.path) => {
+            let text = size_text(alloc, sides);
+            let help = Help::of(did_you_mean(alloc, text.as_str()));
+            faulty.advise(items, path, part, note, help);
+            faulty.document.replace(items, faulty.path, text)
         }
         _ => {
             let help = unless_there(Help::near(alloc, side), Some(size));
-            document.advise(items, faulty.depth, path, RecordPart::Key, note, help);
-            leave_out_key(items, faulty, path, SIZE);
+            faulty.advise(items, path, part, note, help);
+            leave_out_key(items, faulty, path, SIZE)
         }
     }
-    Ok(())
 }
 
 /// Whether the value at a path stands in one line.
-fn is_in_line(
-    alloc: Global,
-    document: &Document<'_>,
-    path: &[Step<'_>],
-) -> Result<bool, AllocError> {
-    Ok(!document.written(alloc, path)?.contains(&b'\n'))
+fn is_in_line(items: &mut Items, document: &Document<'_>, path: &[Step<'_>]) -> bool {
+    match document.written(items.alloc(), path) {
+        Ok(written) => !written.contains(&b'\n'),
+        Err(AllocError) => {
+            items.refuse();
+            false
+        }
+    }
 }
 
 fn add_key(
@@ -253,13 +281,11 @@ fn add_key(
 ) -> Result<(), AllocError> {
     let alloc = items.alloc();
     let document = faulty.document;
-    let note = "unknown key";
-    let key = key_of(path);
     let Some(value) = document.at(path) else {
         return Ok(());
     };
     let unknown = UnknownKey {
-        key,
+        key: key_of(path),
         value,
         keys,
         is_platform: faulty.is_platform,
@@ -268,9 +294,9 @@ fn add_key(
     match help {
         Some(help) => {
             let help = unless_there(help, document.at(faulty.path));
-            document.advise(items, faulty.depth, path, RecordPart::Key, note, help)
+            faulty.advise(items, path, RecordPart::Key, UNKNOWN, help)
         }
-        None => document.point(items, faulty.depth, path, RecordPart::Key, note, &[]),
+        None => document.point(items, faulty.depth, path, RecordPart::Key, UNKNOWN, &[]),
     }
     if let Some(elsewhere) = elsewhere {
         move_to(items, faulty, path, elsewhere)?;
@@ -285,11 +311,7 @@ fn unless_there(help: Help, object: Option<&Value>) -> Help {
         (Some(Meant::Word(name)), Some(object)) => object.get(name.as_str()).is_some(),
         _ => false,
     };
-    if !is_there {
-        return help;
-    }
-    let Help { words, meant: _ } = help;
-    Help::of(words)
+    if is_there { help.unmeant() } else { help }
 }
 
 /// Keeps that the member at a path is meant in the object into which it belongs.
@@ -301,17 +323,18 @@ fn move_to(
 ) -> Result<(), AllocError> {
     let alloc = items.alloc();
     let document = faulty.document;
-    let mut moved = places_in(alloc, document, faulty.base, faulty.path, to.owner)?;
-    if moved.places.is_empty() {
-        return Ok(());
+    let renamed = match to.renamed {
+        Some(field) => match document.span(alloc, path, RecordPart::Value)? {
+            Some(value) => Some(Renamed { field, value }),
+            None => return Ok(()),
+        },
+        None => None,
+    };
+    let moved = places_in(alloc, document, faulty.base, faulty.path, to.owner)?;
+    if !moved.places.is_empty() {
+        let moved = Moved { renamed, ..moved };
+        document.mean(items, path, Meant::Moved(moved));
     }
-    if let Some(field) = to.renamed {
-        let Some(value) = document.span(alloc, path, RecordPart::Value)? else {
-            return Ok(());
-        };
-        moved.renamed = Some(Renamed { field, value });
-    }
-    document.mean(items, path, Meant::Moved(moved));
     Ok(())
 }
 
@@ -340,39 +363,35 @@ fn leave_out_key(items: &mut Items, faulty: Faulty<'_, '_>, path: &[Step<'_>], k
     }
 }
 
+/// The least and the greatest number that is allowed, where one has the fault that isn't in a range of
+/// its own.
+fn bounds_of(code: Code) -> (u64, u64) {
+    match code {
+        Code::BadMultiple => (1, 65536),
+        _ => (0, 4294967295),
+    }
+}
+
 /// The side of a size that isn't within bounds: the height where the width is.
-fn wrong_side(size: &Value, least: u64, most: u64) -> &'static str {
+fn wrong_side(size: &Value, bounds: (u64, u64)) -> &'static str {
     match size.get("width") {
-        Some(width) if is_number_within(width, least, most) => "height",
+        Some(width) if is_number_within(width, bounds.0, bounds.1) => "height",
         _ => "width",
     }
 }
 
 /// A width or a height that is missing or wrong.
 fn add_side(items: &mut Items, faulty: Faulty<'_, '_>, value: &Value) -> Result<(), AllocError> {
-    let at = faulty.fault.at;
-    let side = wrong_side(value, 0, 4294967295);
-    match value.get(side) {
-        Some(number) => {
-            let path = with(items.alloc(), faulty.path, Step::Key(side))?;
-            let help = help_allowed(items.alloc(), "allowed", at, faulty.is_platform);
-            add_number(items, faulty, &path, number, (0, 4294967295), help)?;
-        }
-        None => {
-            let note = missing_note(items.alloc(), side);
-            let help = help_allowed(items.alloc(), "allowed", at, faulty.is_platform);
-            faulty.document.tell(
-                items,
-                faulty.depth,
-                faulty.path,
-                RecordPart::Begin,
-                note,
-                Help::of(help),
-            );
-            leave_out(items, faulty, faulty.path)
-        }
-    }
-    Ok(())
+    let alloc = items.alloc();
+    let side = wrong_side(value, bounds_of(faulty.fault.code));
+    let Some(number) = value.get(side) else {
+        let help = faulty.allowed(alloc, "allowed");
+        faulty.tell_missing(items, faulty.path, side, help);
+        leave_out(items, faulty, faulty.path);
+        return Ok(());
+    };
+    let path = with(alloc, faulty.path, Step::Key(side))?;
+    add_number(items, faulty, &path, number)
 }
 
 /// A number at a path that isn't within its least and greatest value.
@@ -381,20 +400,27 @@ fn add_number(
     faulty: Faulty<'_, '_>,
     path: &[Step<'_>],
     number: &Value,
-    bounds: (u64, u64),
-    help: TextBuilder,
 ) -> Result<(), AllocError> {
-    let written = faulty.document.written(items.alloc(), path)?;
-    let note = wrong_number(items.alloc(), number, written, bounds.0, bounds.1);
-    let help = Help {
-        words: help,
-        meant: number_meant(items.alloc(), faulty.fault.at, number, written, bounds)?,
-    };
-    faulty
-        .document
-        .tell(items, faulty.depth, path, RecordPart::Value, note, help);
+    let alloc = items.alloc();
+    let bounds = bounds_of(faulty.fault.code);
+    let written = faulty.document.written(alloc, path)?;
+    let meant = number_meant(alloc, faulty.fault.at, number, written, bounds)?;
+    let help = help_of_number(alloc, faulty).with_meant(meant);
+    let note = wrong_number(alloc, number, written, bounds.0, bounds.1);
+    faulty.tell(items, path, note, help);
     leave_out(items, faulty, path);
     Ok(())
+}
+
+/// What is allowed in the place of such a number.
+fn help_of_number(alloc: Global, faulty: Faulty<'_, '_>) -> Help {
+    match faulty.fault.code {
+        Code::BadMultiple => {
+            let text = "an alignment or divisor is from 1 to 65536; 1 asks for nothing";
+            Help::of_text(alloc, text)
+        }
+        _ => faulty.allowed(alloc, "allowed"),
+    }
 }
 
 fn add_name(items: &mut Items, faulty: Faulty<'_, '_>, value: &Value) -> Result<(), AllocError> {
@@ -403,14 +429,7 @@ fn add_name(items: &mut Items, faulty: Faulty<'_, '_>, value: &Value) -> Result<
         return Ok(());
     };
     let hint = hint_at(items.alloc(), faulty, field, name)?;
-    faulty.document.advise(
-        items,
-        faulty.depth,
-        faulty.path,
-        RecordPart::Value,
-        "unknown name",
-        hint,
-    );
+    faulty.advise(items, faulty.path, RecordPart::Value, "unknown name", hint);
     leave_out(items, faulty, faulty.path);
     Ok(())
 }
@@ -428,16 +447,17 @@ fn hint_at(
     if !is_tiling || faulty.is_platform || help.meant.is_some() {
         return Ok(help);
     }
-    let format = format_beside(faulty);
-    let Some(modifier) = only_tiling(faulty.document, format) else {
-        return Ok(help);
-    };
-    let Help { words, meant: _ } = help;
-    // These words aren't said, but memory that was refused to them is told of.
-    let _unsaid = words.done()?;
+    match only_tiling(faulty.document, format_beside(faulty)) {
+        Some(modifier) => Ok(hint_of_tiling(alloc, faulty, modifier)),
+        None => Ok(help),
+    }
+}
+
+/// That the only tiled modifier of the platform may be meant.
+fn hint_of_tiling(alloc: Global, faulty: Faulty<'_, '_>, modifier: &str) -> Help {
     let mut words = did_you_mean(alloc, modifier);
     words.put(" It is the only tiled one of the platform");
-    match format {
+    match format_beside(faulty) {
         Some(format) if only_tiling(faulty.document, None).is_none() => {
             words.put(" for ").put(format);
         }
@@ -446,7 +466,7 @@ fn hint_at(
             words.put(", but counts only beside a pixel_format");
         }
     }
-    Ok(Help::of_word(words, modifier))
+    Help::of_word(words, modifier)
 }
 
 /// The format that is named beside the value with the fault.
@@ -460,22 +480,14 @@ fn format_beside<'a>(faulty: Faulty<'a, '_>) -> Option<&'a str> {
 }
 
 fn add_kind(items: &mut Items, faulty: Faulty<'_, '_>, value: &Value) -> Result<(), AllocError> {
+    let alloc = items.alloc();
     let at = faulty.fault.at;
     let is_item = matches!(faulty.path.last(), Some(Step::Item(_)));
-    let written = faulty.document.written(items.alloc(), faulty.path)?;
-    let note = wrong_value(items.alloc(), at.name(), value, written, is_item);
-    let help = Help {
-        words: help_allowed(items.alloc(), "allowed", at, faulty.is_platform),
-        meant: value_meant(items.alloc(), faulty, value, written, is_item)?,
-    };
-    faulty.document.tell(
-        items,
-        faulty.depth,
-        faulty.path,
-        RecordPart::Value,
-        note,
-        help,
-    );
+    let written = faulty.document.written(alloc, faulty.path)?;
+    let meant = value_meant(alloc, faulty, value, written, is_item)?;
+    let help = faulty.allowed(alloc, "allowed").with_meant(meant);
+    let note = wrong_value(alloc, at.name(), value, written, is_item);
+    faulty.tell(items, faulty.path, note, help);
     leave_out(items, faulty, faulty.path);
     Ok(())
 }
@@ -496,11 +508,11 @@ fn value_meant(
             return number_meant(alloc, at, value, written, range_of(at.name()));
         }
         Kind::Flag => return Ok(flag_meant(at, value)),
-        Kind::Sides => return sides_meant(alloc, at, value),
+        Kind::Sides => return written_meant(sides_meant(alloc, at, value)),
         Kind::Name => return heap_meant(alloc, faulty, value),
         Kind::Names if !is_item => is_known(alloc, at, value, faulty.is_platform)?,
         Kind::Objects if !is_item && !value.is_object() => {
-            return listed_meant(alloc, faulty, value);
+            return written_meant(listed_meant(alloc, faulty, value));
         }
         Kind::Objects if !is_item => true,
         _ => false,
@@ -531,20 +543,23 @@ fn heap_meant(
     })
 }
 
+/// A text of JSON, if one is meant.
+fn written_meant(written: Option<TextBuilder>) -> Result<Option<Meant>, AllocError> {
+    match written {
+        Some(written) => Ok(Some(Meant::Written(written.done()?))),
+        None => Ok(None),
+    }
+}
+
 /// A list of the object that is meant by a name.
-fn listed_meant(
-    alloc: Global,
-    faulty: Faulty<'_, '_>,
-    value: &Value,
-) -> Result<Option<Meant>, AllocError> {
+fn listed_meant(alloc: Global, faulty: Faulty<'_, '_>, value: &Value) -> Option<TextBuilder> {
     let FaultPlace::At(field) = faulty.fault.at else {
-        return Ok(None);
+        return None;
     };
-    let Some(object) = object_of(alloc, faulty.document, field, value)? else {
-        return Ok(None);
-    };
-    let list = format!(in alloc; "[{object}]")?;
-    Ok(Some(Meant::Written(list)))
+    let object = object_of(alloc, faulty.document, field, value)?;
+    let mut list = TextBuilder::of(alloc, "[");
+    list.put_words(&object).put("]");
+    Some(list)
 }
 
 /// True or false, where it is written as a text or as 1 or 0.
@@ -557,15 +572,12 @@ fn flag_meant(at: FaultPlace, value: &Value) -> Option<Meant> {
 
 /// A width and a height, where they are written as a list or as a text; of an alignment also as one
 /// number for both.
-fn sides_meant(alloc: Global, at: FaultPlace, value: &Value) -> Result<Option<Meant>, AllocError> {
+fn sides_meant(alloc: Global, at: FaultPlace, value: &Value) -> Option<TextBuilder> {
     let both = match value.as_u64() {
         Some(number) if at == FaultPlace::At(Field::SizeAlignment) => Some((number, number)),
         _ => None,
     };
-    let Some(sides) = sides_in(value).or(both) else {
-        return Ok(None);
-    };
-    Ok(Some(Meant::Written(size_text(alloc, sides)?)))
+    Some(size_text(alloc, sides_in(value).or(both)?))
 }
 
 /// Whether a value is one of the names that a field takes.
@@ -583,92 +595,57 @@ fn is_known(
     }
 }
 
-/// An alignment or a divisor out of its range.
-fn add_multiple(
-    items: &mut Items,
-    faulty: Faulty<'_, '_>,
-    value: &Value,
-) -> Result<(), AllocError> {
-    let help = TextBuilder::of(
-        items.alloc(),
-        "an alignment or divisor is from 1 to 65536; 1 asks for nothing",
-    );
-    if !value.is_object() {
-        return add_number(items, faulty, faulty.path, value, (1, 65536), help);
-    }
-    let side = wrong_side(value, 1, 65536);
-    let path = with(items.alloc(), faulty.path, Step::Key(side))?;
-    let number = value.get(side).unwrap_or(value);
-    add_number(items, faulty, &path, number, (1, 65536), help)
-}
-
 /// A value that is no object; names that stand for objects mean these.
-fn add_no_object(
-    items: &mut Items,
-    faulty: Faulty<'_, '_>,
-    value: &Value,
-) -> Result<(), AllocError> {
+fn add_no_object(items: &mut Items, faulty: Faulty<'_, '_>, value: &Value) {
     let alloc = items.alloc();
-    let (document, depth, path) = (faulty.document, faulty.depth, faulty.path);
-    let part = RecordPart::Value;
-    let note = wrong_kind(alloc, value, "an object is").done()?;
-    match objects_meant(alloc, faulty, value)? {
+    let (document, path) = (faulty.document, faulty.path);
+    let note = wrong_kind(alloc, value, "an object is");
+    match objects_meant(items, faulty, value) {
         Some((meant_at, text)) => {
-            let help = Help::of(did_you_mean(alloc, &text));
-            document.advise(items, depth, path, part, &note, help);
-            document.correct(items, meant_at, part, Some(Meant::Written(text)));
+            let help = Help::of(did_you_mean(alloc, text.as_str()));
+            faulty.tell(items, path, note, help);
+            document.replace(items, meant_at, text)
         }
         None => {
-            document.point(items, depth, path, part, &note, &[]);
-            leave_out(items, faulty, path);
+            document.note(items, faulty.depth, path, RecordPart::Value, note);
+            leave_out(items, faulty, path)
         }
     }
-    Ok(())
 }
 
 /// The objects that are meant by a list of names, where it stands in one line, or else the object
 /// that is meant by the name with the fault; and the path of what means them.
 fn objects_meant<'a, 'b>(
-    alloc: Global,
+    items: &mut Items,
     faulty: Faulty<'a, 'b>,
     value: &Value,
-) -> Result<Option<(&'b [Step<'a>], String)>, AllocError> {
+) -> Option<(&'b [Step<'a>], TextBuilder)> {
     let (FaultPlace::At(field), Some((Step::Item(_), list))) = (
         faulty.fault.at,
         faulty.path.split_last(),
     ) else {
-        return Ok(None);
+        return None;
     };
-    let document = faulty.document;
+    let (alloc, document) = (items.alloc(), faulty.document);
     let names = document.at(list).and_then(Value::as_array);
     if let Some(names) = names
         && names.len() > 1
-        && is_in_line(alloc, document, list)?
-        && let Some(text) = objects_of(alloc, document, field, names)?
+        && is_in_line(items, document, list)
+        && let Some(text) = objects_of(alloc, document, field, names)
     {
-        return Ok(Some((list, text)));
+        return Some((list, text));
     }
-    let text = object_of(alloc, document, field, value)?;
-    Ok(text.map(|text| (faulty.path, text)))
+    Some((faulty.path, object_of(alloc, document, field, value)?))
 }
 
 /// A list that is empty, too long or has an item twice, or a tiled modifier that doesn't go with its
 /// format.
 fn add_list(items: &mut Items, faulty: Faulty<'_, '_>, value: &Value) -> Result<(), AllocError> {
     let is_empty = matches!(value.as_array(), Some(list) if list.is_empty());
-    let helps = helps_of_list(items.alloc(), faulty, is_empty)?;
-    let note = note_of_list(faulty.fault.code, is_empty);
-    faulty.document.point(
-        items,
-        faulty.depth,
-        faulty.path,
-        RecordPart::Value,
-        note,
-        &helps,
-    );
+    point_list(items, faulty, is_empty)?;
     match faulty.fault.code {
         Code::TiledMisfit => leave_out_modifier(items, faulty)?,
-        Code::NoColourSpaces => mean_colours(items, faulty)?,
+        Code::NoColourSpaces => mean_colours(items, faulty),
         Code::BadPlatformList if !is_empty => mean_free_id(items, faulty, value)?,
         _ => {}
     }
@@ -687,8 +664,9 @@ fn mean_free_id(items: &mut Items, faulty: Faulty<'_, '_>, heap: &Value) -> Resu
     };
     let id = free_id(heaps, heap);
     if heap.get(ID).is_none() {
-        let written = format!(in items.alloc(); "{id}")?;
-        faulty.document.add_member(items, faulty.path, ID, &written);
+        let mut written = TextBuilder::new(items.alloc());
+        written.put_number(id);
+        faulty.document.add_member(items, faulty.path, ID, written);
         return Ok(());
     }
     let path = with(items.alloc(), faulty.path, Step::Key(ID))?;
@@ -700,16 +678,12 @@ fn mean_free_id(items: &mut Items, faulty: Faulty<'_, '_>, heap: &Value) -> Resu
 }
 
 /// Keeps that an entry without colour spaces may be meant to have those of the platform.
-fn mean_colours(items: &mut Items, faulty: Faulty<'_, '_>) -> Result<(), AllocError> {
-    let alloc = items.alloc();
-    if !is_in_line(alloc, faulty.document, faulty.path)? {
-        return Ok(());
+fn mean_colours(items: &mut Items, faulty: Faulty<'_, '_>) {
+    if is_in_line(items, faulty.document, faulty.path)
+        && let Some(text) = colours_text(items.alloc(), faulty.document)
+    {
+        faulty.document.replace(items, faulty.path, text)
     }
-    let meant = colours_text(alloc, faulty.document)?.map(|text| Meant::Written(text));
-    faulty
-        .document
-        .correct(items, faulty.path, RecordPart::Value, meant);
-    Ok(())
 }
 
 /// Keeps that the modifier beside a format may be left out, if the format doesn't stand there
@@ -726,48 +700,42 @@ fn leave_out_modifier(items: &mut Items, faulty: Faulty<'_, '_>) -> Result<(), A
     Ok(())
 }
 
-/// What helps there.
-fn helps_of_list(
-    alloc: Global,
-    faulty: Faulty<'_, '_>,
-    is_empty: bool,
-) -> Result<Vec<String>, AllocError> {
-    let at = faulty.fault.at;
+/// Points at the list or the item, with what helps there.
+fn point_list(items: &mut Items, faulty: Faulty<'_, '_>, is_empty: bool) -> Result<(), AllocError> {
+    let alloc = items.alloc();
+    let note = note_of_list(faulty.fault.code, is_empty);
     let help = match faulty.fault.code {
-        Code::TooMany => TextBuilder::of(alloc, "allowed: at most 64"),
-        Code::TiledMisfit => tiled_formats(alloc)?,
-        Code::BadUsage => help_allowed(alloc, "allowed", FaultPlace::At(Field::Usage), false),
-        _ if is_empty => help_allowed(alloc, "needed", at, faulty.is_platform),
-        code => return first_like(alloc, faulty, code),
+        Code::TooMany => Help::of_text(alloc, "allowed: at most 64"),
+        Code::TiledMisfit => Help::of(tiled_formats(alloc)?),
+        Code::BadUsage => {
+            let at = FaultPlace::At(Field::Usage);
+            Help::of(help_allowed(alloc, "allowed", at, false))
+        }
+        _ if is_empty => faulty.allowed(alloc, "needed"),
+        _ => return point_again(items, faulty, note),
     };
-    let help = help.done()?;
-    Ok(vec![in alloc; help]?)
+    faulty.advise(items, faulty.path, RecordPart::Value, note, help);
+    Ok(())
 }
 
-/// Where what is given twice stands first, and which names count as equal.
-fn first_like(
-    alloc: Global,
-    faulty: Faulty<'_, '_>,
-    code: Code,
-) -> Result<Vec<String>, AllocError> {
+/// Points at what is given twice, with where it stands first, and which names count as equal.
+fn point_again(items: &mut Items, faulty: Faulty<'_, '_>, note: &str) -> Result<(), AllocError> {
+    let (document, path) = (faulty.document, faulty.path);
+    let helps = first_like(items.alloc(), faulty)?;
+    document.point(items, faulty.depth, path, RecordPart::Value, note, &helps);
+    Ok(())
+}
+
+/// `first at calls[4].constraints.usage[0]`, if it is found; and that an absent modifier has a name.
+fn first_like(alloc: Global, faulty: Faulty<'_, '_>) -> Result<Vec<String>, AllocError> {
+    let code = faulty.fault.code;
     let mut helps = ListBuilder::new(alloc);
-    if let Some(first) = first_words(alloc, faulty, code)? {
-        helps.add(first);
+    let mut words = TextBuilder::of(alloc, "first at ");
+    if put_first_like(&mut words, faulty.document.value, faulty.path, code) {
+        helps.add_words(words);
     }
     if code == Code::RepeatedPair {
         helps.add_words(TextBuilder::of(alloc, "an absent modifier is LINEAR"));
     }
     helps.done()
-}
-
-/// `first at calls[4].constraints.usage[0]`.
-fn first_words(
-    alloc: Global,
-    faulty: Faulty<'_, '_>,
-    code: Code,
-) -> Result<Option<String>, AllocError> {
-    let mut words = TextBuilder::of(alloc, "first at ");
-    let is_found = put_first_like(&mut words, faulty.document.value, faulty.path, code);
-    let first = words.done()?;
-    Ok(if is_found { Some(first) } else { None })
 }

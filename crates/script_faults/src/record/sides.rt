@@ -1,8 +1,9 @@
 //! A width and a height that are given otherwise than as an object with these keys.
 
 use crate::record::keys::{Table, found};
+use explanation_text::TextBuilder;
 use serde_json::Value;
-use std::alloc::{AllocError, Global};
+use std::alloc::Global;
 
 /// Other people's words for the sides of a size.
 const SIDES_OF_WORDS: Table = &[
@@ -61,7 +62,12 @@ pub(crate) fn sides_in(value: &Value) -> Option<(u64, u64)> {
 }
 
 /// A size with these sides, as JSON.
-pub(crate) fn size_text(alloc: Global, sides: (u64, u64)) -> Result<String, AllocError> {
+pub(crate) fn size_text(alloc: Global, sides: (u64, u64)) -> TextBuilder {
     let (width, height) = sides;
-    format!(in alloc; "{{\"width\": {width}, \"height\": {height}}}")
+    let mut text = TextBuilder::of(alloc, "{\"width\": ");
+    text.put_number(width)
+        .put(", \"height\": ")
+        .put_number(height)
+        .put("}");
+    text
 }

@@ -1,10 +1,9 @@
 //! What may be meant by a key that isn't known.
 
-use crate::help::{Help, did_you_mean};
+use crate::help::{Help, did_you_mean, listed};
 use crate::record::alike::begins_alike;
 use crate::record::keys::{is_one_of, kind_at, names_of, put_allowed};
 use crate::record::kinds::may_stand;
-use crate::record::names::listed;
 use crate::record::other_words::fields_of_words;
 use crate::record::owners::{OWNERS, fields_of, owner_of};
 use explanation_text::{Owner, TextBuilder, nearest};

@@ -4,9 +4,7 @@
 ghost use Rattle.std.specs.Prelude.{◌≡◌};
 ghost use Rattle.sysmem_room.specs.Counting.{all_parts};
 
-use super::handling::{
-    accepted, bound, child, closed, counted, released, released_group, root, waits_for,
-};
+use super::handling::{bound, child, closed, counted, released, released_group, root, waits_for};
 use super::slots::{emptied, take_part};
 use crate::equal::is_equal;
 use crate::gate::{GateCounts, Meeting, comes, fresh};
@@ -18,11 +16,10 @@ use std::process::Abort;
 use std::sync::atomic::{AtomicU64, Ordering};
 use std::sync::ledger::{Blank, Ledger};
 use std::sync::{Arc, Mutex, Wait};
-use std::test::Fail;
 use std::thread;
 use std::thread::Threads;
 use std::time::Clock;
-use sysmem_participants::{Allocator, Audit, AuditFault, Collection, Stub, Token};
+use sysmem_participants::{Allocator, Audit, AuditFault, Collection, Group, Stub, Token};
 use sysmem_search::Gate;
 use sysmem_tree::Refusal;
 
@@ -110,7 +107,7 @@ fn attach_meanwhile<L: Ledger, G: Gate + Drop + Sync, R: Threads + Wait + Abort 
 ) -> Token<L, G> {
     is_equal(rt, "held", &comes(rt, &held.entered, stage), &true);
     is_equal(rt, "check", &waiting.check().err(), &Some(Refusal::Pending));
-    let attached = accepted(rt, "attach_token", waiting.attach_token(rt));
+    let attached = waiting.attach_token(rt).expect(rt, "attach_token");
     is_equal(rt, "check", &waiting.check().err(), &Some(Refusal::Pending));
     attached
 }
@@ -178,15 +175,12 @@ fn hold<
 }
 
 // What participants ask: the first camps on two buffers, the second on three, of nine together.
-fn both_asked(alloc: Global) -> Result<[Arc<Constraints>; 2], Fail> {
-    let first = asked(alloc, "camps_on_2_and_slack")?;
-    Ok([first, asked(alloc, "camps_on_3")?])
+fn both_asked(rt: &impl Abort, alloc: Global) -> [Arc<Constraints>; 2] {
+    let first = asked(rt, alloc, "camps_on_2_and_slack");
+    [first, asked(rt, alloc, "camps_on_3")]
 }
 
-fn is_decided_outside<R: Threads + Wait + Abort + Clock + Sync>(
-    rt: &R,
-    alloc: Global,
-) -> Result<(), Fail> {
+fn is_decided_outside<R: Threads + Wait + Abort + Clock + Sync>(rt: &R, alloc: Global) {
     let (held, let_go) = (fresh(), AtomicU64::new(0));
     let gate = Stages {
         clock: rt,
@@ -195,14 +189,14 @@ fn is_decided_outside<R: Threads + Wait + Abort + Clock + Sync>(
         visits: AtomicU64::new(0),
         proofs: AtomicU64::new(0),
     };
-    let both = both_asked(alloc)?;
-    let allocator = Allocator::new(alloc, platform(alloc)?, gate)?;
+    let both = both_asked(rt, alloc);
+    let made = Allocator::new(alloc, platform(rt, alloc), gate);
+    let allocator = made.expect(rt, "allocator");
     let blank = Blank::new(129);
     let found = hold::<Brand, Stages<'_, R>, R>(
         rt, alloc, &allocator, blank, &both, &held, &let_go,
     );
     is_audited(rt, &held, found, [6, 15, 4]);
-    Ok(())
 }
 
 // So many nodes, actions and decisions were counted, and nothing was held in vain.
@@ -223,8 +217,20 @@ fn is_audited(
 }
 
 #[test]
-fn others_act_while_a_decision_is_taken(rt: HostRuntime) -> Result<(), Fail> {
-    is_decided_outside(&rt, rt.alloc())
+fn others_act_while_a_decision_is_taken(rt: HostRuntime) {
+    is_decided_outside(&rt, rt.alloc());
+}
+
+// A complete group of two below the root, and its children.
+fn group_of_two<L: Ledger, G: Gate + Drop + Sync, R: Threads + Wait + Abort + Sync>(
+    rt: &R,
+    root: &mut Token<L, G>,
+) -> (Group<L, G>, [Token<L, G>; 2]) {
+    let mut group = root.create_group(rt).expect(rt, "create_group");
+    let a = group.create_child(rt).expect(rt, "create_child");
+    let b = group.create_child(rt).expect(rt, "create_child");
+    is_equal(rt, "complete", &group.all_children_present(rt), &Ok(()));
+    (group, [a, b])
 }
 
 // A group of two, of whom either would do: the first is chosen. What an audit finds of the four
@@ -242,10 +248,7 @@ fn choose<L: Ledger, G: Gate + Drop + Sync, R: Threads + Wait + Abort + Sync>(
 {
     let [first, second] = asked;
     let mut root = root::<L, G>(rt, allocator, blank);
-    let mut group = accepted(rt, "create_group", root.create_group(rt));
-    let a = accepted(rt, "create_child", group.create_child(rt));
-    let b = accepted(rt, "create_child", group.create_child(rt));
-    is_equal(rt, "complete", &group.all_children_present(rt), &Ok(()));
+    let (group, [a, b]) = group_of_two(rt, &mut root);
     let root = released(rt, root);
     let group = released_group(rt, group);
     let mut a = bound(rt, a, Arc::try_clone(first).ok());
@@ -255,26 +258,23 @@ fn choose<L: Ledger, G: Gate + Drop + Sync, R: Threads + Wait + Abort + Sync>(
     counted(rt, alloc, [root, group, closed(rt, a), closed(rt, b)])
 }
 
-fn is_decided_by_two<R: Threads + Wait + Abort + Clock + Sync>(
-    rt: &R,
-    alloc: Global,
-) -> Result<(), Fail> {
+fn is_decided_by_two<R: Threads + Wait + Abort + Clock + Sync>(rt: &R, alloc: Global) {
     let held = fresh();
     let gate = Meeting {
         clock: rt,
         held: &held,
         wanted: 2,
     };
-    let both = both_asked(alloc)?;
-    let allocator = Allocator::with_workers(alloc, platform(alloc)?, gate, 2)?;
+    let both = both_asked(rt, alloc);
+    let made = Allocator::with_workers(alloc, platform(rt, alloc), gate, 2);
+    let allocator = made.expect(rt, "with_workers");
     let found = choose::<Brand, Meeting<'_, R>, R>(rt, alloc, &allocator, Blank::new(129), &both);
     is_audited(rt, &held, found, [4, 12, 1]);
-    Ok(())
 }
 
 #[test]
-fn two_workers_take_a_decision(rt: HostRuntime) -> Result<(), Fail> {
-    is_decided_by_two(&rt, rt.alloc())
+fn two_workers_take_a_decision(rt: HostRuntime) {
+    is_decided_by_two(&rt, rt.alloc());
 }
 
 // A group of two tokens, who ask for nothing.
@@ -282,10 +282,7 @@ fn add_group<L: Ledger, G: Gate + Drop + Sync, R: Threads + Wait + Abort + Sync>
     rt: &R,
     root: &mut Token<L, G>,
 ) {
-    let mut group = accepted(rt, "create_group", root.create_group(rt));
-    let a = accepted(rt, "create_child", group.create_child(rt));
-    let b = accepted(rt, "create_child", group.create_child(rt));
-    is_equal(rt, "complete", &group.all_children_present(rt), &Ok(()));
+    let (group, [a, b]) = group_of_two(rt, root);
     let _a = released(rt, a);
     let _b = released(rt, b);
     let _group = released_group(rt, group);
@@ -311,25 +308,22 @@ fn choose_of_many<L: Ledger, G: Gate + Drop + Sync, R: Threads + Wait + Abort + 
     let _root = closed(rt, root);
 }
 
-fn is_long_for_one<R: Threads + Wait + Abort + Clock + Sync>(
-    rt: &R,
-    alloc: Global,
-) -> Result<(), Fail> {
+fn is_long_for_one<R: Threads + Wait + Abort + Clock + Sync>(rt: &R, alloc: Global) {
     let held = fresh();
     let gate = Meeting {
         clock: rt,
         held: &held,
         wanted: 2,
     };
-    let asked = asked(alloc, "camps_on_2")?;
-    let allocator = Allocator::new(alloc, large_platform(alloc)?, gate)?;
+    let asked = asked(rt, alloc, "camps_on_2");
+    let made = Allocator::new(alloc, large_platform(rt, alloc), gate);
+    let allocator = made.expect(rt, "allocator");
     choose_of_many::<Brand, Meeting<'_, R>, R>(rt, &allocator, Blank::new(129), &asked);
     is_equal(rt, "held in vain", &held.in_vain.load(Ordering::SeqCst), &0);
-    Ok(())
 }
 
 // Who doesn't say how many workers there are has two where a search is long.
 #[test]
-fn two_workers_take_a_long_decision(rt: HostRuntime) -> Result<(), Fail> {
-    is_long_for_one(&rt, rt.alloc())
+fn two_workers_take_a_long_decision(rt: HostRuntime) {
+    is_long_for_one(&rt, rt.alloc());
 }

@@ -15,15 +15,6 @@ use sysmem_participants::{
 };
 use sysmem_proof::check;
 use sysmem_search::Gate;
-use sysmem_tree::Refusal;
-
-/// What a call gives that has to be accepted.
-pub(crate) fn accepted<T>(rt: &impl Abort, name: &str, answer: Result<T, Refusal>) -> T {
-    match answer {
-        Ok(given) => given,
-        Err(refusal) => panic!(rt; "{name} answers {}", refusal.name()),
-    }
-}
 
 /// The root of a new collection.
 pub(crate) fn root<L: Ledger, G: Gate + Drop + Sync>(
@@ -35,10 +26,9 @@ pub(crate) fn root<L: Ledger, G: Gate + Drop + Sync>(
     requires ledger { blank.parts ≡ L.parts }
     requires parts { blank.parts ≡ all_parts }
 {
-    match allocator.allocate_shared(blank) {
-        Ok(token) => token,
-        Err(refusal) => panic!(rt; "allocate_shared answers {}", refusal.name()),
-    }
+    allocator
+        .allocate_shared(blank)
+        .expect(rt, "allocate_shared")
 }
 
 /// A child of a token.
@@ -51,7 +41,7 @@ pub(crate) fn child<L: Ledger, G: Gate + Drop + Sync, R: Threads + Wait + Abort 
 {
     match token.duplicate(rt) {
         Ok(child) => child,
-        Err(refusal) => panic!(rt; "duplicate answers {}", refusal.name()),
+        Err(_refusal) => panic!(rt; "duplicate is refused"),
     }
 }
 
@@ -67,8 +57,8 @@ pub(crate) fn bound<L: Ledger, G: Gate + Drop + Sync, R: Threads + Wait + Abort 
         Ok(collection) => collection,
         Err(_refused) => panic!(rt; "bind is refused"),
     };
-    if let Err(refusal) = collection.set_constraints(rt, asked) {
-        panic!(rt; "set_constraints answers {}", refusal.name());
+    if let Err(_refusal) = collection.set_constraints(rt, asked) {
+        panic!(rt; "set_constraints is refused");
     }
     collection
 }
@@ -143,6 +133,6 @@ pub(crate) fn waits_for<L: Ledger, G: Gate + Drop + Sync, R: Threads + Wait + Ab
 {
     match collection.wait_for_all(rt) {
         Ok(view) => shows(rt, &view, count),
-        Err(refusal) => panic!(rt; "wait_for_all answers {}", refusal.name()),
+        Err(_refusal) => panic!(rt; "wait_for_all is refused"),
     }
 }

@@ -3,9 +3,7 @@
 ghost use Rattle.std.specs.Prelude.{◌≡◌};
 ghost use Rattle.sysmem_room.specs.Counting.{all_parts};
 
-use super::handling::{
-    accepted, bound, child, closed, counted, released, released_group, root, waits_for,
-};
+use super::handling::{bound, child, closed, counted, released, released_group, root, waits_for};
 use crate::equal::is_equal;
 use crate::steps::{asked, platform};
 use negotiation_inputs::Constraints;
@@ -15,7 +13,6 @@ use std::marker::Brand;
 use std::process::Abort;
 use std::sync::ledger::{Blank, Ledger};
 use std::sync::{Arc, Wait};
-use std::test::Fail;
 use std::thread::Threads;
 use sysmem_participants::{Allocator, Audit, AuditFault, Stub, Token};
 use sysmem_search::{Gate, NoGate};
@@ -35,8 +32,8 @@ fn fill<L: Ledger, G: Gate + Drop + Sync, R: Threads + Wait + Abort + Sync>(
     client: &mut Token<L, G>,
 ) -> [Stub<L>; 4] {
     let mut friend = child(rt, client);
-    let mut group = accepted(rt, "create_group", friend.create_group(rt));
-    let mut alternative = accepted(rt, "create_child", group.create_child(rt));
+    let mut group = friend.create_group(rt).expect(rt, "create_group");
+    let mut alternative = group.create_child(rt).expect(rt, "create_child");
     let last = child(rt, &mut alternative);
     is_spent(rt, "the client's", client.duplicate(rt));
     is_spent(rt, "the friend's", friend.create_group(rt));
@@ -84,10 +81,12 @@ fn host<L: Ledger, G: Gate + Drop + Sync, R: Threads + Wait + Abort + Sync>(
     )
 }
 
-fn is_within_limits<R: Threads + Wait + Abort + Sync>(rt: &R, alloc: Global) -> Result<(), Fail> {
-    let asked = asked(alloc, "camps_on_2_and_slack")?;
+fn is_within_limits<R: Threads + Wait + Abort + Sync>(rt: &R, alloc: Global) {
+    let asked = asked(rt, alloc, "camps_on_2_and_slack");
     let limits = Limits { offspring: Some(4) };
-    let allocator = Allocator::with_limits(alloc, platform(alloc)?, NoGate, limits)?;
+    let platform = platform(rt, alloc);
+    let made = Allocator::with_limits(alloc, platform, NoGate, limits);
+    let allocator = made.expect(rt, "with_limits");
     let found = host::<Brand, NoGate, R>(rt, alloc, &allocator, Blank::new(129), &asked);
     let wanted = Audit {
         nodes: 12,
@@ -95,12 +94,11 @@ fn is_within_limits<R: Threads + Wait + Abort + Sync>(rt: &R, alloc: Global) -> 
         decisions: 1,
     };
     is_equal(rt, "audit", &found, &Ok(wanted));
-    Ok(())
 }
 
 // Each client has a count of its own, of all that it made and that was made of it, and the root has
 // none. What is refused enters nothing.
 #[test]
-fn no_client_makes_more_than_a_host_allows(rt: HostRuntime) -> Result<(), Fail> {
-    is_within_limits(&rt, rt.alloc())
+fn no_client_makes_more_than_a_host_allows(rt: HostRuntime) {
+    is_within_limits(&rt, rt.alloc());
 }

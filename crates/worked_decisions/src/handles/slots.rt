@@ -18,9 +18,7 @@ pub(super) fn take_part<L: Ledger, G: Gate + Drop + Sync, R: Threads + Wait + Ab
     asked: &Arc<Constraints>,
 ) -> Stub<L> {
     let taken = slot.lock(rt).take();
-    let Some(token) = taken else {
-        panic!(rt; "the slot is empty");
-    };
+    let token = taken.expect(rt, "the slot has a token");
     let mut collection = bound(rt, token, Arc::try_clone(asked).ok());
     waits_for(rt, &mut collection, 9);
     closed(rt, collection)
