@@ -213,7 +213,7 @@ def changed(script, words):
     holds = re.fullmatch(r"(\w+) (?:(true|false)|\(absent, so (?:true|false)\)) becomes (true|false)", what)
     whole = re.fullmatch(r"(\w+_for_camping) (\d+) becomes (min_buffer_count) \2 \(a count of all buffers\)", what)
     if whole:
-        judge(whole[3] not in constraints, f"{whole[3]} is stated")
+        judge(not constraints.get(whole[3]), f"{whole[3]} is stated")
         with_field(constraints, whole[1], whole[2], lambda place: place.pop(whole[1]))
         constraints[whole[3]] = int(whole[2])
     elif lacks:
@@ -248,7 +248,7 @@ def compare_lines(name, words, text):
         elif "(absent" in what:
             keys = ['"constraints"', f'"{MEMORY}"']
         elif what.endswith(" (a count of all buffers)"):
-            keys = ['"constraints"', '"min_buffer_count_for_camping"']
+            keys = ['"constraints"', '"min_buffer_count_for_camping"', '"min_buffer_count"']
         elif what.startswith("pixel_format "):
             keys = [f'"{ENTRIES}"']
         else:
