@@ -28,6 +28,7 @@ pub(crate) fn add_choice(
         platform,
         story,
         root: domain.root,
+        late: None,
     };
     if let Some(host) = domain.host {
         add_late_left_out(items, selections, index, domain)?;

@@ -161,6 +161,7 @@ pub(crate) fn add_none(
         platform,
         story,
         root: domain.root,
+        late: None,
     };
     let mut told = 0usize;
     add_empty(items, 1, empty, &[], &mut told, story.nodes.len())?;

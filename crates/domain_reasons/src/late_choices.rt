@@ -4,19 +4,22 @@ use crate::combinations::Combination;
 use crate::failing::{add_fewer, add_unsuited};
 use crate::passed_over::next_chosen;
 use crate::room::{accepted_before, add_lacking_with, settings_above};
-use crate::selecting::{Choice, DomainView, SelectedNodes, reach, with_choice};
+use crate::selecting::{Choice, DomainView, add_empty, with_choice};
 use explanation_text::{Items, Label, TextBuilder};
 use script_story::Domain;
 use std::alloc::AllocError;
 use sysmem_merge::Settings;
+use value_sources::NamedParticipant;
 
 /// How many lines are told of a child.
-const MOST: usize = 4;
+const MOST: usize = 12;
 
-/// The domain of an index, which was attached, and the settings that it has.
+/// How many of them are told of those who come together.
+const MOST_TOGETHER: usize = 4;
+
+/// The index of a domain that was attached, and the settings that it has.
 #[derive(Clone, Copy)]
-struct LateDomain<'a, 'b> {
-    view: DomainView<'a, 'b>,
+pub(crate) struct LateDomain<'b> {
     index: usize,
     settings: &'b Settings,
 }
@@ -32,10 +35,11 @@ pub(crate) fn add_late_left_out<'a, 'b>(
     let Some(settings) = settings_above(view.story, domain) else {
         return Ok(());
     };
-    let late = LateDomain {
-        view,
-        index,
-        settings,
+    let late = DomainView {
+        platform: view.platform,
+        story: view.story,
+        root: view.root,
+        late: Some(LateDomain { index, settings }),
     };
     let alloc = items.alloc();
     let mut choices: Vec<Choice> = Vec::new(alloc);
@@ -52,11 +56,11 @@ pub(crate) fn add_late_left_out<'a, 'b>(
 /// Tells why the children before a chosen one don't do beside these choices.
 fn add_earlier(
     items: &mut Items,
-    late: LateDomain<'_, '_>,
+    late: DomainView<'_, '_>,
     choices: &[Choice],
     chosen: Choice,
 ) -> Result<(), AllocError> {
-    for child in &late.view.story.children(items.alloc(), chosen.group)? {
+    for child in &late.story.children(items.alloc(), chosen.group)? {
         if *child == chosen.child {
             break;
         }
@@ -67,47 +71,63 @@ fn add_earlier(
     Ok(())
 }
 
-/// Tells why a child doesn't do beside these choices, as far as it is known.
-fn add_not<'a>(
+/// Tells why a child doesn't do beside these choices, whatever is chosen of the groups that are left.
+fn add_not(
     items: &mut Items,
-    late: LateDomain<'a, '_>,
+    late: DomainView<'_, '_>,
     choices: &[Choice],
     other: Choice,
 ) -> Result<(), AllocError> {
     let alloc = items.alloc();
     let longer = with_choice(alloc, choices, other.group, other.child)?;
-    let SelectedNodes {
-        participants,
-        open: _,
-    } = reach(alloc, late.view, &longer)?;
+    let mut below = Items::new(alloc);
+    let mut told = 0usize;
+    let levels = late.story.nodes.len();
+    add_empty(&mut below, 3, late, &longer, &mut told, levels)?;
+    if !below.is_empty() {
+        let mut words = TextBuilder::of(alloc, "not ");
+        words.name(late.story.called(other.child)).head();
+        items.say(2, Label::Plain, words);
+    }
+    items.append_section(below, 0, MOST)
+}
+
+/// Tells so deep why the settings that were decided don't do for these who come late, if they don't;
+/// and whether that is so.
+pub(crate) fn add_unfit<'a>(
+    items: &mut Items,
+    depth: usize,
+    view: DomainView<'a, '_>,
+    late: LateDomain<'_>,
+    participants: Vec<NamedParticipant<'a>>,
+) -> Result<bool, AllocError> {
+    let alloc = items.alloc();
     let those = Combination {
         participants,
         children: Vec::new(alloc),
     };
-    let mut below = Items::new(alloc);
-    add_why(&mut below, late, &those)?;
-    if !below.is_empty() {
-        let mut words = TextBuilder::of(alloc, "not ");
-        words.name(late.view.story.called(other.child)).head();
-        items.say(2, Label::Plain, words);
-    }
-    items.append_section(below, 2, MOST)
+    let mut why = Items::new(alloc);
+    add_why(&mut why, view, late, &those)?;
+    let is_unfit = !why.is_empty();
+    items.append_section(why, depth.saturating_sub(1), MOST_TOGETHER)?;
+    Ok(is_unfit)
 }
 
 /// Tells why the settings that were decided don't do for these who come late.
 fn add_why<'a>(
     items: &mut Items,
-    late: LateDomain<'a, '_>,
+    view: DomainView<'a, '_>,
+    late: LateDomain<'_>,
     those: &Combination<'a>,
 ) -> Result<(), AllocError> {
-    let story = late.view.story;
+    let story = view.story;
     let count = late.settings.count;
     let _is_told = add_lacking_with(items, story, late.index, those, count)?;
     add_fewer(items, &those.participants, count);
     let before = accepted_before(items.alloc(), story, late.index)?;
     add_unsuited(
         items,
-        late.view.platform,
+        view.platform,
         &those.participants,
         &before,
         late.settings,

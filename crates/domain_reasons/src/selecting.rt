@@ -1,6 +1,7 @@
 //! Why no selection of groups' children has settings.
 
 use crate::choosing::MOST_CHOICES;
+use crate::late_choices::{LateDomain, add_unfit};
 use explanation_text::wording::{put_few, put_joined};
 use explanation_text::{Items, Label, ListBuilder, Name, Text, TextBuilder, are_same};
 use negotiation_inputs::Platform;
@@ -100,6 +101,8 @@ pub(crate) struct DomainView<'a, 'b> {
     pub(crate) platform: &'b Platform,
     pub(crate) story: &'b Story<'a>,
     pub(crate) root: usize,
+    /// Of one that was attached, whose children were chosen for settings that it has from another.
+    pub(crate) late: Option<LateDomain<'b>>,
 }
 
 /// Whom choices select.
@@ -144,16 +147,35 @@ pub(crate) fn add_empty(
     levels: usize,
 ) -> Result<(), AllocError> {
     let alloc = items.alloc();
-    let reached = reach(alloc, empty, choices)?;
-    let whole = reached.open.is_none();
-    if whole || is_unmet(alloc, empty.platform, &reached.participants)? {
-        *told = told.saturating_add(weight_of(empty.platform, reached.participants.len()));
-        return add_conflict(items, depth, empty.platform, &reached.participants, whole);
+    let SelectedNodes { participants, open } = reach(alloc, empty, choices)?;
+    let weight = weight_of(empty.platform, participants.len());
+    if add_failing(items, depth, empty, participants, open.is_none())? {
+        *told = told.saturating_add(weight);
+        return Ok(());
     }
-    let (Some(group), Some(fewer)) = (reached.open, levels.checked_sub(1)) else {
+    let (Some(group), Some(fewer)) = (open, levels.checked_sub(1)) else {
         return Ok(());
     };
     add_group(items, depth, empty, choices, told, fewer, group)
+}
+
+/// Tells why these have no settings whatever is chosen of the groups that are left, none if they are
+/// the `whole`; and whether that is so.
+fn add_failing<'a>(
+    items: &mut Items,
+    depth: usize,
+    empty: DomainView<'a, '_>,
+    participants: Vec<NamedParticipant<'a>>,
+    whole: bool,
+) -> Result<bool, AllocError> {
+    if let Some(late) = empty.late {
+        return add_unfit(items, depth, empty, late, participants);
+    }
+    if !whole && !is_unmet(items.alloc(), empty.platform, &participants)? {
+        return Ok(false);
+    }
+    add_conflict(items, depth, empty.platform, &participants, whole)?;
+    Ok(true)
 }
 
 /// For how many failing selections one of so many participants counts: to find out who is in the way
@@ -231,8 +253,10 @@ fn put_cases(items: &mut Items, depth: usize, group: Name<'_>, cases: Vec<Case<'
 
 /// Puts what holds for some children of a group after the items.
 fn put_case(items: &mut Items, depth: usize, group: Name<'_>, case: Case<'_>) {
-    let head = head_of(items.alloc(), group, &case.names);
-    items.say(depth, Label::Plain, head);
+    if !case.below.is_empty() {
+        let head = head_of(items.alloc(), group, &case.names);
+        items.say(depth, Label::Plain, head);
+    }
     items.append(case.below)
 }
 

@@ -42,6 +42,7 @@ fn add_reasons<'a, 'b>(
         platform,
         story,
         root: domain.root,
+        late: None,
     };
     add_left_out(items, selections)
 }

@@ -332,8 +332,19 @@ impl<'b, 'a> Refused<'b, 'a> {
         if domain.became == Became::Failed {
             return;
         }
-        text.put(": move it after call ")
-            .call(domain.ended.unwrap_or(0));
+        self.put_when(text, node, domain.ended.unwrap_or(0))
+    }
+
+    /// Puts that a call which asks for the verdict on a node is to be moved after the call of the
+    /// number `ended`, with which it comes; or who has released the node by then.
+    fn put_when(self, text: &mut TextBuilder, node: usize, ended: usize) {
+        let next = ended.saturating_add(1);
+        if let Some(gone) = self.story.milestone_before(node, Milestone::End, next) {
+            text.put(": a verdict comes only after call ").call(ended);
+            text.put(", when call ").call(gone).put(" has released ");
+            return self.call.put_on(text);
+        }
+        text.put(": move it after call ").call(ended);
         if let Act::Check = self.call.act {
             text.put(", or use wait");
         }

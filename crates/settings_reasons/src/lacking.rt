@@ -11,10 +11,12 @@ use sysmem_image::{ColourSet, Entry};
 use sysmem_memory::Heap;
 use value_sources::{NamedParticipant, put_has};
 
-/// Something that a participant names.
+/// Something that a participant names or requires.
 #[derive(Drop)]
 struct LackedName<'a> {
     name: Text,
+    /// What one does who names it, and what several do.
+    words: (&'static str, &'static str),
     participants: Vec<NamedParticipant<'a>>,
 }
 
@@ -32,7 +34,7 @@ pub(crate) fn add_no_images(
         }
     }
     let count = parties.participants.len();
-    add_lacked_rows(items, depth, &lacked, count, ("takes it", "take it"))
+    add_lacked_rows(items, depth, &lacked, count)
 }
 
 /// Adds what a participant's entry names, if the platform lacks it.
@@ -50,28 +52,68 @@ fn add_lacked<'a>(
     if has_pair {
         name.put(" in any of its colour spaces");
     }
-    add_named(lacked, name.into_text()?, participant)
+    let words = ("takes it", "take it");
+    add_named(lacked, name.into_text()?, words, participant)
 }
 
-/// Tells which heaps participants permit and the platform lacks, those that most permit first.
+/// Tells which heaps participants permit, and which kinds of heaps they require, that the platform
+/// lacks, those of most first.
 pub(crate) fn add_no_heaps(
     items: &mut Items,
     depth: usize,
     parties: Parties<'_, '_>,
 ) -> Result<(), AllocError> {
-    let alloc = items.alloc();
-    let mut lacked: Vec<LackedName<'_>> = Vec::new(alloc);
+    let mut lacked: Vec<LackedName<'_>> = Vec::new(items.alloc());
     for participant in parties.participants {
-        for heap in &participant.asked.memory().permitted_heaps {
-            if !has_heap(parties.platform, heap) {
-                let mut name = TextBuilder::of(alloc, &heap.heap_type);
-                name.put("#").put_number(heap.id);
-                add_named(&mut lacked, name.into_text()?, participant)?;
-            }
-        }
+        add_lacked_heaps(&mut lacked, parties.platform, participant)?;
+        add_lacked_kinds(&mut lacked, parties.platform, participant)?;
     }
     let count = parties.participants.len();
-    add_lacked_rows(items, depth, &lacked, count, ("permits it", "permit it"))
+    add_lacked_rows(items, depth, &lacked, count)
+}
+
+/// Adds the heaps that a participant permits and the platform lacks.
+fn add_lacked_heaps<'a>(
+    lacked: &mut Vec<LackedName<'a>>,
+    platform: &Platform,
+    participant: &NamedParticipant<'a>,
+) -> Result<(), AllocError> {
+    for heap in &participant.asked.memory().permitted_heaps {
+        if !has_heap(platform, heap) {
+            let mut name = TextBuilder::of(*lacked.allocator(), &heap.heap_type);
+            name.put("#").put_number(heap.id);
+            let words = ("permits it", "permit it");
+            add_named(lacked, name.into_text()?, words, participant)?;
+        }
+    }
+    Ok(())
+}
+
+/// Adds the kinds of heaps that a participant requires and the platform lacks.
+fn add_lacked_kinds<'a>(
+    lacked: &mut Vec<LackedName<'a>>,
+    platform: &Platform,
+    participant: &NamedParticipant<'a>,
+) -> Result<(), AllocError> {
+    let memory = participant.asked.memory();
+    let heaps = platform.heaps();
+    if memory.physically_contiguous_required && !heaps.iter().any(|info| info.contiguous) {
+        add_required(lacked, "a contiguous heap", participant)?;
+    }
+    if memory.secure_required && !heaps.iter().any(|info| info.secure) {
+        add_required(lacked, "a secure heap", participant)?;
+    }
+    Ok(())
+}
+
+/// Adds that a participant requires something.
+fn add_required<'a>(
+    lacked: &mut Vec<LackedName<'a>>,
+    what: &str,
+    participant: &NamedParticipant<'a>,
+) -> Result<(), AllocError> {
+    let name = TextBuilder::of(*lacked.allocator(), what).into_text()?;
+    add_named(lacked, name, ("requires it", "require it"), participant)
 }
 
 /// Whether the platform has a pair that an entry takes.
@@ -103,10 +145,11 @@ fn has_heap(platform: &Platform, heap: &Heap) -> bool {
     false
 }
 
-/// Adds that a participant names something.
+/// Adds that a participant names something, which is said in words.
 fn add_named<'a>(
     lacked: &mut Vec<LackedName<'a>>,
     name: Text,
+    words: (&'static str, &'static str),
     participant: &NamedParticipant<'a>,
 ) -> Result<(), AllocError> {
     let alloc = name.alloc();
@@ -118,6 +161,7 @@ fn add_named<'a>(
     }
     lacked.push(LackedName {
         name,
+        words,
         participants: vec![in alloc; *participant]?,
     })?;
     Ok(())
@@ -129,7 +173,6 @@ fn add_lacked_rows(
     depth: usize,
     lacked: &[LackedName<'_>],
     participants: usize,
-    words: (&str, &str),
 ) -> Result<(), AllocError> {
     if lacked.is_empty() {
         return Ok(());
@@ -138,7 +181,7 @@ fn add_lacked_rows(
     let mut rows: Vec<FailureRow> = Vec::new(items.alloc());
     for named in lacked {
         let far = participants.saturating_sub(named.participants.len());
-        add_lacked_row(&mut rows, named, far, words)?;
+        add_lacked_row(&mut rows, named, far)?;
     }
     let below = depth.saturating_add(1);
     add_rows(items, below, &rows, usize::MAX, " aren't there either");
@@ -150,9 +193,8 @@ fn add_lacked_row(
     rows: &mut Vec<FailureRow>,
     named: &LackedName<'_>,
     far: usize,
-    words: (&str, &str),
 ) -> Result<(), AllocError> {
-    let (one, many) = words;
+    let (one, many) = named.words;
     let alloc = *rows.allocator();
     let mut text = TextBuilder::new(alloc);
     put_has(&mut text, &named.participants, one, many);
