@@ -1,6 +1,7 @@
 //! What decided each value of a choice.
 
 use crate::later_places::{add_later_places, later_words};
+use crate::limiting::{Limit, put_limit, put_side_limits};
 use crate::listed::listed_before;
 use crate::offer_words::{least_side, offer_name};
 use crate::offering::{are_refused, offers_of};
@@ -30,21 +31,23 @@ pub fn add_settings(
         participants,
         whole: true,
     };
-    add_count(items, participants, settings.count);
-    add_chosen_place(items, parties, settings.place)?;
-    add_offer(items, parties, settings.offer)?;
     let wishes = Wishes {
         participants,
         offer: settings.offer,
     };
+    add_count(items, wishes, settings.count);
+    add_chosen_place(items, parties, settings.place)?;
+    add_offer(items, parties, settings.offer)?;
     add_sides(items, wishes)?;
     let size = wishes.size(items.alloc(), false);
-    add_derived(items, Label::Size, size);
+    add_derived(items, Label::Size, wishes, size, Limit::Size);
     note_size(items, wishes)
 }
 
-/// Tells the count, and where it comes from, if it is the least that the participants need.
-fn add_count(items: &mut Items, participants: &[NamedParticipant<'_>], count: u32) {
+/// Tells the count, where it comes from, if it is the least that the participants need, and who
+/// limits it.
+fn add_count(items: &mut Items, wishes: Wishes<'_, '_>, count: u32) {
+    let participants = wishes.participants;
     let mut words = TextBuilder::new(items.alloc());
     words.value(u128::from(count));
     if let Some(least) = LeastCount::of(participants) {
@@ -53,22 +56,34 @@ fn add_count(items: &mut Items, participants: &[NamedParticipant<'_>], count: u3
             words.put(mark).put_words(&least.why(items.alloc()));
         }
     }
+    put_limit(&mut words, wishes, Limit::Count);
     items.say(1, Label::Count, words)
 }
 
-/// Tells a number, and where it comes from; refuses the items where memory was refused to that.
-fn add_derived(items: &mut Items, label: Label, derived: Result<DerivedNumber, AllocError>) {
+/// Tells a number, where it comes from, and who limits it; refuses the items where memory was
+/// refused to that.
+fn add_derived(
+    items: &mut Items,
+    label: Label,
+    wishes: Wishes<'_, '_>,
+    derived: Result<DerivedNumber, AllocError>,
+    limit: Limit,
+) {
     match derived {
-        Ok(derived) => add_number(items, label, &derived),
+        Ok(derived) => {
+            let mut words = number_words(items.alloc(), &derived);
+            put_limit(&mut words, wishes, limit);
+            items.say(1, label, words)
+        }
         Err(AllocError) => items.refuse(),
     }
 }
 
-/// Tells a number, and where it comes from.
-fn add_number(items: &mut Items, label: Label, derived: &DerivedNumber) {
-    let mut words = TextBuilder::new(items.alloc());
+/// A number, and where it comes from.
+fn number_words(alloc: Global, derived: &DerivedNumber) -> TextBuilder {
+    let mut words = TextBuilder::new(alloc);
     words.value(derived.value).put(": ").put_text(&derived.why);
-    items.say(1, label, words)
+    words
 }
 
 /// Notes sides and rows that come out more than twice as great as anybody asks: mostly a multiple
@@ -282,32 +297,62 @@ fn around<'a, T: PartialEq>(list: &'a [T], one: &T) -> (&'a [T], &'a [T]) {
     (list, &[])
 }
 
-/// Tells where an image's width, height and row come from.
+/// Tells where an image's width, height and row come from, and who limits them.
 fn add_sides(items: &mut Items, wishes: Wishes<'_, '_>) -> Result<(), AllocError> {
     let Offer::Image(_, _) = wishes.offer else {
         return Ok(());
     };
     let alloc = items.alloc();
     let width = wishes.side(alloc, Side::Width)?;
-    add_width(items, &width, &wishes.side(alloc, Side::Height)?);
-    add_derived(items, Label::Row, wishes.row(alloc, false));
+    let height = wishes.side(alloc, Side::Height)?;
+    if width.why == height.why {
+        add_both_sides(items, wishes, &width, &height);
+    } else {
+        add_each_side(items, wishes, &width, &height);
+    }
+    add_derived(
+        items,
+        Label::Row,
+        wishes,
+        wishes.row(alloc, false),
+        Limit::Row,
+    );
     Ok(())
 }
 
-/// Tells where an image's width and height come from: both at once, if from the same.
-fn add_width(items: &mut Items, width: &DerivedNumber, height: &DerivedNumber) {
-    if width.why == height.why {
-        let mut words = TextBuilder::new(items.alloc());
-        words
-            .put_number(width.value)
-            .put("x")
-            .put_number(height.value);
-        tell_sides(&mut words, width.value, height.value);
-        words.put(": ").put_text(&width.why);
-        return items.say(1, Label::Pixels, words);
-    }
-    add_number(items, Label::Width, width);
-    add_number(items, Label::Height, height)
+/// Tells where an image's width and height come from, if from the same.
+fn add_both_sides(
+    items: &mut Items,
+    wishes: Wishes<'_, '_>,
+    width: &DerivedNumber,
+    height: &DerivedNumber,
+) {
+    let mut words = TextBuilder::new(items.alloc());
+    words
+        .put_number(width.value)
+        .put("x")
+        .put_number(height.value);
+    tell_sides(&mut words, width.value, height.value);
+    words.put(": ").put_text(&width.why);
+    put_side_limits(&mut words, wishes);
+    put_limit(&mut words, wishes, Limit::Pixels);
+    items.say(1, Label::Pixels, words)
+}
+
+/// Tells where an image's width and height come from, each by itself.
+fn add_each_side(
+    items: &mut Items,
+    wishes: Wishes<'_, '_>,
+    width: &DerivedNumber,
+    height: &DerivedNumber,
+) {
+    let mut words = number_words(items.alloc(), width);
+    put_limit(&mut words, wishes, Limit::Side(Side::Width));
+    items.say(1, Label::Width, words);
+    let mut words = number_words(items.alloc(), height);
+    put_limit(&mut words, wishes, Limit::Side(Side::Height));
+    put_limit(&mut words, wishes, Limit::Pixels);
+    items.say(1, Label::Height, words)
 }
 
 /// Keeps the sides that a text tells.

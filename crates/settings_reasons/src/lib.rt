@@ -19,6 +19,7 @@ mod fixed;
 mod lacking;
 mod later;
 mod later_places;
+mod limiting;
 mod listed;
 mod misfit;
 mod offer_reason;
