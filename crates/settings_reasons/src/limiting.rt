@@ -59,7 +59,7 @@ struct Limiting<'a> {
 }
 
 /// Who limits a number, where somebody limits it to less than the greatest of 32 bits.
-fn limiting<'a>(
+fn limits<'a>(
     alloc: Global,
     wishes: Wishes<'a, '_>,
     limit: Limit,
@@ -88,7 +88,7 @@ fn limiting<'a>(
 
 /// Puts who limits a number after a text, with how much they take at most, if anybody does.
 pub(crate) fn put_limit(text: &mut TextBuilder, wishes: Wishes<'_, '_>, limit: Limit) {
-    match limiting(text.alloc(), wishes, limit) {
+    match limits(text.alloc(), wishes, limit) {
         Ok(Some(limited)) => {
             put_those(text, &limited, "");
             text.put_number(limited.most);
@@ -102,8 +102,8 @@ pub(crate) fn put_limit(text: &mut TextBuilder, wishes: Wishes<'_, '_>, limit: L
 /// Puts who limits width and height after a text: at once where these are the same.
 pub(crate) fn put_side_limits(text: &mut TextBuilder, wishes: Wishes<'_, '_>) {
     let alloc = text.alloc();
-    let width = limiting(alloc, wishes, Limit::Side(Side::Width));
-    let height = limiting(alloc, wishes, Limit::Side(Side::Height));
+    let width = limits(alloc, wishes, Limit::Side(Side::Width));
+    let height = limits(alloc, wishes, Limit::Side(Side::Height));
     match (width, height) {
         (Ok(Some(width)), Ok(Some(height))) if are_same(&width.those, &height.those) => {
             put_those(text, &width, "");
