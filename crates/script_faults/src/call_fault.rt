@@ -588,7 +588,7 @@ fn mean_later(items: &mut Items, faulty: Faulty<'_, '_>, maker: usize) -> Result
 }
 
 /// The only one of the names made on which an actor of the name makes calls, that is longer than the
-/// name or shorter, or on which no call is made; or else these names.
+/// name or shorter and lacks such a call, or on which no call is made; or else these names.
 fn hint_of_made(alloc: Global, faulty: Faulty<'_, '_>, on: &str, made: &[&str]) -> Help {
     if let Some(node) = only_of_actor(faulty.calls, on)
         && is_one_of(node, made)
@@ -600,13 +600,12 @@ fn hint_of_made(alloc: Global, faulty: Faulty<'_, '_>, on: &str, made: &[&str]) 
             .put(" is the actor that makes calls on it");
         return Help::of_node(words, node);
     }
-    let idle = only_idle(faulty.calls, made);
     if let Some(node) = only_longer(made, on)
-        && (idle.is_none() || !has_call(faulty.calls, node, faulty.text("call")))
+        && !has_call(faulty.calls, node, faulty.text("call"))
     {
         return Help::near_node(alloc, node);
     }
-    match idle {
+    match only_idle(faulty.calls, made) {
         Some(idle) => {
             let mut words = did_you_mean(alloc, idle);
             words.put(" No call is made on it");
