@@ -151,6 +151,19 @@ def member_added(text, parts, fault, member):
     return [home.value], [first_in(parts, home, member)]
 
 
+def brace_earlier(text, parts, _fault):
+    """The platform ends before its last member."""
+    part = [one for one in parts.values() if one.path[:-1] == ("platform",)][-1]
+    comma = text.rindex(",", 0, part.start)
+    return [comma], [(comma, comma, "}")]
+
+
+def brace_gone(_text, _parts, fault):
+    """What is at the fault doesn't end where it did."""
+    end = fault.part.end
+    return [end - 1], [(end - 1, end, " ")]
+
+
 def bracketed(text, _parts, fault, what):
     """A value stands in brackets."""
     part = fault.part
@@ -195,6 +208,8 @@ AT_FAULTS = {
     r'("\w+": .+) added': member_added,
     r"brackets around (.+)": bracketed,
     r"call (\d+) left out": call_left_out,
+    r"\} added": brace_earlier,
+    r"\} left out": brace_gone,
     r"(.*) left out": left_out,
     r"([\[{].+[\]}]) in the place of (.+)": json_written,
     r"(?:(\w+) )?(\S+) in the place of (.*)": replaced,

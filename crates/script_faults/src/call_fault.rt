@@ -587,8 +587,8 @@ fn mean_later(items: &mut Items, faulty: Faulty<'_, '_>, maker: usize) -> Result
     Ok(())
 }
 
-/// The only one of the names made on which an actor of the name makes calls, or the only one on which
-/// no call is made; or else these names.
+/// The only one of the names made on which an actor of the name makes calls, that is longer than the
+/// name or shorter and lacks such a call, or on which no call is made; or else these names.
 fn hint_of_made(alloc: Global, faulty: Faulty<'_, '_>, on: &str, made: &[&str]) -> Help {
     if let Some(node) = only_of_actor(faulty.calls, on)
         && is_one_of(node, made)
@@ -599,6 +599,11 @@ fn hint_of_made(alloc: Global, faulty: Faulty<'_, '_>, on: &str, made: &[&str]) 
             .put(on)
             .put(" is the actor that makes calls on it");
         return Help::of_node(words, node);
+    }
+    if let Some(node) = only_longer(made, on)
+        && !has_call(faulty.calls, node, faulty.text("call"))
+    {
+        return Help::near_node(alloc, node);
     }
     match only_idle(faulty.calls, made) {
         Some(idle) => {
@@ -624,6 +629,23 @@ fn only_of_actor<'a>(calls: &'a [Value], actor: &str) -> Option<&'a str> {
         }
     }
     only.name()
+}
+
+/// The only one of some names that begins or ends with a name, or with which that begins or ends;
+/// `None` where there are more, or none.
+fn only_longer<'a>(names: &[&'a str], name: &str) -> Option<&'a str> {
+    let mut only = Only::Nothing;
+    for other in names {
+        if is_part(name, *other) || is_part(*other, name) {
+            only = only.and(*other);
+        }
+    }
+    only.name()
+}
+
+/// Whether another name begins or ends with a name, which is no single letter.
+fn is_part(name: &str, other: &str) -> bool {
+    name.len() > 1 && (other.starts_with(name) || other.ends_with(name))
 }
 
 /// The only one of some names, but for the root's, on which none of these calls is made; `None`

@@ -5,7 +5,9 @@ use crate::help::{Help, did_you_mean, missing};
 use crate::keys::SCRIPT;
 use crate::no_json::{Broken, add_break, is_blank};
 use crate::record::{Document, RecordPart, add_record_fault, first_unknown, key_of, wrong_kind};
-use explanation_text::{Item, Items, Kind, Label, Step, TextBuilder, nearest};
+use explanation_text::{
+    Correction, Item, Items, Kind, Label, Meant, Span, Step, TextBuilder, line_of, nearest,
+};
 use script_reading::{LONGEST, ScriptFault};
 use serde_json::Value;
 use std::alloc::{AllocError, Global};
@@ -93,14 +95,13 @@ fn add_misshapen(items: &mut Items, document: &Document<'_>) -> Result<(), Alloc
         return Ok(());
     }
     match first_unknown(items.alloc(), document, &[], SCRIPT)? {
-        Some(path) => add_key(items, document, &path)?,
+        Some(path) => add_key(items, document, &path),
         None => add_members(items, document),
     }
-    Ok(())
 }
 
 /// Tells a member that is missing, or calls that are no list.
-fn add_members(items: &mut Items, document: &Document<'_>) {
+fn add_members(items: &mut Items, document: &Document<'_>) -> Result<(), AllocError> {
     for key in SCRIPT {
         if document.value.get(*key).is_none() {
             return add_missing(items, document, key);
@@ -110,11 +111,94 @@ fn add_members(items: &mut Items, document: &Document<'_>) {
     if let Some(calls) = document.at(&path) {
         add_wrong(items, document, &path, calls, "a list is");
     }
+    Ok(())
 }
 
-fn add_missing(items: &mut Items, document: &Document<'_>, key: &str) {
-    let note = missing(items.alloc(), key);
-    document.note(items, 1, &[], RecordPart::Begin, note)
+/// Tells a member that is missing: calls may stand in the platform.
+fn add_missing(items: &mut Items, document: &Document<'_>, key: &str) -> Result<(), AllocError> {
+    let alloc = items.alloc();
+    let note = missing(alloc, key);
+    let path = [Step::Key("platform"), Step::Key(key)];
+    match document.span(alloc, &path, RecordPart::Key)? {
+        Some(inner) => add_within(items, document, &path, note, inner),
+        None => {
+            document.note(items, 1, &[], RecordPart::Begin, note);
+            Ok(())
+        }
+    }
+}
+
+/// Tells that the script lacks a member which its platform has, with this key: the platform is
+/// likely meant to end before it, if it is the last one.
+fn add_within(
+    items: &mut Items,
+    document: &Document<'_>,
+    path: &[Step<'_>],
+    note: TextBuilder,
+    inner: Span,
+) -> Result<(), AllocError> {
+    let alloc = items.alloc();
+    let ends = ends_meant(alloc, document, path, inner)?;
+    let help = Help::of(words_within(alloc, document, key_of(path), inner, ends.is_some()));
+    document.tell(items, 1, &[], RecordPart::Begin, note, help);
+    if let Some((span, end)) = ends {
+        let meant = Meant::Mark('}');
+        items.correct(Correction { span, meant });
+        document.show(items, 1, end, "platform", "platform ends here", &[]);
+        let (span, meant) = (end, Meant::Blank);
+        items.correct(Correction { span, meant });
+    }
+    Ok(())
+}
+
+/// `platform has the key calls (line 9): platform should end before it`
+fn words_within(
+    alloc: Global,
+    document: &Document<'_>,
+    key: &str,
+    inner: Span,
+    is_last: bool,
+) -> TextBuilder {
+    let at = inner.start.min(document.bytes.len());
+    let mut words = TextBuilder::of(alloc, "platform has the key ");
+    words
+        .put(key)
+        .put(" (line ")
+        .put_number(line_of(document.bytes, at));
+    words.put(if is_last {
+        "): platform should end before it"
+    } else {
+        "): it belongs beside platform"
+    });
+    words
+}
+
+/// Where the platform would end before its member at a path, with this key, and where it does;
+/// `None` where that is its first member, or not the last.
+fn ends_meant(
+    alloc: Global,
+    document: &Document<'_>,
+    path: &[Step<'_>],
+    inner: Span,
+) -> Result<Option<(Span, Span)>, AllocError> {
+    let member = document.span(alloc, path, RecordPart::Value)?;
+    let platform = document.span(alloc, &[Step::Key("platform")], RecordPart::Value)?;
+    let (Some(member), Some(platform)) = (member, platform) else {
+        return Ok(None);
+    };
+    let end = Span {
+        start: platform.end.saturating_sub(1),
+        end: platform.end,
+    };
+    let between = document.bytes.get(member.end..end.start).unwrap_or(b"}");
+    let before = document.bytes.get(..inner.start).unwrap_or(&[]);
+    Ok(match before.trim_ascii_end().strip_suffix(b",") {
+        Some(front) if is_blank(between) => {
+            let at = front.len();
+            Some((Span { start: at, end: at }, end))
+        }
+        _ => None,
+    })
 }
 
 /// Tells a value of a wrong kind.
