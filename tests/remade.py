@@ -10,7 +10,7 @@ CHILDREN = ["a_child"] + [f"a_child_{number}" for number in range(2, 9)]
 
 # Behind a value: which others do too, or how it may have been mistaken.
 BESIDE = (
-    r"(?: or (?:more|less)| \((?:width and height exchanged|(?:8|1,000|1,024) times (?:more|less)"
+    r"(?: or (?:more|less)| \((?:width and height exchanged|(?:8|16|256|1,000|1,024) times (?:more|less)"
     r"|hexadecimal written as decimal)\))?"
 )
 # A bound that an entry lacks, and is to state.
@@ -146,9 +146,9 @@ def spelled(value):
     return f"{value['width']}x{value['height']}" if isinstance(value, dict) else json.dumps(value)
 
 
-def keep_untold(constraints, field, was, amount):
+def keep_untold(constraints, field, was, amount, is_meant):
     """Takes a field out of the entries whose value isn't told, and gives what puts it back: by it they ask for no more
-    than with the amount that others get."""
+    than with the amount that others get, unless that may be meant in the place of the one value that is told."""
     values = re.split(", | and ", was)
     kept = [entry for entry in constraints.get(ENTRIES, []) if field in entry and spelled(entry[field]) not in values]
     if was.endswith(" more"):
@@ -158,7 +158,7 @@ def keep_untold(constraints, field, was, amount):
     for _, value in stated:
         sides = zip(sides_of(value), sides_of(amount))
         judge(
-            all(own >= new if is_greatest else own <= new for own, new in sides),
+            is_meant or all(own >= new if is_greatest else own <= new for own, new in sides),
             f"{field} asks for more where it isn't told to be {was}: {value}",
         )
     return lambda: [entry.update({field: value}) for entry, value in stated]
@@ -230,7 +230,7 @@ def changed(script, words):
         if re.match(LACKED, what):
             with_bound(constraints, field, was, amount)
             return script
-        put_back = keep_untold(constraints, field, was, amount)
+        put_back = keep_untold(constraints, field, was, amount, what.endswith(")") and " and " not in was)
         with_field(constraints, field, was, lambda place: place.update({field: amount}))
         put_back()
     return script

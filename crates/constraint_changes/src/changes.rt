@@ -468,7 +468,7 @@ fn try_slips(
         if search.tried >= TRIES || group.scenario.effort.is_spent() {
             break;
         }
-        try_slip(search, group, trial, participant, edit, *slip)?;
+        try_slip(search, group, trial, participant, *slip)?;
         if search.count > before {
             return Ok(Some(slip.amount));
         }
@@ -476,14 +476,12 @@ fn try_slips(
     Ok(None)
 }
 
-/// Tries a value that may be meant in the place of the one of the field that an edit leaves out, and
-/// tells it where it helps.
+/// Tries a value that may be meant in the place of one of a field, and tells it where it helps.
 fn try_slip(
     search: &mut Search<'_, '_>,
     group: Group<'_, '_>,
     trial: Trial<'_, '_>,
     participant: &NamedParticipant<'_>,
-    edit: Edit,
     slip: Slip,
 ) -> Result<(), AllocError> {
     let alloc = search.alloc;
@@ -491,16 +489,16 @@ fn try_slip(
         return Ok(());
     };
     search.tried = search.tried.saturating_add(1);
-    let change = Change::plain(edit, Some(slip.amount));
+    let change = Change::plain(slip.edit, Some(slip.amount));
     if change_leaves_none(alloc, group, search.parties, participant, change)? == Some(true) {
         return Ok(());
     }
     trial.scenario.effort.change(trial.place, 1);
-    let Some(made) = slip.changed(alloc, value, edit)? else {
+    let Some(made) = slip.changed(alloc, value)? else {
         return Ok(());
     };
     match trial.promised(alloc, made)? {
-        Some(found) => put_found(search, group, trial, participant, edit, found, true),
+        Some(found) => put_found(search, group, trial, participant, slip.edit, found, true),
         None => Ok(()),
     }
 }

@@ -19,7 +19,7 @@ use Rattle.constraint_edits.specs.declared.amount.Amount.{Amount}
 use Rattle.constraint_edits.specs.declared.change.Change.{Change}
 use Rattle.constraint_edits.specs.declared.edits.Edit.{Edit}
 use Rattle.constraint_edits.specs.declared.edits.Edit.TheVariants as edit
-use Rattle.constraint_edits.specs.EditedBounds.{bound_edited, bound_stated, bounds_exchanged}
+use Rattle.constraint_edits.specs.EditedBounds.{bound_edited, bound_replaced, bound_stated, bounds_exchanged}
 use Rattle.constraint_edits.specs.EditedNumbers.{counts_edited, counts_exchanged, memory_edited}
 use Rattle.constraint_edits.specs.EditedNumbers.{supporting, sizes_exchanged, unsupporting}
 
@@ -84,6 +84,8 @@ after heaps c (edit.NoSupport f) p = with_memory p (unsupporting f p.memory)
 after heaps c (edit.NoCount f) p = with_counts p (counts_edited f c.amount p.counts)
 after heaps c (edit.NoMemory f) p = with_memory p (memory_edited f c.amount p.memory)
 after heaps c (edit.NoBound f) p = with_entries p (bound_edited f c.amount p.entries)
+after heaps c (edit.Replaces f was) p =
+    with_entries p (bound_replaced f was c.amount p.entries)
 after heaps c (edit.States f amount) p = with_entries p (bound_stated f amount p.entries)
 after heaps c (edit.TakesColour colour) p =
     Some (record p { entries = map (taking colour) p.entries })

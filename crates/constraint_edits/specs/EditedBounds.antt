@@ -93,6 +93,17 @@ abbrev pub bound_stated : Field → Amount → List Entry → Option (List Entry
 bound_stated f amount entries =
     option_map (λ value. map (value_put f value) entries) (value_given f (Some amount))
 
+-- an entry with another value of a field, if its own is this one
+abbrev pub value_replaced : Field → Size → Size → Entry → Entry
+value_replaced f was value entry =
+    if is_between was was (value_at f entry.bounds) then value_put f value entry else entry
+
+-- the entries after a bound that has the first amount is left out, or has another one
+abbrev pub bound_replaced : Field → Amount → Option Amount → List Entry → Option (List Entry)
+bound_replaced f was amount entries =
+    option_and_then (λ old. option_map (λ value. map (value_replaced f old value) entries)
+    (value_given f amount)) (value_given f (Some was))
+
 -- a size is above another in a dimension at least
 abbrev pub is_above : Size → Size → Bool
 is_above a b = nat_lt b.width a.width || nat_lt b.height a.height

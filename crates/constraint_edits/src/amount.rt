@@ -165,6 +165,7 @@ pub(crate) fn amount_in(value: &Value, edit: Edit) -> Option<Amount> {
         Edit::NoCount(field) => amount_of(value.get(field.name())?),
         Edit::NoMemory(field) => amount_of(value.get(MEMORY)?.get(field.name())?),
         Edit::NoBound(field) => amount_of(tightest_bound(value, field)?),
+        Edit::Replaces(_, stated) => Some(stated),
         _ => None,
     }
 }
@@ -254,7 +255,7 @@ fn asked_bounds<'a>(
 }
 
 /// The constraints with another value of the field that a change leaves out, of a bound in each
-/// entry that asks for more by it; behind the value stand these words.
+/// entry that asks for more by it, or whose value is replaced; behind the value stand these words.
 pub(crate) fn with_amount(
     alloc: Global,
     value: &Value,
@@ -269,7 +270,9 @@ pub(crate) fn with_amount(
     let left_out = edit.left_out();
     let name = left_out.map_or("", Field::name);
     let changed = match edit {
-        Edit::NoBound(field) => with_bound(alloc, value, field, amount)?,
+        Edit::NoBound(field) | Edit::Replaces(field, _) => {
+            with_bound(alloc, value, edit, field, amount)?
+        }
         Edit::NoMemory(_) => {
             let memory = with(alloc, value.get(MEMORY), name, amount.value(alloc)?)?;
             with(alloc, Some(value), MEMORY, memory)?
@@ -354,25 +357,27 @@ pub(crate) fn edited_as(
 fn with_bound(
     alloc: Global,
     value: &Value,
+    edit: Edit,
     field: Field,
     amount: Amount,
 ) -> Result<Value, AllocError> {
     let mut copy = ListBuilder::new(alloc);
     for entry in entries_of(value) {
-        copy.add(entry_with(alloc, entry, field, amount)?);
+        if is_changed(entry, edit, amount) {
+            let member = amount.value(alloc)?;
+            copy.add(with(alloc, Some(entry), field.name(), member)?);
+        } else {
+            copy.add(entry.clone()?);
+        }
     }
     with(alloc, Some(value), ENTRIES, Value::Array(copy.done()?))
 }
 
-/// An entry with another value of a bound, if it asks for more by it.
-fn entry_with(
-    alloc: Global,
-    entry: &Value,
-    field: Field,
-    amount: Amount,
-) -> Result<Value, AllocError> {
-    if asked_bound(entry, field, Some(amount)).is_none() {
-        return entry.clone();
+/// Whether an entry has another value of a bound by an edit, which is this one.
+fn is_changed(entry: &Value, edit: Edit, amount: Amount) -> bool {
+    match edit {
+        Edit::NoBound(field) => asked_bound(entry, field, Some(amount)).is_some(),
+        Edit::Replaces(field, was) => entry.get(field.name()).and_then(amount_of) == Some(was),
+        _ => false,
     }
-    with(alloc, Some(entry), field.name(), amount.value(alloc)?)
 }

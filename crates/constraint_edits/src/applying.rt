@@ -5,7 +5,7 @@ ghost use Rattle.sysmem_counts.specs.Usage.{uses_cpu};
 ghost use Rattle.constraint_edits.specs.Drafts.{drafted};
 ghost use Rattle.constraint_edits.specs.Edited.{edited, exchanged, naming, permitting, put_first, taking, with_counts, with_entries, with_heaps, with_memory, without_cpu};
 ghost use Rattle.constraint_edits.specs.EditedNumbers.{counts_edited, memory_edited, supporting, unsupporting};
-ghost use Rattle.constraint_edits.specs.EditedBounds.{bound_edited, bound_stated, bounds_exchanged};
+ghost use Rattle.constraint_edits.specs.EditedBounds.{bound_edited, bound_replaced, bound_stated, bounds_exchanged};
 
 mod bounds;
 mod entries;
@@ -16,7 +16,7 @@ use crate::amount::Amount;
 use crate::change::Change;
 use crate::edits::Edit;
 use bitflags::Flags;
-use bounds::{bound_edited, bound_stated, bounds_exchanged};
+use bounds::{bound_edited, bound_replaced, bound_stated, bounds_exchanged};
 use entries::{naming, taking_colour};
 use negotiation_inputs::Constraints;
 use numbers::{copied_heap, copied_memory, counts_edited, counts_exchanged};
@@ -83,6 +83,7 @@ impl Draft {
             Edit::NoCount(field) => Ok(self.put_count(field, change.amount)),
             Edit::NoMemory(field) => Ok(self.put_memory(field, change.amount)),
             Edit::NoBound(field) => self.put_bound(field, change.amount),
+            Edit::Replaces(field, was) => self.replace_bound(field, was, change.amount),
             Edit::States(field, amount) => self.state_bound(field, amount),
             Edit::TakesColour(colour) => self.take_colour(colour),
             Edit::TakesPair(pair) => self.take_pair(pair, change.start),
@@ -263,6 +264,20 @@ impl Draft {
             (bound_edited field amount self.old.entries.items) ≡ Some (drafted self.new)) }
     {
         let made = bound_edited(self.alloc, &self.entries, field, amount)?;
+        Ok(self.put_entries(made))
+    }
+
+    /// Leaves a bound out where it has an amount, or gives it another one there.
+    fn replace_bound(
+        &mut self,
+        field: Field,
+        was: Amount,
+        amount: Option<Amount>,
+    ) -> Result<bool, AllocError>
+        ensures { IfOk result (λ made. IsTrue made → with_entries (drafted self.old)
+            (bound_replaced field was amount self.old.entries.items) ≡ Some (drafted self.new)) }
+    {
+        let made = bound_replaced(self.alloc, &self.entries, field, was, amount)?;
         Ok(self.put_entries(made))
     }
 

@@ -40,6 +40,8 @@ pub enum Edit {
     NoMemory(Field),
     /// A bound is left out of all entries.
     NoBound(Field),
+    /// A bound has another amount where entries state it with this one: with an amount alone.
+    Replaces(Field, Amount),
     /// A bound is stated by all entries with this amount.
     States(Field, Amount),
     /// A colour space is taken by all entries too.
@@ -59,10 +61,13 @@ pub enum Edit {
 }
 
 impl Edit {
-    /// The field that it leaves out.
+    /// The field that it leaves out, or of which it replaces a value.
     pub(crate) fn left_out(self) -> Option<Field> {
         match self {
-            Edit::NoCount(field) | Edit::NoMemory(field) | Edit::NoBound(field) => Some(field),
+            Edit::NoCount(field)
+            | Edit::NoMemory(field)
+            | Edit::NoBound(field)
+            | Edit::Replaces(field, _) => Some(field),
             _ => None,
         }
     }
@@ -255,6 +260,7 @@ fn record_after(
         Edit::NoCount(field) => without(alloc, value, field),
         Edit::NoMemory(field) => without_memory(alloc, value, field),
         Edit::NoBound(field) => without_bound(alloc, value, field),
+        Edit::Replaces(_, _) => Ok(None),
         Edit::States(field, amount) => stating(alloc, value, field, amount),
         Edit::TakesColour(colour) => taking_colour(alloc, value, colour.name()),
         Edit::TakesPair(pair) => taking_pair(alloc, value, pair),
@@ -281,6 +287,7 @@ pub fn changes(
         Edit::NoCount(field) => value.get(field.name()).is_some(),
         Edit::NoMemory(field) => memory_of(value, field.name()).is_some(),
         Edit::NoBound(field) => have(value, field.name()),
+        Edit::Replaces(_, _) => false,
         Edit::States(field, amount) => can_state(value, field, amount),
         Edit::TakesColour(colour) => lacks_colour(alloc, value, colour.name())?,
         Edit::TakesPair(_) => !entries_of(value).is_empty(),

@@ -3,14 +3,17 @@
 ghost use Rattle.std.specs.Prelude.{◌≡◌, Some, IfOk, IfSome};
 
 use crate::amount::{Amount, amounts_in, edited_as, has_one_amount};
+use crate::applying::asks_more;
 use crate::edits::{Edit, EditedConstraints};
 use serde_json::Value;
 use std::alloc::{AllocError, Global};
 use sysmem_counts::Field;
 
-/// A value that may be meant in the place of the one that is stated.
+/// A value that may be meant in the place of one that is stated.
 #[derive(Clone, Copy)]
 pub struct Slip {
+    /// What it changes: the field's value, or where entries state several this one alone.
+    pub edit: Edit,
     pub amount: Amount,
     /// How the one may have come of the other, as it stands behind the value.
     why: &'static str,
@@ -22,13 +25,19 @@ impl Slip {
         &self,
         alloc: Global,
         value: &Value,
-        edit: Edit,
     ) -> Result<Option<EditedConstraints>, AllocError>
-        ensures { IfOk result (λ made. IfSome made (λ changed. changed.change
-            ≡ record { edit = edit; amount = Some self.now.amount; start = 0; end = 0 })) }
+        ensures { IfOk result (λ made. IfSome made (λ changed. changed.change ≡ record
+            { edit = self.now.edit; amount = Some self.now.amount; start = 0; end = 0 })) }
     {
-        edited_as(alloc, value, edit, self.amount, self.why)
+        edited_as(alloc, value, self.edit, self.amount, self.why)
     }
+}
+
+/// A value that may be meant, and how the stated one may have come of it.
+#[derive(Clone, Copy)]
+struct Meant {
+    amount: Amount,
+    why: &'static str,
 }
 
 /// Two units of which one was taken for the other.
@@ -49,6 +58,14 @@ const EIGHT: Factor = Factor {
     less: " (8 times less)",
 };
 
+/// Macroblocks and pixels.
+const BLOCKS: Factor = Factor {
+    times: 256,
+    room: 8,
+    more: " (256 times more)",
+    less: " (256 times less)",
+};
+
 /// Kilobytes and bytes.
 const THOUSAND: Factor = Factor {
     times: 1000,
@@ -64,6 +81,9 @@ const KIBI: Factor = Factor {
     more: " (1,024 times more)",
     less: " (1,024 times less)",
 };
+
+/// How many pixels a side of a macroblock has.
+const BLOCK_SIDE: u64 = 16;
 
 /// How often what suffices goes at most into a number that was taken for a decimal one.
 const HEXADECIMAL_ROOM: u64 = 4;
@@ -100,11 +120,12 @@ fn unit_of(field: Field) -> Option<Unit> {
 }
 
 /// The values that may be meant in the place of the one of the field that a change leaves out,
-/// where this one suffices: at most eight, the likely ones of a value first; of a bound only those by
-/// which one value alone is changed. A width and a height are exchanged. A number is taken in another unit, or
-/// by hexadecimal digits, as far as it suffices then, and isn't far more than that: else about every
-/// value that is too tight would seem to be mistaken. A count, and a width or a height, is just what
-/// suffices by hexadecimal digits.
+/// where this one suffices: at most eight, the likely ones of a value first; of a bound each in the
+/// place of one value alone. A width and a height are exchanged. A number is taken in another unit,
+/// or by hexadecimal digits, as far as it suffices then, and isn't far more than that: else about
+/// every value that is too tight would seem to be mistaken. A count, and a width or a height, is
+/// just what suffices by hexadecimal digits; so is a greatest size in macroblocks, but for what the
+/// last of them has beside.
 pub fn slips_of(
     alloc: Global,
     value: &Value,
@@ -118,8 +139,7 @@ pub fn slips_of(
     Ok(slips)
 }
 
-/// Adds those that may be meant in the place of one value, which they alone change, up to a number
-/// of them.
+/// Adds those that may be meant in the place of one value, which they alone change, up to a number.
 fn add_slips(
     slips: &mut Vec<Slip>,
     value: &Value,
@@ -131,12 +151,36 @@ fn add_slips(
     let Some(field) = edit.left_out() else {
         return Ok(());
     };
-    for slip in slips_from(alloc, field, stated, enough)? {
-        if slips.len() < MOST && has_one_amount(alloc, value, edit, stated, slip.amount)? {
-            slips.push(slip)?;
+    for Meant { amount, why } in slips_from(alloc, field, stated, enough)? {
+        if slips.len() >= MOST {
+            break;
+        }
+        if let Some(edit) = edit_of_one(alloc, value, edit, stated, amount)? {
+            slips.push(Slip { edit, amount, why })?;
         }
     }
     Ok(())
+}
+
+/// The edit by which an amount comes in the place of one value alone of the field that another edit
+/// leaves out: this other one, or where entries ask for more by further values one of that value;
+/// `None` where that asks for no more.
+fn edit_of_one(
+    alloc: Global,
+    value: &Value,
+    edit: Edit,
+    stated: Amount,
+    amount: Amount,
+) -> Result<Option<Edit>, AllocError> {
+    if has_one_amount(alloc, value, edit, stated, amount)? {
+        return Ok(Some(edit));
+    }
+    Ok(match edit {
+        Edit::NoBound(field) if asks_more(field, stated, Some(amount)) => {
+            Some(Edit::Replaces(field, stated))
+        }
+        _ => None,
+    })
 }
 
 /// What may be meant in the place of a value that is stated.
@@ -145,7 +189,7 @@ fn slips_from(
     field: Field,
     stated: Amount,
     enough: Option<Amount>,
-) -> Result<Vec<Slip>, AllocError> {
+) -> Result<Vec<Meant>, AllocError> {
     let mut slips = Vec::new(alloc);
     match (stated, enough) {
         (Amount::Number(number), Some(Amount::Number(enough))) => {
@@ -153,16 +197,15 @@ fn slips_from(
         }
         (Amount::Sides(width, height), enough) => {
             if width != height {
-                slips.push(Slip {
+                slips.push(Meant {
                     amount: Amount::Sides(height, width),
                     why: " (width and height exchanged)",
                 })?;
             }
-            if let (Field::MaxSize, Some(slip)) = (
-                field,
-                hexadecimal_sides(width, height, enough),
+            if let (Field::MaxSize, Some(Amount::Sides(least_width, least_height))) = (
+                field, enough,
             ) {
-                slips.push(slip)?;
+                add_sides(&mut slips, (width, least_width), (height, least_height))?;
             }
         }
         _ => {}
@@ -172,7 +215,7 @@ fn slips_from(
 
 /// Adds what may be meant in the place of a number of a field, where another one suffices.
 fn add_numbers(
-    slips: &mut Vec<Slip>,
+    slips: &mut Vec<Meant>,
     field: Field,
     number: u64,
     enough: u64,
@@ -180,7 +223,7 @@ fn add_numbers(
     let Some(unit) = unit_of(field) else {
         return Ok(());
     };
-    for factor in factors_of(number) {
+    for factor in factors_of(field, number) {
         let slip = match unit {
             Unit::Greatest(most) => more(number, factor, enough, most),
             Unit::Least => less(number, factor, enough),
@@ -201,29 +244,36 @@ fn add_numbers(
     Ok(())
 }
 
-/// The factors, the likely ones first: of a number that is round in decimal a thousand.
-fn factors_of(number: u64) -> [Factor; 3] {
-    if number % 10 == 0 {
-        [EIGHT, THOUSAND, KIBI]
+/// The factors of a field's number, the likely ones first: 1,024 before a thousand where it is
+/// round by that and not in decimal. Pixels are counted in macroblocks, and have no bits.
+fn factors_of(field: Field, number: u64) -> [Factor; 3] {
+    let small = if field == Field::MaxWidthTimesHeight {
+        BLOCKS
     } else {
-        [EIGHT, KIBI, THOUSAND]
+        EIGHT
+    };
+    if number % 10 != 0 && number % 8 == 0 {
+        [small, KIBI, THOUSAND]
+    } else {
+        [small, THOUSAND, KIBI]
     }
 }
 
-/// A number times a factor, if that suffices, and isn't far more than what does, or than the most.
-fn more(number: u64, factor: Factor, enough: u64, most: u64) -> Option<Slip> {
+/// A number above 1 times a factor, if that suffices, and isn't far more than what does, or than
+/// the most.
+fn more(number: u64, factor: Factor, enough: u64, most: u64) -> Option<Meant> {
     let meant = number.checked_mul(factor.times)?;
-    if meant < enough || meant > enough.saturating_mul(factor.room).min(most) {
+    if number < 2 || meant < enough || meant > enough.saturating_mul(factor.room).min(most) {
         return None;
     }
-    Some(Slip {
+    Some(Meant {
         amount: Amount::Number(meant),
         why: factor.more,
     })
 }
 
 /// A number by a factor, where it divides evenly and suffices, and isn't far less than what does.
-fn less(number: u64, factor: Factor, enough: u64) -> Option<Slip> {
+fn less(number: u64, factor: Factor, enough: u64) -> Option<Meant> {
     if number == 0 || number.checked_rem(factor.times)? != 0 {
         return None;
     }
@@ -231,7 +281,7 @@ fn less(number: u64, factor: Factor, enough: u64) -> Option<Slip> {
     if meant > enough || meant.saturating_mul(factor.room) < enough {
         return None;
     }
-    Some(Slip {
+    Some(Meant {
         amount: Amount::Number(meant),
         why: factor.less,
     })
@@ -240,7 +290,7 @@ fn less(number: u64, factor: Factor, enough: u64) -> Option<Slip> {
 /// The number whose hexadecimal digits are the decimal ones of a round number, if it suffices, and
 /// isn't far more than what does, or than the most. A number that is just what does may have any
 /// digits but one alone, which is the same in both.
-fn hexadecimal(number: u64, enough: u64, most: u64) -> Option<Slip> {
+fn hexadecimal(number: u64, enough: u64, most: u64) -> Option<Meant> {
     let meant = read_as_hexadecimal(number)?;
     let is_round = number % 100 == 0 || meant == most;
     let room = enough.saturating_mul(HEXADECIMAL_ROOM).min(most);
@@ -250,22 +300,49 @@ fn hexadecimal(number: u64, enough: u64, most: u64) -> Option<Slip> {
     Some(as_hexadecimal(Amount::Number(meant)))
 }
 
-/// A width and a height of which one, or each, has hexadecimal digits for decimal ones, and is just
-/// what suffices so; the other one suffices as it is.
-fn hexadecimal_sides(width: u64, height: u64, enough: Option<Amount>) -> Option<Slip> {
-    let Some(Amount::Sides(least_width, least_height)) = enough else {
+/// Adds the width and height that may be meant by a greatest size in the place of these, each with
+/// what suffices.
+fn add_sides(
+    slips: &mut Vec<Meant>,
+    width: (u64, u64),
+    height: (u64, u64),
+) -> Result<(), AllocError> {
+    if let (Some(width), Some(height)) = (in_pixels(width), in_pixels(height)) {
+        slips.push(Meant {
+            amount: Amount::Sides(width, height),
+            why: " (16 times more)",
+        })?;
+    }
+    if let Some(slip) = hexadecimal_sides(width, height) {
+        slips.push(slip)?;
+    }
+    Ok(())
+}
+
+/// The pixels of a side in several macroblocks, of which only the last one has more than suffices.
+fn in_pixels(side: (u64, u64)) -> Option<u64> {
+    let (blocks, enough) = side;
+    let pixels = blocks.checked_mul(BLOCK_SIDE)?;
+    if blocks < 2 || pixels < enough || pixels.saturating_sub(BLOCK_SIDE) >= enough {
         return None;
-    };
-    let meant_width = side_meant(width, least_width)?;
-    let meant_height = side_meant(height, least_height)?;
-    if meant_width == width && meant_height == height {
+    }
+    Some(pixels)
+}
+
+/// A width and a height, each with what suffices, of which one, or each, has hexadecimal digits for
+/// decimal ones, and is just what suffices so; the other one suffices as it is.
+fn hexadecimal_sides(width: (u64, u64), height: (u64, u64)) -> Option<Meant> {
+    let meant_width = side_meant(width)?;
+    let meant_height = side_meant(height)?;
+    if meant_width == width.0 && meant_height == height.0 {
         return None;
     }
     Some(as_hexadecimal(Amount::Sides(meant_width, meant_height)))
 }
 
 /// A side that suffices, by its hexadecimal digits if it is just what does so.
-fn side_meant(side: u64, enough: u64) -> Option<u64> {
+fn side_meant(stated: (u64, u64)) -> Option<u64> {
+    let (side, enough) = stated;
     if side >= enough {
         Some(side)
     } else if read_as_hexadecimal(side)? == enough {
@@ -276,8 +353,8 @@ fn side_meant(side: u64, enough: u64) -> Option<u64> {
 }
 
 /// A value that was written with decimal digits.
-fn as_hexadecimal(amount: Amount) -> Slip {
-    Slip {
+fn as_hexadecimal(amount: Amount) -> Meant {
+    Meant {
         amount,
         why: " (hexadecimal written as decimal)",
     }

@@ -113,7 +113,7 @@ fn try_slips(
         if found.count > before || found.is_done(wish.group.scenario.effort) {
             break;
         }
-        let Some(made) = slip.changed(alloc, value, edit)? else {
+        let Some(made) = slip.changed(alloc, value)? else {
             continue;
         };
         if let Some(one) = tried(alloc, found, wish, trial, made)? {

@@ -25,6 +25,10 @@ pub fn asked_after(
 fn is_plain(change: &Change) -> bool {
     matches!(
         change.edit,
-        Edit::Supports(_) | Edit::NoCount(_) | Edit::NoMemory(_) | Edit::NoBound(_)
+        Edit::Supports(_)
+            | Edit::NoCount(_)
+            | Edit::NoMemory(_)
+            | Edit::NoBound(_)
+            | Edit::Replaces(_, _)
     )
 }

@@ -3,12 +3,14 @@
 use constraint_edits::Edit;
 use script_story::Scenario;
 use settings_reasons::is_taken;
+use sysmem_counts::Field;
 use sysmem_formats::{ColourSpace, Pair};
 use sysmem_image::Entry;
 use value_sources::NamedParticipant;
 
 /// Whether a change of a participant is worth a try, where at most so many are changed: a format or
-/// a colour space that it doesn't take, and that few others lack; or one that nobody names.
+/// a colour space that it doesn't take, and that few others lack; or one that nobody names; greater
+/// images, unless one other alone asks for such as can't be meant.
 pub fn is_worth(
     edit: Edit,
     participant: &NamedParticipant<'_>,
@@ -26,6 +28,10 @@ pub fn is_worth(
                 || is_image_worth(colour, participant, participants, scenario, few)
         }
         Edit::NoCpu => is_secure_required(participants),
+        Edit::NoBound(Field::MaxSize) => {
+            scenario.effort.ask(participants.len());
+            !is_beyond_meant(participant, participants)
+        }
         _ => true,
     }
 }
@@ -135,6 +141,52 @@ fn is_sized(entry: &Entry) -> bool {
     let least = asked.min_size;
     let most = asked.required_max_size;
     least.width.max(most.width) >= SIZED && least.height.max(most.height) >= SIZED
+}
+
+/// A side of so many pixels isn't meant, unless there are a few rows.
+const IMMENSE: u32 = 65_536;
+
+/// Whether one other alone asks for images that can't be meant, where a participant takes images of
+/// some size: those of that size would do for the other one too, if it asked for no more.
+fn is_beyond_meant(
+    participant: &NamedParticipant<'_>,
+    participants: &[NamedParticipant<'_>],
+) -> bool {
+    let mut others = 0usize;
+    for other in participants {
+        if asks_beyond_meant(other) {
+            if other.node == participant.node {
+                return false;
+            }
+            others = others.saturating_add(1);
+        }
+    }
+    others == 1 && takes_sized(participant)
+}
+
+/// Whether a participant has entries, each of which asks for an image that can't be meant.
+fn asks_beyond_meant(participant: &NamedParticipant<'_>) -> bool {
+    let entries = participant.asked.entries();
+    for entry in entries {
+        let asked = &entry.bounds.asked;
+        let width = asked.min_size.width.max(asked.required_max_size.width);
+        let height = asked.min_size.height.max(asked.required_max_size.height);
+        if width.max(height) < IMMENSE || width.min(height) < SIZED {
+            return false;
+        }
+    }
+    !entries.is_empty()
+}
+
+/// Whether each entry of a participant takes images of some size.
+fn takes_sized(participant: &NamedParticipant<'_>) -> bool {
+    for entry in participant.asked.entries() {
+        let most = entry.bounds.asked.max_size;
+        if most.width.min(most.height) < SIZED {
+            return false;
+        }
+    }
+    true
 }
 
 /// Whether a participant has entries, and none for a pair.

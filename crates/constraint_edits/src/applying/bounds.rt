@@ -5,7 +5,7 @@ ghost use Rattle.sysmem_image.specs.Size.{most_multiple, some_sides, square};
 ghost use Rattle.record_reading.specs.Reading.Bounds.{divisor_read, stated_by};
 ghost use Rattle.record_reading.specs.Reading.Fields.{same_field};
 ghost use Rattle.constraint_edits.specs.Drafts.{size_of};
-ghost use Rattle.constraint_edits.specs.EditedBounds.{absent_at, bound_edited, bound_stated, bounds_exchanged, entry_exchanged, value_changed, value_put, values_exchanged, with_value};
+ghost use Rattle.constraint_edits.specs.EditedBounds.{absent_at, bound_edited, bound_replaced, bound_stated, bounds_exchanged, entry_exchanged, value_changed, value_put, value_replaced, values_exchanged, with_value};
 
 use super::values::{
     Extent, absent_at, is_above, is_between, is_bound, is_same_field, value_at, value_given,
@@ -163,6 +163,18 @@ impl Given {
         self.stated(entry)
     }
 
+    /// An entry with the value, if its own is this one.
+    fn replaced(&self, was: Extent, entry: &Entry) -> Option<Entry>
+        ensures { IfSome result (λ made. made ≡ value_replaced self.now.field (size_of was)
+            (size_of self.now.value) entry.now) }
+    {
+        let own = value_at(self.field, &entry.bounds)?;
+        if is_between(was, was, own) {
+            return self.stated(entry);
+        }
+        Some(*entry)
+    }
+
     /// An entry with the value.
     fn stated(&self, entry: &Entry) -> Option<Entry>
         ensures { IfSome result (λ made. made
@@ -203,6 +215,33 @@ pub(super) fn bound_edited(
     let mut made = Vec::new(alloc);
     for entry in entries {
         match given.changed(absent, entry) {
+            Some(entry) => made.push(entry)?,
+            None => return Ok(None),
+        }
+    }
+    Ok(Some(made))
+}
+
+/// Entries of which a bound that has the first amount is left out, or has another one; `None` where
+/// the field is no bound, or may not have one of them.
+pub(super) fn bound_replaced(
+    alloc: Global,
+    entries: &[Entry],
+    field: Field,
+    was: Amount,
+    amount: Option<Amount>,
+) -> Result<Option<Vec<Entry>>, AllocError>
+    ensures { IfOk result (λ made. IfSome made
+        (λ made. bound_replaced field was amount entries.now ≡ Some made.items)) }
+{
+    let (Some(own), Some(value)) = (value_given(field, Some(was)), value_given(field, amount))
+    else {
+        return Ok(None);
+    };
+    let given = Given { field, value };
+    let mut made = Vec::new(alloc);
+    for entry in entries {
+        match given.replaced(own, entry) {
             Some(entry) => made.push(entry)?,
             None => return Ok(None),
         }
