@@ -100,6 +100,7 @@ def taken(constraints, what):
     """Makes a change that takes more, and says whether the words are of such a one."""
     exchange = re.fullmatch(r"(\w+) (?:\S+ )?and (\w+) (?:\S+ )?exchanged(?: in entries (.*))?", what)
     colour = re.fullmatch(r"color_spaces (?:(.*), )?with (\w+) too(?: in entries (.*))?", what)
+    only = re.fullmatch(r"color_spaces (.+) becomes (\w+)", what)
     pair = re.fullmatch(
         r"pixel_format (\w+ \w+) too, in an entry before the others that is else like (?:the first|entry (\d+)) \(.*\)",
         what,
@@ -119,6 +120,12 @@ def taken(constraints, what):
                 judge(told, f"{what}: the list of an entry is {entry['color_spaces']}")
                 entry["color_spaces"].append(colour[2])
         numbers_changed(before, constraints[ENTRIES], colour[3])
+    elif only:
+        for entry in constraints[ENTRIES]:
+            names = entry["color_spaces"]
+            if "DO_NOT_CARE" in names or len(names) > 1 and only[2] in names:
+                judge(len(names) > 4 or only[1] == joined(names), f"{what}: the list of an entry is {names}")
+                entry["color_spaces"] = [only[2]]
     elif pair:
         like = constraints[ENTRIES][int(pair[2] or 1) - 1]
         constraints[ENTRIES].insert(0, entry_like(like, pair[1]))
@@ -131,7 +138,7 @@ def taken(constraints, what):
     elif what in ("usage without cpu", "usage cpu becomes none"):
         without_cpu(constraints)
         return True
-    return bool(exchange or colour or pair or heap or alone or first)
+    return bool(exchange or colour or only or pair or heap or alone or first)
 
 
 def places_of(constraints, field):

@@ -10,7 +10,7 @@ use Rattle.sysmem_counts.specs.Usage.{usage_bits, uses_cpu}
 use Rattle.sysmem_formats.specs.declared.colour_space.ColourSpace.{ColourSpace}
 use Rattle.sysmem_formats.specs.declared.offer.Pair.{Pair}
 use Rattle.sysmem_image.specs.declared.entry.Entry.{Entry}
-use Rattle.sysmem_image.specs.Colours.{with_colour}
+use Rattle.sysmem_image.specs.Colours.{accepts, no_colours, with_colour}
 use Rattle.sysmem_memory.specs.Heap.{HeapFacts, HeapName}
 use Rattle.sysmem_memory.specs.Wishes.{MemoryWishes}
 use Rattle.negotiation_inputs.specs.Participant.{Participant}
@@ -31,6 +31,12 @@ without_cpu usage =
 -- the colour space is taken too
 abbrev pub taking : ColourSpace → Entry → Entry
 taking colour entry = record entry { colours = with_colour entry.colours colour }
+
+-- an entry that takes the colour space takes no other
+abbrev pub taking_alone : ColourSpace → Entry → Entry
+taking_alone colour entry =
+    if accepts entry.colours colour
+    then record entry { colours = with_colour no_colours colour } else entry
 
 -- an entry that names this pair, and is else like another
 abbrev pub naming : Pair → Entry → Entry
@@ -89,6 +95,8 @@ after heaps c (edit.Replaces f was) p =
 after heaps c (edit.States f amount) p = with_entries p (bound_stated f amount p.entries)
 after heaps c (edit.TakesColour colour) p =
     Some (record p { entries = map (taking colour) p.entries })
+after heaps c (edit.TakesColourAlone colour) p =
+    Some (record p { entries = map (taking_alone colour) p.entries })
 after heaps c (edit.TakesPair pair) p =
     option_map (λ like. record p { entries = naming pair like ∷ p.entries })
     (slice_get p.entries c.start)

@@ -3,7 +3,7 @@
 ghost use Rattle.std.specs.Prelude.{◌≡◌, [], ◌∷◌, map, set, slice_get, Some, None, option_and_then, option_map, if◌then◌else◌, IfOk, OnOk, IfSome, IsTrue};
 ghost use Rattle.sysmem_counts.specs.Usage.{uses_cpu};
 ghost use Rattle.constraint_edits.specs.Drafts.{drafted};
-ghost use Rattle.constraint_edits.specs.Edited.{edited, exchanged, naming, permitting, put_first, taking, with_counts, with_entries, with_heaps, with_memory, without_cpu};
+ghost use Rattle.constraint_edits.specs.Edited.{edited, exchanged, naming, permitting, put_first, taking, taking_alone, with_counts, with_entries, with_heaps, with_memory, without_cpu};
 ghost use Rattle.constraint_edits.specs.EditedNumbers.{counts_edited, memory_edited, supporting, unsupporting};
 ghost use Rattle.constraint_edits.specs.EditedBounds.{bound_edited, bound_replaced, bound_stated, bounds_exchanged};
 
@@ -17,7 +17,7 @@ use crate::change::Change;
 use crate::edits::Edit;
 use bitflags::Flags;
 use bounds::{bound_edited, bound_replaced, bound_stated, bounds_exchanged};
-use entries::{naming, taking_colour};
+use entries::{naming, taking_colour, taking_colour_alone};
 use negotiation_inputs::Constraints;
 use numbers::{copied_heap, copied_memory, counts_edited, counts_exchanged};
 use std::alloc::{AllocError, Global};
@@ -86,6 +86,7 @@ impl Draft {
             Edit::Replaces(field, was) => self.replace_bound(field, was, change.amount),
             Edit::States(field, amount) => self.state_bound(field, amount),
             Edit::TakesColour(colour) => self.take_colour(colour),
+            Edit::TakesColourAlone(colour) => self.take_colour_alone(colour),
             Edit::TakesPair(pair) => self.take_pair(pair, change.start),
             Edit::NoCpu => Ok(self.drop_cpu()),
             Edit::LeastCount(count) => Ok(self.put_least(count)),
@@ -296,6 +297,16 @@ impl Draft {
             { entries = map (taking colour) self.old.entries.items }) ≡ Some (drafted self.new)) }
     {
         self.entries = taking_colour(self.alloc, &self.entries, colour)?;
+        Ok(true)
+    }
+
+    /// Takes no other colour space than one in each entry that takes that.
+    fn take_colour_alone(&mut self, colour: ColourSpace) -> Result<bool, AllocError>
+        ensures { OnOk result (Some (record (drafted self.old)
+            { entries = map (taking_alone colour) self.old.entries.items })
+            ≡ Some (drafted self.new)) }
+    {
+        self.entries = taking_colour_alone(self.alloc, &self.entries, colour)?;
         Ok(true)
     }
 

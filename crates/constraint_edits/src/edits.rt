@@ -13,7 +13,7 @@ use crate::permitting::{
     meaning, means, permits_more, permits_others, permitting, permitting_alone,
 };
 use crate::stating::{can_state, stating};
-use crate::taking::{lacks_colour, putting_first, taking_colour, taking_pair};
+use crate::taking::{putting_first, recolours, taking_colour, taking_pair};
 use crate::using::{asking_for, asks_for, has_cpu, without_cpu};
 use explanation_text::{Deed, Fact, ListBuilder, Said, Text, TextBuilder};
 use serde_json::Value;
@@ -46,6 +46,8 @@ pub enum Edit {
     States(Field, Amount),
     /// A colour space is taken by all entries too.
     TakesColour(ColourSpace),
+    /// A colour space is the only one that is taken by each entry that takes it.
+    TakesColourAlone(ColourSpace),
     /// A format with a modifier is taken by an entry more.
     TakesPair(Pair),
     /// A heap is permitted too: the heap of an index.
@@ -262,7 +264,8 @@ fn record_after(
         Edit::NoBound(field) => without_bound(alloc, value, field),
         Edit::Replaces(_, _) => Ok(None),
         Edit::States(field, amount) => stating(alloc, value, field, amount),
-        Edit::TakesColour(colour) => taking_colour(alloc, value, colour.name()),
+        Edit::TakesColour(colour) => taking_colour(alloc, value, colour.name(), false),
+        Edit::TakesColourAlone(colour) => taking_colour(alloc, value, colour.name(), true),
         Edit::TakesPair(pair) => taking_pair(alloc, value, pair),
         Edit::PermitsHeap(index) => permitting(alloc, value, heaps.get(index)),
         Edit::NoCpu => without_cpu(alloc, value),
@@ -289,7 +292,8 @@ pub fn changes(
         Edit::NoBound(field) => have(value, field.name()),
         Edit::Replaces(_, _) => false,
         Edit::States(field, amount) => can_state(value, field, amount),
-        Edit::TakesColour(colour) => lacks_colour(alloc, value, colour.name())?,
+        Edit::TakesColour(colour) => recolours(alloc, value, colour.name(), false)?,
+        Edit::TakesColourAlone(colour) => recolours(alloc, value, colour.name(), true)?,
         Edit::TakesPair(_) => !entries_of(value).is_empty(),
         Edit::PermitsHeap(index) => permits_more(value, heaps.get(index)),
         Edit::NoCpu => has_cpu(value),

@@ -12,7 +12,7 @@ pub(crate) struct ChangedEntries {
     /// What is changed in the first of them; no words where there is none.
     words: Text,
     /// Whether these words are true of all.
-    are_alike: bool,
+    pub(crate) are_alike: bool,
 }
 
 impl ChangedEntries {

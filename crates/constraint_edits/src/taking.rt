@@ -1,5 +1,5 @@
-//! Constraints that take a colour space, or a format with a modifier, more, or have another entry
-//! first.
+//! Constraints that take a colour space more, or alone, or a format with a modifier more, or have
+//! another entry first.
 
 use crate::edits::{EditedRecord, with_entries};
 use crate::objects::{entries_of, lacking, text_value, with};
@@ -12,6 +12,9 @@ use sysmem_counts::Field;
 use sysmem_formats::{Modifier, Pair, PixelFormat};
 
 const COLOURS: &str = "color_spaces";
+
+/// The name that stands for any colour space.
+const ANY: &str = "DO_NOT_CARE";
 
 const FORMAT: &str = "pixel_format";
 
@@ -28,35 +31,84 @@ fn names_in<'a>(alloc: Global, list: Option<&'a Value>) -> Result<Vec<&'a str>, 
     Ok(names)
 }
 
-/// The constraints with a colour space more in each entry; `None` where each has it.
+/// The constraints with a colour space more in each entry, or alone in each that takes it; `None`
+/// where that changes none, or takes other colour spaces out of each.
 pub(crate) fn taking_colour(
     alloc: Global,
     value: &Value,
     colour: &str,
+    is_alone: bool,
 ) -> Result<Option<EditedRecord>, AllocError> {
     let mut changed = ChangedEntries::none(alloc);
     let mut copy = ListBuilder::new(alloc);
     for (index, entry) in entries_of(value).iter().enumerate() {
         let names = names_in(alloc, entry.get(COLOURS))?;
-        if names.contains(&colour) {
+        if !is_recoloured(&names, colour, is_alone) {
             copy.add(entry.clone()?);
             continue;
         }
-        changed.add(index, words_beside(alloc, colour, &names).into_text()?)?;
-        copy.add(with_colour(alloc, entry, colour)?);
+        let words = words_of(alloc, colour, &names, is_alone);
+        changed.add(index, words.into_text()?)?;
+        copy.add(with_colour(alloc, entry, colour, is_alone)?);
+    }
+    if is_alone && !changed.are_alike {
+        return Ok(None);
     }
     let words = changed.into_words(words_beside(alloc, colour, &[]))?;
     with_entries(alloc, value, copy.done()?, words)
 }
 
-/// Whether an entry lacks a colour space.
-pub(crate) fn lacks_colour(alloc: Global, value: &Value, colour: &str) -> Result<bool, AllocError> {
+/// Whether the colour spaces of an entry are others with one more, or with that alone.
+pub(crate) fn recolours(
+    alloc: Global,
+    value: &Value,
+    colour: &str,
+    is_alone: bool,
+) -> Result<bool, AllocError> {
     for entry in entries_of(value) {
-        if !names_in(alloc, entry.get(COLOURS))?.contains(&colour) {
+        if is_recoloured(&names_in(alloc, entry.get(COLOURS))?, colour, is_alone) {
             return Ok(true);
         }
     }
     Ok(false)
+}
+
+/// Whether the colour spaces of these names are others with one more, or with that alone, if they
+/// have it.
+fn is_recoloured(names: &[&str], colour: &str, is_alone: bool) -> bool {
+    if is_alone {
+        names.len() > 1 && names.contains(&colour) || names.contains(&ANY)
+    } else {
+        !names.contains(&colour)
+    }
+}
+
+/// What is changed in an entry with these colour spaces.
+fn words_of(alloc: Global, colour: &str, names: &[&str], is_alone: bool) -> TextBuilder {
+    if is_alone {
+        words_alone(alloc, colour, names)
+    } else {
+        words_beside(alloc, colour, names)
+    }
+}
+
+/// `color_spaces SRGB and REC709 becomes REC709`.
+fn words_alone(alloc: Global, colour: &str, names: &[&str]) -> TextBuilder {
+    let mut words = TextBuilder::new(alloc);
+    words.field(Field::ColorSpaces).put(" ");
+    let start = words.len();
+    put_few(&mut words, names, 3);
+    let was = words.since(start);
+    words.put(" becomes ");
+    let start = words.len();
+    words.put(colour);
+    let value = words.since(start);
+    words.tell(Fact::Change(Deed::Set {
+        field: Field::ColorSpaces,
+        was: Some(was),
+        value,
+    }));
+    words
 }
 
 /// `color_spaces SRGB, with REC709 too`, or without names `color_spaces with REC709 too`.
@@ -76,9 +128,15 @@ fn words_beside(alloc: Global, colour: &str, names: &[&str]) -> TextBuilder {
     words
 }
 
-fn with_colour(alloc: Global, entry: &Value, colour: &str) -> Result<Value, AllocError> {
+/// An entry with a colour space more, or with that alone.
+fn with_colour(
+    alloc: Global,
+    entry: &Value,
+    colour: &str,
+    is_alone: bool,
+) -> Result<Value, AllocError> {
     let mut list = ListBuilder::new(alloc);
-    if let Some(items) = entry.get(COLOURS).and_then(Value::as_array) {
+    if let (Some(items), false) = (entry.get(COLOURS).and_then(Value::as_array), is_alone) {
         for item in items {
             list.add(item.clone()?);
         }

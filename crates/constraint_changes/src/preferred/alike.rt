@@ -12,6 +12,29 @@ use explanation_text::{ListBuilder, Text};
 use std::alloc::{AllocError, Global};
 use value_sources::NamedParticipant;
 
+/// Tries an edit of each of some participants until one brings what is wanted; tells with it those
+/// by whom the same comes.
+pub(crate) fn try_first(
+    found: &mut Found,
+    wish: Wish<'_, '_>,
+    selected: &[NamedParticipant<'_>],
+    edit: Edit,
+) -> Result<(), AllocError> {
+    if found.leaves(wish.group.scenario.effort) {
+        return Ok(());
+    }
+    let before = found.count;
+    let mut told: Vec<usize> = Vec::new(found.items.alloc());
+    for (k, participant) in selected.iter().enumerate() {
+        if found.count > before {
+            break;
+        }
+        let others = selected.get(k.saturating_add(1)..).unwrap_or(&[]);
+        try_alike(found, wish, &mut told, participant, others, edit)?;
+    }
+    Ok(())
+}
+
 /// Tries an edit of a participant, and tells with it those of some others by whom the same comes.
 pub(crate) fn try_alike(
     found: &mut Found,

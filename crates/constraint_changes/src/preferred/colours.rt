@@ -1,6 +1,6 @@
-//! Colour spaces that stand before the chosen one on the platform.
+//! Colour spaces that stand before the chosen one on the platform, or behind it and would do too.
 
-use crate::preferred::alike::try_alike;
+use crate::preferred::alike::{try_alike, try_first};
 use crate::preferred::telling::Found;
 use crate::preferred::wish::{Goal, Settled, Wish, settled_by};
 use crate::trials::{is_image_named, lacks_image};
@@ -9,7 +9,7 @@ use std::alloc::AllocError;
 use sysmem_formats::{ColourSpace, Offer, Pair};
 use value_sources::NamedParticipant;
 
-/// Tries the colour spaces before the chosen one on the platform.
+/// Tries the colour spaces before the chosen one on the platform, and those behind it.
 pub(crate) fn try_colours(
     found: &mut Found,
     wish: Wish<'_, '_>,
@@ -24,13 +24,36 @@ pub(crate) fn try_colours(
     else {
         return Ok(());
     };
+    let mut is_later = false;
     for colour in wish.group.scenario.platform.colours() {
         if *colour == chosen {
-            break;
+            is_later = true;
+        } else if is_later {
+            try_later_colour(found, wish, selected, pair, *colour)?;
+        } else {
+            try_colour(found, wish, selected, pair, *colour)?;
         }
-        try_colour(found, wish, selected, pair, *colour)?;
     }
     Ok(())
+}
+
+/// Tries that one of participants takes no other colour space than one in which nobody refuses a
+/// pair.
+fn try_later_colour(
+    found: &mut Found,
+    wish: Wish<'_, '_>,
+    selected: &[NamedParticipant<'_>],
+    pair: Pair,
+    colour: ColourSpace,
+) -> Result<(), AllocError> {
+    for participant in selected {
+        if lacks_image(participant, pair, colour) {
+            return Ok(());
+        }
+    }
+    let goal = Goal::Colour(colour);
+    let edit = Edit::TakesColourAlone(colour);
+    try_first(found, Wish { goal, ..wish }, selected, edit)
 }
 
 /// Tries that the only one of participants who doesn't take a pair in a colour space does so, if

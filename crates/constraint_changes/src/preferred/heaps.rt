@@ -1,6 +1,6 @@
 //! Heaps behind the chosen one that would do too.
 
-use crate::preferred::alike::try_alike;
+use crate::preferred::alike::try_first;
 use crate::preferred::places::is_refused;
 use crate::preferred::telling::Found;
 use crate::preferred::wish::{Goal, Wish, settled_by};
@@ -43,28 +43,13 @@ fn try_heap(
     selected: &[NamedParticipant<'_>],
     place: Place,
 ) -> Result<(), AllocError> {
-    if found.leaves(wish.group.scenario.effort) {
-        return Ok(());
-    }
     let goal = Goal::Place(place);
-    let edit = Edit::PermitsAlone(place.heap);
-    let before = found.count;
-    let mut told: Vec<usize> = Vec::new(found.items.alloc());
-    for (k, participant) in selected.iter().enumerate() {
-        if found.count > before {
-            break;
-        }
-        let others = selected.get(k.saturating_add(1)..).unwrap_or(&[]);
-        try_alike(
-            found,
-            Wish { goal, ..wish },
-            &mut told,
-            participant,
-            others,
-            edit,
-        )?;
-    }
-    Ok(())
+    try_first(
+        found,
+        Wish { goal, ..wish },
+        selected,
+        Edit::PermitsAlone(place.heap),
+    )
 }
 
 /// The first coherency domain of a heap that none of some participants refuses.
