@@ -1,7 +1,7 @@
 //! Colour spaces that stand before the chosen one on the platform.
 
 use crate::preferred::alike::try_alike;
-use crate::preferred::telling::Found;
+use crate::preferred::telling::{Found, Wanted};
 use crate::preferred::wish::{Goal, Settled, Wish, settled_by};
 use crate::trials::{is_image_named, lacks_image};
 use constraint_edits::Edit;
@@ -48,7 +48,7 @@ fn try_colour(
     let Some(participant) = only_lacking(selected, pair, colour) else {
         return Ok(());
     };
-    if found.leaves(wish.group.scenario.effort) {
+    if found.leaves(Wanted::Image, wish.group.scenario.effort) {
         return Ok(());
     }
     let goal = Goal::Colour(colour);
