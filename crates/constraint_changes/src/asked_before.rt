@@ -1,5 +1,5 @@
-//! What those of the initial domain may ask for, where what was decided doesn't do for a domain that
-//! was attached to one of them.
+//! What those of the initial domain may ask for, where what was decided doesn't do for a domain
+//! that was attached to one of them.
 
 use crate::known::RecordCache;
 use crate::together::CombinedChange;
@@ -178,8 +178,8 @@ fn asking<'a, 'b>(group: Group<'a, 'b>, one: &'b NamedParticipant<'a>) -> Combin
     }
 }
 
-/// Adds that the one to whom the domain of a group was attached states the bounds that are asked for
-/// late, in words and as an edited call; nothing where there are none.
+/// Adds that the one to whom the domain of a group was attached states the bounds that are asked
+/// for late, in words and as an edited call; nothing where there are none.
 pub(crate) fn add_bounds_before(
     whose: &mut Items,
     edits: &mut Vec<EditedCall>,

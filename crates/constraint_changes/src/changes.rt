@@ -534,8 +534,8 @@ fn head_of(alloc: Global, search: &Search<'_, '_>) -> TextBuilder {
     words
 }
 
-/// Puts a change that was tried, in these words, and what it gives; it is the last one's of those who
-/// may make it.
+/// Puts a change that was tried, in these words, and what it gives; it is the last one's of those
+/// who may make it.
 pub(crate) fn put_change(
     items: &mut Items,
     trial: Trial<'_, '_>,

@@ -668,8 +668,8 @@ impl CombinedChange<'_, '_> {
         Ok(stated)
     }
 
-    /// Whether the same comes with all values beyond those of some changes, by which calls state this,
-    /// and this comes.
+    /// Whether the same comes with all values beyond those of some changes, by which calls state
+    /// this, and this comes.
     fn is_so_beyond(
         &self,
         alloc: Global,

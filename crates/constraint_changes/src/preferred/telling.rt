@@ -188,8 +188,8 @@ pub(crate) fn put_of(
     put_wanted(found, wish, trial, from_ref(&who), &what, one)
 }
 
-/// Tells a change in these words by which comes what is wanted, if it may be meant, isn't told yet, and its record
-/// is read as what it asks then.
+/// Tells a change in these words by which comes what is wanted, if it may be meant, isn't told yet,
+/// and its record is read as what it asks then.
 #[tactic(auto, using(crate::proofs::Promises::promised_alone))]
 pub(crate) fn put_wanted(
     found: &mut Found,
