@@ -4,6 +4,7 @@ ghost use Rattle.std.specs.Prelude.{map};
 ghost use Rattle.script_reading.specs.Seen.{call_seen};
 ghost use Rattle.constraint_changes.specs.Edited.{IsPromised, edits_of};
 
+use crate::asked_before::add_bounds_before;
 use crate::changes::Search;
 use crate::lost::losses_by;
 use crate::together::CombinedChange;
@@ -145,8 +146,9 @@ fn put_whole_count(text: &mut TextBuilder, count: u32) {
 }
 
 /// Tells that the counts for camping of several participants help together as counts of all buffers,
-/// where none of them states one of these, and as many are decided then as the greatest says. Gives
-/// what calls state then; nothing where it isn't told.
+/// where none of them states one of these, and as many are decided then as the greatest says: of an
+/// attached domain also with the bounds that it asks for late. Gives what calls state then; nothing
+/// where it isn't told.
 pub(crate) fn add_whole_counts(
     items: &mut Items,
     joint: CombinedChange<'_, '_>,
@@ -162,6 +164,9 @@ pub(crate) fn add_whole_counts(
             add_whole(&mut whose, &mut edits, joint.group, participant, count)?;
             most = most.max(count);
         }
+    }
+    if !edits.is_empty() {
+        add_bounds_before(&mut whose, &mut edits, joint.group)?;
     }
     if edits.len() < 2 || joint.group.scenario.effort.is_spent() {
         return Ok(Vec::new(alloc));

@@ -5,6 +5,8 @@ ghost use Rattle.script_reading.specs.Seen.{call_seen};
 ghost use Rattle.serde_json.specs.View.{view};
 ghost use Rattle.constraint_changes.specs.Edited.{IsPromised, IsTried};
 
+use crate::asked_before::{bounds_asked, host_of, initial_of};
+use crate::beyond::{Farthest, words_of};
 use crate::camping::try_whole_count;
 use crate::exchanges::try_exchanges;
 use crate::lost::losses_by;
@@ -14,35 +16,19 @@ use crate::trials::{
     Group, Party, RestatedConstraints, Trial, TrialResult, are_sized, can_help, change_leaves_none,
     entries_behind, has_groups, is_worth, leaves_none, parties_of, put_choice, reached_by,
 };
-use constraint_edits::{
-    Amount, Change, Edit, Slip, amounts_in, changes, edited, is_absurd, slips_of,
-};
+use constraint_edits::{Amount, Change, Edit, Slip, changes, edited, is_absurd, slips_of};
 use domain_reasons::{choices_in, rooms_needed};
 use explanation_text::wording::put_joined;
 use explanation_text::{Items, Label, Text, TextBuilder};
-use script_story::{Effort, Milestone, Story, asked_in};
-use settings_reasons::failing;
+use script_story::{Effort, Milestone, asked_in};
 use std::alloc::{AllocError, Global};
 use std::slice::from_ref;
-use sysmem_counts::Field;
 use value_sources::NamedParticipant;
 
 /// How many changes are told.
 const MOST: usize = 5;
 /// How many are tried.
 const TRIES: usize = 300;
-
-/// The bounds by which a late one may ask for what nobody asked before, and somebody might have.
-const ASKED_LATE: [Field; 8] = [
-    Field::SizeAlignment,
-    Field::BytesPerRowDivisor,
-    Field::StartOffsetDivisor,
-    Field::DisplayRectAlignment,
-    Field::MinSize,
-    Field::MinBytesPerRow,
-    Field::RequiredMaxSize,
-    Field::RequiredMinSize,
-];
 
 /// What was found of changes so far.
 #[derive(Drop)]
@@ -183,51 +169,6 @@ fn try_room(
     Ok(())
 }
 
-/// That a bound is stated which those of a group ask for, and which what was decided before the
-/// domain of an index, which is theirs, doesn't meet.
-fn bounds_asked(
-    alloc: Global,
-    group: Group<'_, '_>,
-    index: usize,
-) -> Result<Vec<Edit>, AllocError> {
-    let mut edits = Vec::new(alloc);
-    let Some(before) = host_of(group.story, index).and_then(|host| group.story.domain_of(host))
-    else {
-        return Ok(edits);
-    };
-    let Some(settings) = &before.settings else {
-        return Ok(edits);
-    };
-    let platform = group.scenario.platform;
-    for participant in group.participants {
-        for field in &failing(alloc, platform, settings, participant.asked)? {
-            add_bounds(&mut edits, participant, *field)?;
-        }
-    }
-    Ok(edits)
-}
-
-/// Adds that a bound is stated with each amount that a participant states, each once.
-fn add_bounds(
-    edits: &mut Vec<Edit>,
-    participant: &NamedParticipant<'_>,
-    field: Field,
-) -> Result<(), AllocError> {
-    let Some(value) = participant.stated else {
-        return Ok(());
-    };
-    if !ASKED_LATE.contains(&field) {
-        return Ok(());
-    }
-    for amount in amounts_in(*edits.allocator(), value, Edit::NoBound(field))? {
-        let edit = Edit::States(field, amount);
-        if !edits.contains(&edit) {
-            edits.push(edit)?;
-        }
-    }
-    Ok(())
-}
-
 /// Tries that somebody asks for more in the initial domain by an edit, until one helps: first whom
 /// the domain of an index was attached to.
 fn try_before(
@@ -289,21 +230,6 @@ fn try_whom(
         }
     }
     Ok(search.count > before)
-}
-
-/// The initial domain, by index: in it the number of buffers is decided.
-fn initial_of(story: &Story<'_>) -> usize {
-    for (index, domain) in story.domains.iter().enumerate() {
-        if domain.host.is_none() {
-            return index;
-        }
-    }
-    0
-}
-
-/// The node to which the domain of an index was attached.
-fn host_of(story: &Story<'_>, index: usize) -> Option<usize> {
-    story.domains.get(index)?.host
 }
 
 /// Tries to put an entry of a participant first, behind another that takes a pair of the platform
@@ -431,6 +357,7 @@ fn put_least(
         return Ok(());
     };
     try_whole_count(search, group, trial, participant, edit, &found)?;
+    let far = Farthest::by(alloc, trial.place, &found)?;
     let least = trial.least(alloc, group, search.parties, value, edit, found)?;
     let enough = least.change.amount;
     let meant = try_slips(search, group, trial, participant, edit, enough)?;
@@ -438,7 +365,15 @@ fn put_least(
         return Ok(());
     }
     let is_meant = is_likely(edit);
-    put_found(search, group, trial, participant, edit, least, is_meant)
+    put_found(
+        search,
+        group,
+        trial,
+        participant,
+        is_meant,
+        Some(&far),
+        least,
+    )
 }
 
 /// Whether an edit is tried before others since it is likely meant, or asks the same in another
@@ -498,22 +433,22 @@ fn try_slip(
         return Ok(());
     };
     match trial.promised(alloc, made)? {
-        Some(found) => put_found(search, group, trial, participant, slip.edit, found, true),
+        Some(found) => put_found(search, group, trial, participant, true, None, found),
         None => Ok(()),
     }
 }
 
 /// Tells a change that helps, likely meant or not, if it may be meant and its record is read as what
-/// it asks then.
+/// it asks then; it may be known what comes farthest beyond it.
 #[tactic(auto, using(crate::proofs::Promises::promised_alone))]
 fn put_found(
     search: &mut Search<'_, '_>,
     group: Group<'_, '_>,
     trial: Trial<'_, '_>,
     participant: &NamedParticipant<'_>,
-    edit: Edit,
-    found: TrialResult,
     is_likely: bool,
+    far: Option<&Farthest>,
+    found: TrialResult,
 ) -> Result<(), AllocError>
     requires { IsTried trial.scenario.now.platform.now
         (map call_seen trial.scenario.now.calls.now) trial.place (view found.value)
@@ -528,18 +463,18 @@ fn put_found(
         return Ok(());
     }
     let choice = choices_in(alloc, group.story, group.root, found.outcome.selection())?;
-    let who = group.who_changes(alloc, participant, edit, &found.value)?;
+    let who = group.who_changes(alloc, participant, found.change.edit, &found.value)?;
+    let words = words_of(alloc, group, trial.place, participant, &found, far)?;
     let stated = RestatedConstraints {
         place: trial.place,
         value: found.value.clone()?,
     };
     let losses = losses_by(alloc, group, from_ref(&stated), 3)?;
-    let like = place_like(&search.told, &found.words, &found.outcome, &losses);
+    let like = place_like(&search.told, &words, &found.outcome, &losses);
     let rank = Rank::of(group, &found.outcome, is_likely, losses.count());
     let (whose, stated) = joined(alloc, search.take(like), who, stated)?;
-    let words = TextBuilder::of_text(alloc, &found.words).into_text()?;
     let mut items = Items::new(alloc);
-    put_change(&mut items, trial, Label::Alone(0), &whose, found);
+    put_change(&mut items, trial, Label::Alone(0), &whose, &words, found);
     put_choice(&mut items, 3, choice);
     let told = ToldChange::by(whose, words, stated, rank, items, losses);
     match like {
@@ -597,12 +532,14 @@ fn head_of(alloc: Global, search: &Search<'_, '_>) -> TextBuilder {
     words
 }
 
-/// Puts a change that was tried, and what it gives; it is the last one's of those who may make it.
+/// Puts a change that was tried, in these words, and what it gives; it is the last one's of those
+/// who may make it.
 pub(crate) fn put_change(
     items: &mut Items,
     trial: Trial<'_, '_>,
     label: Label,
     who: &[Text],
+    what: &Text,
     found: TrialResult,
 )
     requires { IsPromised trial.scenario.now.platform.now
@@ -611,7 +548,7 @@ pub(crate) fn put_change(
 {
     let mut words = TextBuilder::new(items.alloc());
     put_joined(&mut words, who, "or");
-    words.put(": ").put_text(&found.words);
+    words.put(": ").put_text(what);
     items.say(2, label, words);
     found.into_outcome().promise(items, 3)
 }

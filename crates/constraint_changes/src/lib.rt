@@ -11,6 +11,8 @@
 //! ```
 #![tactic(auto)]
 
+mod asked_before;
+mod beyond;
 mod camping;
 mod changes;
 mod exchanges;

@@ -3,7 +3,7 @@
 use crate::trials::{EditedCall, asked_after};
 use crate::walk::Run;
 use constraint_edits::{
-    Amount, Change, Edit, EditedConstraints, edited, edited_to, leave_out, read_asked,
+    Amount, Change, Edit, EditedConstraints, edited, edited_alone, edited_to, leave_out, read_asked,
 };
 use explanation_text::ListBuilder;
 use negotiation_inputs::Constraints;
@@ -37,6 +37,20 @@ impl PartyChange {
         match self.amount {
             Some(amount) => edited_to(alloc, value, self.edit, amount),
             None => edited(alloc, value, self.edit, heaps),
+        }
+    }
+
+    /// The same as it is told: alone, if other values may not do.
+    pub(crate) fn told(
+        &self,
+        alloc: Global,
+        value: &Value,
+        heaps: &[HeapInfo],
+        is_alone: bool,
+    ) -> Result<Option<EditedConstraints>, AllocError> {
+        match self.amount {
+            Some(amount) if is_alone => edited_alone(alloc, value, self.edit, amount),
+            _ => self.changed(alloc, value, heaps),
         }
     }
 }

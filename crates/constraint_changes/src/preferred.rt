@@ -19,13 +19,13 @@ use crate::preferred::heaps::try_later_heaps;
 use crate::preferred::kinds::try_kinds;
 use crate::preferred::pairs::try_pairs;
 use crate::preferred::places::{try_other_domain, try_places};
-use crate::preferred::telling::Found;
 pub use crate::preferred::telling::ToldChange;
+use crate::preferred::telling::{Found, Untried};
 use crate::preferred::wish::{Goal, Wish};
 use crate::trials::Group;
 use constraint_edits::Edit;
-use explanation_text::wording::put_count;
-use explanation_text::{Items, Label, TextBuilder};
+use explanation_text::wording::{put_count, put_joined};
+use explanation_text::{Items, Label, ListBuilder, Text, TextBuilder};
 use script_story::asked_in;
 use std::alloc::AllocError;
 
@@ -75,22 +75,44 @@ pub fn list_preferred(
         untried,
     } = found;
     items.append(list);
-    if untried > 0 {
-        put_untried(items, untried);
-    }
+    put_untried(items, untried)?;
     Ok(told)
 }
 
-/// Puts how many children, images and places weren't tried.
-fn put_untried(items: &mut Items, untried: usize) {
-    let mut words = TextBuilder::new(items.alloc());
-    put_count(
-        &mut words,
-        untried,
-        "other child, image or place wasn't tried",
-        "other children, images or places weren't tried",
+/// Puts how many children, images and places weren't tried, if some weren't.
+fn put_untried(items: &mut Items, untried: Untried) -> Result<(), AllocError> {
+    let alloc = items.alloc();
+    let mut kinds: ListBuilder<Text> = ListBuilder::new(alloc);
+    add_kind(
+        &mut kinds,
+        untried.children,
+        "other child",
+        "other children",
     );
+    add_kind(&mut kinds, untried.images, "other image", "other images");
+    add_kind(&mut kinds, untried.places, "other place", "other places");
+    let kinds = kinds.done()?;
+    if kinds.is_empty() {
+        return Ok(());
+    }
+    let mut words = TextBuilder::new(alloc);
+    put_joined(&mut words, &kinds, "and");
+    words.put(if untried.sum() == 1 {
+        " wasn't tried"
+    } else {
+        " weren't tried"
+    });
     items.say(1, Label::Note, words);
+    Ok(())
+}
+
+/// Adds how many of a kind weren't tried, if some weren't.
+fn add_kind(kinds: &mut ListBuilder<Text>, count: usize, one: &str, many: &str) {
+    if count > 0 {
+        let mut words = TextBuilder::new(kinds.alloc());
+        put_count(&mut words, count, one, many);
+        kinds.add_text(words);
+    }
 }
 
 /// Tries what would let another pair or place be chosen in an initial domain.

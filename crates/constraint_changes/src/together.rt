@@ -4,6 +4,8 @@ ghost use Rattle.std.specs.Prelude.{map, IfOk, IfSome};
 ghost use Rattle.script_reading.specs.Seen.{call_seen};
 ghost use Rattle.constraint_changes.specs.Edited.{IsPromised, IsPromisedSo, edits_of};
 
+use crate::asked_before::add_asked_before;
+use crate::beyond::Farthest;
 use crate::camping::add_whole_counts;
 use crate::known::{RecordCache, RestatedParticipants};
 use crate::lost::losses_by;
@@ -70,11 +72,17 @@ fn add_all(
     let all = joint.parts(alloc, edits)?;
     let mut shelf = RecordCache::new(alloc);
     let whole = add_whole_counts(items, joint)?;
-    let before = if whole.is_empty() { "" } else { "or " };
-    let plain = joint.put_plain(items, &mut shelf, &all, before)?;
-    let first = behind(items, group, whole, plain)?;
+    let asked = add_asked_before(items, group, word_before(&whole))?;
+    let first = behind(items, group, whole, asked)?;
+    let plain = joint.put_plain(items, &mut shelf, &all, word_before(&first))?;
+    let first = behind(items, group, first, plain)?;
     let others = joint.put_others(items, &mut shelf, &all)?;
     behind(items, group, first, others)
+}
+
+/// What stands before changes that are told behind those by which calls state this.
+fn word_before(first: &[RestatedConstraints]) -> &'static str {
+    if first.is_empty() { "" } else { "or " }
 }
 
 /// Of changes that are told one behind the other what calls state by the first; nothing where none
@@ -128,7 +136,7 @@ pub(crate) struct CombinedChange<'a, 'b> {
 
 impl CombinedChange<'_, '_> {
     /// Tells the fewest of some changes that help without taking the use by a CPU away.
-    fn put_plain(
+    pub(crate) fn put_plain(
         &self,
         items: &mut Items,
         shelf: &mut RecordCache,
@@ -162,7 +170,11 @@ impl CombinedChange<'_, '_> {
     }
 
     /// Each change of each participant that is worth a try, of the first where there are very many.
-    fn parts(&self, alloc: Global, edits: &[Edit]) -> Result<Vec<PartyChange>, AllocError> {
+    pub(crate) fn parts(
+        &self,
+        alloc: Global,
+        edits: &[Edit],
+    ) -> Result<Vec<PartyChange>, AllocError> {
         let mut parts: Vec<PartyChange> = Vec::new(alloc);
         for edit in edits {
             self.add_parts(&mut parts, *edit)?;
@@ -604,7 +616,11 @@ impl CombinedChange<'_, '_> {
     }
 
     /// The call of each participant of whom some changes are.
-    fn edits(&self, alloc: Global, parts: &[PartyChange]) -> Result<Vec<EditedCall>, AllocError> {
+    pub(crate) fn edits(
+        &self,
+        alloc: Global,
+        parts: &[PartyChange],
+    ) -> Result<Vec<EditedCall>, AllocError> {
         let mut edits = Vec::new(alloc);
         for (person, one) in self.group.participants.iter().enumerate() {
             let number = self
@@ -642,7 +658,9 @@ impl CombinedChange<'_, '_> {
             return Ok(Vec::new(alloc));
         }
         let stated = promise.stated(alloc)?;
-        self.put_parts(items, parts, before)?;
+        let is_alone = !self.is_so_beyond(alloc, parts, &stated, &promise.outcome)?;
+        self.put_head(items, parts.len(), before);
+        self.put_each(items, parts, is_alone)?;
         let selection = promise.outcome.selection();
         let choice = choices_in(alloc, self.group.story, self.group.root, selection)?;
         put_promise(items, self.group, 2, promise);
@@ -650,22 +668,49 @@ impl CombinedChange<'_, '_> {
         Ok(stated)
     }
 
-    /// Puts changes that help together, each by what those before it leave.
-    fn put_parts(
+    /// Whether the same comes with all values beyond those of some changes, by which calls state
+    /// this, and this comes.
+    fn is_so_beyond(
         &self,
-        items: &mut Items,
+        alloc: Global,
         parts: &[PartyChange],
-        before: &str,
-    ) -> Result<(), AllocError> {
-        let count = parts.len();
+        stated: &[RestatedConstraints],
+        outcome: &Outcome,
+    ) -> Result<bool, AllocError> {
+        if !parts.iter().any(|part| part.amount.is_some()) {
+            return Ok(true);
+        }
+        let mut bare = Vec::from_slice(alloc, parts)?;
+        for index in 0..parts.len() {
+            set_amount(&mut bare, index, None);
+        }
+        let Some(beyond) = self.outcome(alloc, &bare)? else {
+            return Ok(false);
+        };
+        let far = Farthest::of(alloc, self.stated(alloc, &bare)?, &beyond)?;
+        far.is_as(alloc, self.group, stated, outcome)
+    }
+
+    /// Puts above changes that so many help together.
+    fn put_head(&self, items: &mut Items, count: usize, before: &str) {
         let mut words = TextBuilder::of(items.alloc(), before);
         words
             .put("these ")
             .put_number(count)
             .put(" together suffice (fewer weren't found):");
         items.say(1, Label::Change, words);
-        for index in 0..count {
-            self.put_part(items, parts, index)?;
+    }
+
+    /// Puts changes that help together, each by what those before it leave; alone, if other values
+    /// than theirs may not do.
+    pub(crate) fn put_each(
+        &self,
+        items: &mut Items,
+        parts: &[PartyChange],
+        is_alone: bool,
+    ) -> Result<(), AllocError> {
+        for index in 0..parts.len() {
+            self.put_part(items, parts, index, is_alone)?;
         }
         Ok(())
     }
@@ -676,6 +721,7 @@ impl CombinedChange<'_, '_> {
         items: &mut Items,
         parts: &[PartyChange],
         index: usize,
+        is_alone: bool,
     ) -> Result<(), AllocError> {
         let alloc = items.alloc();
         let (Some(part), Some(earlier)) = (parts.get(index), parts.get(..index)) else {
@@ -689,10 +735,10 @@ impl CombinedChange<'_, '_> {
         };
         let heaps = self.group.scenario.platform.heaps();
         let now = after(alloc, value, part.person, earlier, heaps)?;
-        let Some(change) = part.changed(alloc, &now, heaps)? else {
+        let Some(change) = part.told(alloc, &now, heaps, is_alone)? else {
             return Ok(());
         };
-        let who = match part.changed(alloc, value, heaps)? {
+        let who = match part.told(alloc, value, heaps, is_alone)? {
             Some(alone) if alone.words == change.words => {
                 self.group.who_changes(alloc, one, part.edit, &alone.value)?
             }

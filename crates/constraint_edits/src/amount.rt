@@ -334,6 +334,19 @@ pub fn edited_to(
     edited_as(alloc, value, edit, amount, others_beside(edit, amount))
 }
 
+/// The same, where other values aren't said to do.
+pub fn edited_alone(
+    alloc: Global,
+    value: &Value,
+    edit: Edit,
+    amount: Amount,
+) -> Result<Option<EditedConstraints>, AllocError>
+    ensures { IfOk result (λ made. IfSome made (λ changed. changed.change
+        ≡ record { edit = edit; amount = Some amount; start = 0; end = 0 })) }
+{
+    edited_as(alloc, value, edit, amount, "")
+}
+
 /// The same, with words behind the value.
 pub(crate) fn edited_as(
     alloc: Global,

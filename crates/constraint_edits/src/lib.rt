@@ -28,7 +28,7 @@ mod stating;
 mod taking;
 mod using;
 
-pub use amount::{Amount, amounts_in, edited_to};
+pub use amount::{Amount, amounts_in, edited_alone, edited_to};
 pub use change::{Change, apply_all};
 pub use edits::{Edit, EditedConstraints, changes, edited, edits_on};
 pub use halving::{Halving, is_absurd};

@@ -4,6 +4,7 @@ ghost use Rattle.std.specs.Prelude.{[], ◌∷◌, map};
 ghost use Rattle.script_reading.specs.Seen.{call_seen};
 ghost use Rattle.constraint_changes.specs.Edited.{IsPromised};
 
+use crate::beyond::words_of;
 use crate::preferred::telling::{Found, put_wanted, trial_of, tried};
 use crate::preferred::wish::Wish;
 use crate::trials::{Group, Trial, TrialResult};
@@ -20,9 +21,6 @@ pub(crate) fn try_first(
     selected: &[NamedParticipant<'_>],
     edit: Edit,
 ) -> Result<(), AllocError> {
-    if found.leaves(wish.group.scenario.effort) {
-        return Ok(());
-    }
     let before = found.count;
     let mut told: Vec<usize> = Vec::new(found.items.alloc());
     for (k, participant) in selected.iter().enumerate() {
@@ -62,7 +60,8 @@ pub(crate) fn try_alike(
     let mut who: ListBuilder<Text> = ListBuilder::new(alloc);
     who.add(group.who_changes(alloc, participant, edit, &one.value)?);
     add_alike(found, wish, &mut who, told, others, edit, &one)?;
-    put_wanted(found, wish, trial, &who.done()?, one)
+    let what = words_of(alloc, group, trial.place, participant, &one, None)?;
+    put_wanted(found, wish, trial, &who.done()?, &what, one)
 }
 
 /// Adds those of some participants by whose edit the same comes as by one that was run.

@@ -2,7 +2,7 @@
 
 use crate::preferred::pairs::with_pair;
 use crate::preferred::party::try_party;
-use crate::preferred::telling::Found;
+use crate::preferred::telling::{Found, Wanted};
 use crate::preferred::wish::{Settled, Wish, settled_by};
 use crate::trials::{Group, asked_with, first_open};
 use constraint_edits::Edit;
@@ -86,7 +86,7 @@ fn try_children(
         if story.is_selected(*child) {
             break;
         }
-        if !found.leaves(wish.group.scenario.effort) {
+        if !found.leaves(Wanted::Child, wish.group.scenario.effort) {
             try_child(found, wish, scope, edits, above, *child)?;
         }
     }

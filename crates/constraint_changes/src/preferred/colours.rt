@@ -1,7 +1,7 @@
 //! Colour spaces that stand before the chosen one on the platform, or behind it and would do too.
 
 use crate::preferred::alike::{try_alike, try_first};
-use crate::preferred::telling::Found;
+use crate::preferred::telling::{Found, Wanted};
 use crate::preferred::wish::{Goal, Settled, Wish, settled_by};
 use crate::trials::{is_image_named, lacks_image};
 use constraint_edits::Edit;
@@ -51,6 +51,9 @@ fn try_later_colour(
             return Ok(());
         }
     }
+    if found.leaves(Wanted::Image, wish.group.scenario.effort) {
+        return Ok(());
+    }
     let goal = Goal::Colour(colour);
     let edit = Edit::TakesColourAlone(colour);
     try_first(found, Wish { goal, ..wish }, selected, edit)
@@ -71,7 +74,7 @@ fn try_colour(
     let Some(participant) = only_lacking(selected, pair, colour) else {
         return Ok(());
     };
-    if found.leaves(wish.group.scenario.effort) {
+    if found.leaves(Wanted::Image, wish.group.scenario.effort) {
         return Ok(());
     }
     let goal = Goal::Colour(colour);

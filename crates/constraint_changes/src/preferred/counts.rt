@@ -1,5 +1,6 @@
 //! Counts of buffers that leave an attached domain room for an earlier child.
 
+use crate::beyond::Farthest;
 use crate::preferred::telling::{Found, put_of, trial_of, tried};
 use crate::preferred::wish::Wish;
 use crate::trials::{MOST_HALVINGS, Trial, TrialResult, reached_by};
@@ -62,10 +63,11 @@ fn try_one(
         return Ok(());
     };
     let Some(least) = least_of(alloc, found, wish, trial, value, edit, &one)? else {
-        return put_of(found, wish, trial, participant, one);
+        return put_of(found, wish, trial, participant, None, one);
     };
+    let far = Farthest::by(alloc, trial.place, &one)?;
     match tried(alloc, found, wish, trial, least)? {
-        Some(best) => put_of(found, wish, trial, participant, best),
+        Some(best) => put_of(found, wish, trial, participant, Some(&far), best),
         None => Ok(()),
     }
 }

@@ -2,7 +2,7 @@
 
 use crate::preferred::alike::try_first;
 use crate::preferred::places::is_refused;
-use crate::preferred::telling::Found;
+use crate::preferred::telling::{Found, Wanted};
 use crate::preferred::wish::{Goal, Wish, settled_by};
 use constraint_edits::Edit;
 use std::alloc::AllocError;
@@ -43,6 +43,9 @@ fn try_heap(
     selected: &[NamedParticipant<'_>],
     place: Place,
 ) -> Result<(), AllocError> {
+    if found.leaves(Wanted::Place, wish.group.scenario.effort) {
+        return Ok(());
+    }
     let goal = Goal::Place(place);
     try_first(
         found,

@@ -2,7 +2,7 @@
 
 use crate::preferred::alike::try_alike;
 use crate::preferred::places::is_refused;
-use crate::preferred::telling::Found;
+use crate::preferred::telling::{Found, Wanted};
 use crate::preferred::wish::{Goal, Wish, is_of_kind, settled_by};
 use constraint_edits::Edit;
 use std::alloc::AllocError;
@@ -20,7 +20,9 @@ pub(crate) fn try_kinds(
     selected: &[NamedParticipant<'_>],
 ) -> Result<(), AllocError> {
     for field in &KINDS {
-        if would_do(wish, selected, *field) && !found.leaves(wish.group.scenario.effort) {
+        if would_do(wish, selected, *field)
+            && !found.leaves(Wanted::Place, wish.group.scenario.effort)
+        {
             let goal = Goal::Kind(*field);
             try_flag(found, Wish { goal, ..wish }, selected, *field)?;
         }

@@ -1,7 +1,7 @@
 //! Pairs that stand before the chosen one on the platform.
 
 use crate::preferred::party::try_party;
-use crate::preferred::telling::Found;
+use crate::preferred::telling::{Found, Wanted};
 use crate::preferred::wish::{Goal, Wish, is_chosen};
 use crate::trials::{Group, lacking_pair};
 use constraint_edits::Edit;
@@ -28,15 +28,21 @@ pub(crate) fn try_pairs(
         if is_chosen(wish.now, *pair) {
             break;
         }
-        if lacking_pair(selected, *pair) > 1 || found.leaves(wish.group.scenario.effort) {
+        if lacking_pair(selected, *pair) > 1
+            || found.leaves(Wanted::Image, wish.group.scenario.effort)
+        {
             continue;
         }
         if left == 0 {
-            found.untried = found.untried.saturating_add(1);
+            found.untried.add(Wanted::Image);
             continue;
         }
         left = left.saturating_sub(1);
+        let before = found.count;
         try_pair(found, wish, selected, edits, *pair)?;
+        if found.count == before && found.is_done(wish.group.scenario.effort) {
+            found.untried.add(Wanted::Image);
+        }
     }
     Ok(())
 }

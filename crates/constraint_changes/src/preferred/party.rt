@@ -1,5 +1,6 @@
 //! Participants who are asked together and leave no settings, where each change of one is tried.
 
+use crate::beyond::Farthest;
 use crate::preferred::counts::try_counts;
 use crate::preferred::telling::{Found, put_of, trial_of, tried};
 use crate::preferred::wish::{Goal, Wish};
@@ -86,12 +87,13 @@ fn try_one(
     let Some(one) = tried(alloc, found, wish, trial, change)? else {
         return Ok(());
     };
+    let far = Farthest::by(alloc, place, &one)?;
     let least = trial.least(alloc, scope, from_ref(party), value, edit, one)?;
     if !wish.is_met(&least.outcome) {
         return Ok(());
     }
     try_slips(found, wish, trial, participant, edit, least.change.amount)?;
-    put_of(found, wish, trial, participant, least)
+    put_of(found, wish, trial, participant, Some(&far), least)
 }
 
 /// Tries the values that may be meant in the place of the one of the field that an edit leaves out,
@@ -117,7 +119,7 @@ fn try_slips(
             continue;
         };
         if let Some(one) = tried(alloc, found, wish, trial, made)? {
-            put_of(found, wish, trial, participant, one)?;
+            put_of(found, wish, trial, participant, None, one)?;
         }
     }
     Ok(())

@@ -1,7 +1,7 @@
 //! Places that stand before the chosen one on the platform.
 
 use crate::preferred::alike::try_alike;
-use crate::preferred::telling::Found;
+use crate::preferred::telling::{Found, Wanted};
 use crate::preferred::wish::{Goal, Wish, settled_by};
 use crate::trials::Group;
 use constraint_edits::{Edit, changes};
@@ -78,7 +78,7 @@ fn try_place(
     let Some(edit) = edit_for(alloc, wish.group, participant, field, place.heap)? else {
         return Ok(());
     };
-    if found.leaves(wish.group.scenario.effort) {
+    if found.leaves(Wanted::Place, wish.group.scenario.effort) {
         return Ok(());
     }
     let goal = Goal::Place(place);
@@ -108,7 +108,7 @@ pub(crate) fn try_other_domain(
     let Some(place) = first_in_another(heaps, selected, chosen) else {
         return Ok(());
     };
-    if found.leaves(wish.group.scenario.effort) {
+    if found.leaves(Wanted::Place, wish.group.scenario.effort) {
         return Ok(());
     }
     let edit = Edit::NoSupport(supported_by(chosen));

@@ -5,6 +5,7 @@ ghost use Rattle.serde_json.specs.View.{view};
 ghost use Rattle.script_reading.specs.Seen.{call_seen};
 ghost use Rattle.constraint_changes.specs.Edited.{IsTried};
 
+use crate::beyond::{Farthest, words_of};
 use crate::changes::put_change;
 use crate::preferred::wish::Wish;
 use crate::trials::{
@@ -19,7 +20,7 @@ use std::slice::from_ref;
 use value_sources::NamedParticipant;
 
 /// How many changes are told.
-const MOST: usize = 5;
+const MOST: usize = 8;
 
 /// How many are run.
 const RUNS: usize = 32;
@@ -43,6 +44,41 @@ pub(crate) struct MadeChange {
     change: Change,
 }
 
+/// What is wanted by a try.
+#[derive(Clone, Copy)]
+pub(crate) enum Wanted {
+    Child,
+    /// A pair, or a colour space of it.
+    Image,
+    /// A place, or a kind of memory.
+    Place,
+}
+
+/// How many children, images and places weren't tried.
+#[derive(Clone, Copy)]
+pub(crate) struct Untried {
+    pub(crate) children: usize,
+    pub(crate) images: usize,
+    pub(crate) places: usize,
+}
+
+impl Untried {
+    /// Counts one more.
+    pub(crate) fn add(&mut self, wanted: Wanted) {
+        match wanted {
+            Wanted::Child => self.children = self.children.saturating_add(1),
+            Wanted::Image => self.images = self.images.saturating_add(1),
+            Wanted::Place => self.places = self.places.saturating_add(1),
+        }
+    }
+
+    /// How many weren't tried in all.
+    pub(crate) fn sum(self) -> usize {
+        let images = self.children.saturating_add(self.images);
+        images.saturating_add(self.places)
+    }
+}
+
 /// What was found so far.
 #[derive(Drop)]
 pub(crate) struct Found {
@@ -53,8 +89,8 @@ pub(crate) struct Found {
     pub(crate) made: Vec<MadeChange>,
     pub(crate) count: usize,
     pub(crate) runs: usize,
-    /// How many children, images and places weren't tried, since enough was.
-    pub(crate) untried: usize,
+    /// What wasn't tried, since enough was.
+    pub(crate) untried: Untried,
 }
 
 impl Found {
@@ -66,7 +102,11 @@ impl Found {
             made: Vec::new(alloc),
             count: 0,
             runs: 0,
-            untried: 0,
+            untried: Untried {
+                children: 0,
+                images: 0,
+                places: 0,
+            },
         }
     }
 
@@ -76,9 +116,11 @@ impl Found {
     }
 
     /// The same, where one more child, image or place would be tried; it is counted.
-    pub(crate) fn leaves(&mut self, effort: &Effort) -> bool {
+    pub(crate) fn leaves(&mut self, wanted: Wanted, effort: &Effort) -> bool {
         let is_done = self.is_done(effort);
-        self.untried = self.untried.saturating_add(usize::from(is_done));
+        if is_done {
+            self.untried.add(wanted);
+        }
         is_done
     }
 
@@ -125,12 +167,14 @@ pub(crate) fn tried(
     }
 }
 
-/// Tells a change of a participant by which comes what is wanted, under the same conditions.
+/// Tells a change of a participant by which comes what is wanted, under the same conditions; it may
+/// be known what comes farthest beyond it.
 pub(crate) fn put_of(
     found: &mut Found,
     wish: Wish<'_, '_>,
     trial: Trial<'_, '_>,
     participant: &NamedParticipant<'_>,
+    far: Option<&Farthest>,
     one: TrialResult,
 ) -> Result<(), AllocError>
     requires { IsTried trial.scenario.now.platform.now
@@ -138,20 +182,21 @@ pub(crate) fn put_of(
         trial.path.now one.outcome }
 {
     let alloc = found.items.alloc();
-    let who = wish
-        .group
-        .who_changes(alloc, participant, one.change.edit, &one.value)?;
-    put_wanted(found, wish, trial, from_ref(&who), one)
+    let group = wish.group;
+    let who = group.who_changes(alloc, participant, one.change.edit, &one.value)?;
+    let what = words_of(alloc, group, trial.place, participant, &one, far)?;
+    put_wanted(found, wish, trial, from_ref(&who), &what, one)
 }
 
-/// Tells a change by which comes what is wanted, if it may be meant, isn't told yet, and its record
-/// is read as what it asks then.
+/// Tells a change in these words by which comes what is wanted, if it may be meant, isn't told yet,
+/// and its record is read as what it asks then.
 #[tactic(auto, using(crate::proofs::Promises::promised_alone))]
 pub(crate) fn put_wanted(
     found: &mut Found,
     wish: Wish<'_, '_>,
     trial: Trial<'_, '_>,
     who: &[Text],
+    what: &Text,
     one: TrialResult,
 ) -> Result<(), AllocError>
     requires { IsTried trial.scenario.now.platform.now
@@ -173,7 +218,7 @@ pub(crate) fn put_wanted(
     let is_sized_otherwise = has_other_numbers(&one.outcome, wish.now);
     let value = one.value.clone()?;
     let label = found.label();
-    put_change(&mut found.items, trial, label, who, one);
+    put_change(&mut found.items, trial, label, who, what, one);
     put_choice(&mut found.items, 3, choice);
     found.made.push(made)?;
     let stated = RestatedConstraints {
