@@ -1,4 +1,5 @@
 """Makes a script's calls otherwise, as an explanation says."""
+import itertools
 import json
 import re
 
@@ -421,26 +422,55 @@ def names_exchanged(script, words):
     return script
 
 
+def moved_after(calls, numbers, after):
+    """Calls, some of which come after another one, and the number that this has then."""
+    rest = [(number, call) for number, call in enumerate(calls, 1) if number not in numbers]
+    place = next(k for k, (number, _) in enumerate(rest) if number == after) + 1
+    rest = [call for _, call in rest]
+    return rest[:place] + [calls[number - 1] for number in numbers] + rest[place:], place
+
+
+def decided_by(script, calls, number):
+    """What the call of a number decides, where a script has these calls."""
+    lines = report_of({**script, "calls": calls})
+    first = next(k for k, line in enumerate(lines) if line.startswith(f"{number} ")) + 1
+    return list(itertools.takewhile(lambda line: line.startswith("domain "), lines[first:]))
+
+
+def one_is_enough(script, words, numbers, beside, after):
+    """Judges that each of some calls is enough where the others come after that of a number: beside others, of which it
+    is said that they are needed."""
+    calls = script["calls"]
+    now = decided_by(script, calls, after)
+    others = [[other for other in numbers if other != number] for number in numbers]
+    for some in others:
+        judge(decided_by(script, *moved_after(calls, some, after)) == now, f"{words}: one isn't enough")
+    if beside:
+        alone = [decided_by(script, *moved_after(calls, sorted([*some, *beside]), after)) for some in others]
+        judge(any(then != now for then in alone), f"{words}: one is enough by itself")
+
+
 def ended_after(script, words):
     """A script in which calls that release or close somebody come after another call; without these calls the domain is
     the same, where that is said."""
-    ends, names, each, late, after, never = re.fullmatch(
-        r"it has room (?:with these children )?only since calls? ([\d, and]+?) (?:together )?"
-        r"(?:released or closed|released|closed) (.*?)(, all of which it needs)?; "
+    ends, names, each, enough, beside, late, after, never = re.fullmatch(
+        r"it has room (?:with these children )?only since calls? ([\d, and]+?) "
+        r"(?:released or closed|released|closed) (.*?)"
+        r"(?:(, all of which it needs)|(, of which one is enough)(?: beside calls? ([\d, and]+))?)?; "
         r"with calls? ([\d, and]+) after call (\d+)(, or left out,)? it would be, with the calls numbered anew:",
         words,
     ).groups()
-    calls, numbers = script["calls"], [int(number) for number in re.findall(r"\d+", late)]
-    all_ends = [int(number) for number in re.findall(r"\d+", ends)]
+    calls, (numbers, all_ends, others) = script["calls"], [
+        [int(number) for number in re.findall(r"\d+", some or "")] for some in (late, ends, beside)
+    ]
     judge(len(numbers) == 1 and numbers[0] in all_ends if each else numbers == all_ends, f"{words}: others are moved")
+    judge((len(numbers) > 1) == bool(enough), f"{words}: how many it needs isn't said")
     names_end(calls, names, all_ends, words)
-    carried = [calls[number - 1] for number in numbers]
-    rest = [(number, call) for number, call in enumerate(calls, 1) if number not in numbers]
-    place = next(k for k, (number, _) in enumerate(rest) if number == int(after)) + 1
-    rest = [call for _, call in rest]
-    script["calls"] = rest[:place] + carried + rest[place:]
+    if enough:
+        one_is_enough(script, words, numbers, others, int(after))
+    script["calls"], _ = moved_after(calls, numbers, int(after))
     if never:
-        script["without"] = rest
+        script["without"] = [call for number, call in enumerate(calls, 1) if number not in numbers]
     return script
 
 

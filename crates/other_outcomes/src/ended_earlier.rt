@@ -4,7 +4,7 @@ ghost use Rattle.std.specs.Prelude.{◌≡◌, ◌<◌, List, length, IfOk, IfSo
 ghost use Rattle.script_reading.specs.declared.call.Call.{Call as Called};
 ghost use Rattle.other_outcomes.specs.Shorter.{IsPromisedShorter, IsShorter, leaving_out};
 
-use crate::ended_later::{End, ended_by, ending, put_calls, put_names};
+use crate::ended_later::{End, but_those, ended_by, ending, holding, put_calls, put_names};
 use crate::moved::{ending_of, outcome_moved, put_promised, with_moves};
 use crate::otherwise::Otherwise;
 use domain_reasons::{accepted_before, count_above, gone_before};
@@ -26,6 +26,17 @@ struct NeededEnds {
     are_each: bool,
 }
 
+/// Since whose ends a late domain has room.
+#[derive(Clone, Copy)]
+struct Since<'b> {
+    ends: &'b [End],
+    /// Those that come late in what is tried: all of them, or the first of several that are all
+    /// needed.
+    late: &'b [End],
+    /// Those beside which one of them is enough, where it isn't by itself.
+    beside: &'b [End],
+}
+
 /// An attached domain that is chosen.
 #[derive(Clone, Copy)]
 struct LateDomain<'b> {
@@ -38,8 +49,8 @@ struct LateDomain<'b> {
 
 /// Tells who was released or closed before an attached domain was chosen that has room, or room with
 /// the children that its groups chose, only since then, and what the domain at a path would be if
-/// that came after it: of the first of them without whom it has no room, else of all. Says with which
-/// calls that would be so.
+/// that came after it: of the first of them without whom it has no room, else of the fewest of whom
+/// one has to be gone. Says with which calls that would be so.
 pub fn add_ended_earlier<'a>(
     items: &mut Items,
     scenario: &Scenario<'a>,
@@ -61,17 +72,43 @@ pub fn add_ended_earlier<'a>(
     };
     let needed = needed_ends(alloc, story, index, decided, u64::from(count))?;
     if !needed.are_each {
-        return add_after(items, scenario, story, &needed.ends, &needed.ends, late);
+        return add_fewest(items, scenario, story, &needed.ends, late);
     }
     let ends = roomless_without(alloc, scenario, &needed.ends, late)?;
-    match ends.first() {
-        Some(first) => add_after(items, scenario, story, &ends, from_ref(first), late),
-        None => Ok(None),
-    }
+    let Some(first) = ends.first() else {
+        return Ok(None);
+    };
+    let since = Since {
+        ends: &ends,
+        late: from_ref(first),
+        beside: &[],
+    };
+    add_after(items, scenario, story, since, late)
+}
+
+/// Tells of the fewest of some ends that leave a late domain without room if all of them came after
+/// it was decided: one of them is enough, where it isn't by itself beside the others.
+fn add_fewest<'a>(
+    items: &mut Items,
+    scenario: &Scenario<'a>,
+    story: &Story<'_>,
+    ends: &[End],
+    late: LateDomain<'_>,
+) -> Result<Option<Otherwise<'a>>, AllocError> {
+    let alloc = items.alloc();
+    let fewest = fewest_roomless(alloc, scenario, ends, late)?;
+    let others = but_those(alloc, ends, &fewest)?;
+    let is_enough = others.is_empty() || is_each_enough(alloc, scenario, ends, &fewest, late)?;
+    let since = Since {
+        ends: &fewest,
+        late: &fewest,
+        beside: if is_enough { &[] } else { others.as_slice() },
+    };
+    add_after(items, scenario, story, since, late)
 }
 
 /// Those without whose end so many buffers wouldn't do for an attached domain: each by itself, or
-/// all if one isn't enough; none if they would do.
+/// all who held some if none is; none if they would do.
 fn needed_ends(
     alloc: Global,
     story: &Story<'_>,
@@ -81,7 +118,7 @@ fn needed_ends(
 ) -> Result<NeededEnds, AllocError> {
     let mut all = accepted_before(alloc, story, index)?;
     all.extend_from_slice(&asked_in(alloc, story, index, true)?)?;
-    let gone = gone_before(alloc, story, index)?;
+    let gone = holding(alloc, &gone_before(alloc, story, index)?)?;
     let alone = needed_alone(alloc, &all, &gone, count)?;
     let are_each = !alone.is_empty();
     let ends = if are_each {
@@ -147,13 +184,62 @@ fn roomless_without(
 ) -> Result<Vec<End>, AllocError> {
     let mut roomless = Vec::new(alloc);
     for end in ends {
-        let moves = moves_of(alloc, from_ref(end), late.decided)?;
-        match outcome_moved(alloc, scenario, &moves, late.path)? {
-            Some(outcome) if is_roomless(&outcome, late) => roomless.push(*end)?,
-            _ => {}
+        if is_roomless_after(alloc, scenario, from_ref(end), late)? {
+            roomless.push(*end)?;
         }
     }
     Ok(roomless)
+}
+
+/// Some ends without those that needn't come after a late domain was decided to leave it without
+/// room, the last of them first.
+fn fewest_roomless(
+    alloc: Global,
+    scenario: &Scenario<'_>,
+    ends: &[End],
+    late: LateDomain<'_>,
+) -> Result<Vec<End>, AllocError> {
+    let mut fewest = Vec::from_slice(alloc, ends)?;
+    for end in ends.iter().rev() {
+        let others = but_those(alloc, &fewest, from_ref(end))?;
+        if is_roomless_after(alloc, scenario, &others, late)? {
+            fewest = others;
+        }
+    }
+    Ok(fewest)
+}
+
+/// Whether each of the fewest of some ends leaves a late domain room, if all the others of these
+/// came after it was decided.
+fn is_each_enough(
+    alloc: Global,
+    scenario: &Scenario<'_>,
+    ends: &[End],
+    fewest: &[End],
+    late: LateDomain<'_>,
+) -> Result<bool, AllocError> {
+    for end in fewest {
+        let others = but_those(alloc, ends, from_ref(end))?;
+        if is_roomless_after(alloc, scenario, &others, late)? {
+            return Ok(false);
+        }
+    }
+    Ok(true)
+}
+
+/// Whether some ends, if they came after a late domain was decided, would leave what it chose without
+/// room.
+fn is_roomless_after(
+    alloc: Global,
+    scenario: &Scenario<'_>,
+    ends: &[End],
+    late: LateDomain<'_>,
+) -> Result<bool, AllocError> {
+    let moves = moves_of(alloc, ends, late.decided)?;
+    match outcome_moved(alloc, scenario, &moves, late.path)? {
+        Some(outcome) => Ok(is_roomless(&outcome, late)),
+        None => Ok(false),
+    }
 }
 
 /// Whether a late domain is decided, and nothing is chosen, or other children are than were.
@@ -171,21 +257,21 @@ fn add_after<'a>(
     items: &mut Items,
     scenario: &Scenario<'a>,
     story: &Story<'_>,
-    ends: &[End],
-    moved: &[End],
+    since: Since<'_>,
     late: LateDomain<'_>,
 ) -> Result<Option<Otherwise<'a>>, AllocError> {
-    if moved.is_empty() {
+    if since.late.is_empty() {
         return Ok(None);
     }
     let alloc = items.alloc();
-    let moves = moves_of(alloc, moved, late.decided)?;
+    let moves = moves_of(alloc, since.late, late.decided)?;
     match outcome_moved(alloc, scenario, &moves, late.path)? {
         Some(outcome) if is_roomless(&outcome, late) => {
             let then = with_moves(alloc, scenario, &moves, &outcome)?;
-            let never = is_so_without(alloc, scenario, moved, late.path, &outcome)?;
-            let mut text = since_text(alloc, story, ends, moved, !late.chosen.is_empty());
-            put_tried(&mut text, moved, late.decided, never);
+            let never = is_so_without(alloc, scenario, since.late, late.path, &outcome)?;
+            let mut text = since_text(alloc, story, since.ends, !late.chosen.is_empty());
+            put_needed(&mut text, since);
+            put_tried(&mut text, since.late, late.decided, never);
             items.say(1, Label::Then, text);
             put_promised(items, scenario, late.path, outcome);
             Ok(Some(then))
@@ -221,17 +307,8 @@ fn is_so_without(
 }
 
 /// Since when it has room, or room with the children of groups: `it has room only since call 11
-/// released first`. Those that come late in what is tried are all of them, or the first of several
-/// that are all needed.
-fn since_text(
-    alloc: Global,
-    story: &Story<'_>,
-    ends: &[End],
-    late: &[End],
-    has_groups: bool,
-) -> TextBuilder {
-    let are_each = late.len() < ends.len();
-    let are_together = !are_each && ends.len() > 1;
+/// released first`.
+fn since_text(alloc: Global, story: &Story<'_>, ends: &[End], has_groups: bool) -> TextBuilder {
     let mut text = TextBuilder::of(alloc, "it has room");
     text.put(if has_groups {
         " with these children only since "
@@ -239,15 +316,22 @@ fn since_text(
         " only since "
     });
     put_calls(&mut text, ends);
-    text.put(if are_together { " together " } else { " " });
-    text.put(ending(story, ends)).put(" ");
+    text.put(" ").put(ending(story, ends)).put(" ");
     put_names(&mut text, story, ends);
-    text.put(if are_each {
-        ", all of which it needs"
-    } else {
-        ""
-    });
     text
+}
+
+/// Puts how many of several ends it needs after a text: `, of which one is enough beside call 12`.
+fn put_needed(text: &mut TextBuilder, since: Since<'_>) {
+    if since.late.len() < since.ends.len() {
+        text.put(", all of which it needs");
+    } else if since.ends.len() > 1 {
+        text.put(", of which one is enough");
+        if !since.beside.is_empty() {
+            text.put(" beside ");
+            put_calls(text, since.beside);
+        }
+    }
 }
 
 /// Puts what is tried after a text: `; with call 11 after call 12, or left out, it would be, with

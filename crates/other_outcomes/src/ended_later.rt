@@ -12,7 +12,7 @@ use script_reading::{Act, Call};
 use script_story::{Milestone, Outcome, Scenario, Story};
 use std::alloc::{AllocError, Global};
 use std::slice::from_ref;
-use value_sources::NamedParticipant;
+use value_sources::{NamedParticipant, held};
 
 /// Over how many calls one is moved at most: for each of these the calls are gone through.
 pub(crate) const FARTHEST: usize = 256;
@@ -28,7 +28,7 @@ pub(crate) struct End {
 
 /// Tells who takes room in an attached domain's decision and is released or closed only after it,
 /// and what the domain at a path would be if that came before: of the first of them of whom one is
-/// enough, else of all.
+/// enough, else of the fewest who are together.
 pub fn add_ended_later(
     items: &mut Items,
     scenario: &Scenario<'_>,
@@ -52,7 +52,7 @@ pub fn add_ended_later(
 }
 
 /// Tells what the domain at a path would be if one of those ended before the call of a number; or
-/// else all; or else that they still count.
+/// else the fewest of whom that is enough; or else that all still count.
 fn add_ends(
     items: &mut Items,
     scenario: &Scenario<'_>,
@@ -77,7 +77,10 @@ fn add_ends(
                 path,
             )?
         }
-        None => add_before(items, scenario, story, ends, ends, decided, path)?,
+        None => {
+            let fewest = fewest_before(items.alloc(), scenario, ends, decided, path)?;
+            add_before(items, scenario, story, &fewest, &fewest, decided, path)?
+        }
     };
     if !is_told {
         items.say(1, Label::Note, still_text(items.alloc(), story, ends));
@@ -108,6 +111,43 @@ fn enough_alone(
     Ok(enough)
 }
 
+/// Some ends without those that needn't come before the call of a number for the domain at a path to
+/// be chosen, the last of them first; all where it isn't chosen with these either.
+fn fewest_before(
+    alloc: Global,
+    scenario: &Scenario<'_>,
+    ends: &[End],
+    decided: usize,
+    path: &str,
+) -> Result<Vec<End>, AllocError> {
+    let mut fewest = Vec::from_slice(alloc, ends)?;
+    if outcome_before(alloc, scenario, ends, decided, path)?.is_none() {
+        return Ok(fewest);
+    }
+    for end in ends.iter().rev() {
+        let others = but_those(alloc, &fewest, from_ref(end))?;
+        if outcome_before(alloc, scenario, &others, decided, path)?.is_some() {
+            fewest = others;
+        }
+    }
+    Ok(fewest)
+}
+
+/// Those of some ends that aren't among others.
+pub(crate) fn but_those(
+    alloc: Global,
+    ends: &[End],
+    those: &[End],
+) -> Result<Vec<End>, AllocError> {
+    let mut others = ListBuilder::new(alloc);
+    for end in ends {
+        if !those.iter().any(|other| other.call == end.call) {
+            others.add(*end);
+        }
+    }
+    others.done()
+}
+
 /// Whether the report says this of a domain, if it says something.
 fn is_as(said: &Option<String>, outcome: &Outcome) -> bool {
     match said {
@@ -135,15 +175,15 @@ fn add_before(
     Ok(true)
 }
 
-/// Those who were accepted before the domain of an index, and whom a call ends after the one that
-/// decided it, in the order of these calls.
+/// Those who hold buffers since they were accepted before the domain of an index, and whom a call
+/// ends after the one that decided it, in the order of these calls.
 fn later_ends(
     alloc: Global,
     story: &Story<'_>,
     index: usize,
     decided: usize,
 ) -> Result<Vec<End>, AllocError> {
-    let participants = accepted_before(alloc, story, index)?;
+    let participants = holding(alloc, &accepted_before(alloc, story, index)?)?;
     let mut ends = Vec::new(alloc);
     for later in 0..FARTHEST {
         let call = decided.saturating_add(later).saturating_add(1);
@@ -153,6 +193,20 @@ fn later_ends(
         }
     }
     Ok(ends)
+}
+
+/// Those of some participants who hold buffers.
+pub(crate) fn holding<'a>(
+    alloc: Global,
+    participants: &[NamedParticipant<'a>],
+) -> Result<Vec<NamedParticipant<'a>>, AllocError> {
+    let mut holding = ListBuilder::new(alloc);
+    for one in participants {
+        if held(from_ref(one)) > 0 {
+            holding.add(*one);
+        }
+    }
+    holding.done()
 }
 
 /// The one of some participants whom the call of a number ends.
