@@ -27,6 +27,9 @@ pub(crate) const LEVELS: usize = 3;
 /// How often it goes on with what would help at most, once calls or the text are others.
 pub(crate) const HELPED: usize = 2;
 
+/// What stands above what the script has with the first change.
+pub(crate) const WITH_FIRST: &str = "with the first of these decisions the script has:";
+
 /// The domain at a path, whose story goes on so often at most.
 #[derive(Clone, Copy)]
 struct Place<'a> {
@@ -140,8 +143,7 @@ fn add_replayed(
     if !is_answered_otherwise(now, &story) && are_all_chosen(&story) {
         return Ok(());
     }
-    let text = "with the first of these decisions the script has:";
-    items.list_text(1, Label::Then, text);
+    items.list_text(1, Label::Then, WITH_FIRST);
     add_refused(items, draft, &other, &story, levels)?;
     add_new(items, draft, &other, &story, now, None, levels)?;
     add_empty_otherwise(items, draft, &other, &story, now, levels)

@@ -1,5 +1,6 @@
 //! An explanation for programs: an object of JSON for each of its items, and one that ends them.
 
+mod above;
 mod changes;
 mod item_object;
 mod mentions;

@@ -133,13 +133,10 @@ impl Told<'_> {
             .any(|(item, is_own)| *is_own && names_of(item, node, field))
     }
 
-    /// Whether one that tells of the domain tells a change of a field that the constraints of a
-    /// call state, with its lines.
+    /// Whether one tells a change of a field that the constraints of a call state, with its lines:
+    /// also below a `then`, where these are told only if they are the text's.
     fn places(&self, number: usize, field: Field) -> bool {
-        self.items
-            .iter()
-            .zip(self.is_own)
-            .any(|(item, is_own)| *is_own && places(item, number, field))
+        self.items.iter().any(|item| places(item, number, field))
     }
 }
 
@@ -164,16 +161,26 @@ fn rows_in(
 fn own_of(alloc: Global, items: &[Item]) -> Result<Vec<bool>, AllocError> {
     let mut own = Vec::new(alloc);
     let mut promised = None;
-    let mut is_other = false;
+    let mut then = None;
     for item in items {
-        is_other = item.label == Label::Then || (is_other && item.depth > 1);
-        let is_own = !is_other && !is_below(item, promised);
+        then = then_of(item, then);
+        let is_own = then.is_none() && !is_below(item, promised);
         if is_own && item.label != Label::Choice {
             promised = promised_by(item);
         }
         own.push(is_own)?;
     }
     Ok(own)
+}
+
+/// How deep the `then` stands that an item is, or below which it stands, if there is one; before it
+/// that was this one.
+pub(crate) fn then_of(item: &Item, before: Option<usize>) -> Option<usize> {
+    match before {
+        Some(depth) if item.depth > depth => before,
+        _ if item.label == Label::Then => Some(item.depth),
+        _ => None,
+    }
 }
 
 /// How deep a decision stands that would come, if an item is one.

@@ -35,10 +35,10 @@ pub(crate) fn objects_of(
 fn lines_of(alloc: Global, scene: Scene<'_, '_>, items: &[Item]) -> Result<String, AllocError>
     ensures { IfOk result (λ text. AreLinesOf (item_texts items.now) (string_bytes text)) }
 {
-    let mut telling = Telling::new(alloc, scene);
+    let mut telling = Telling::new(scene, items);
     let mut text = String::new(alloc);
     for index in 0..items.len() {
-        let line = telling.line(&items[index])?;
+        let line = telling.line(index, &items[index])?;
         text.push_str(&line)?;
     }
     Ok(text)

@@ -4,63 +4,60 @@ ghost use Rattle.std.specs.Prelude.{IfOk};
 ghost use Rattle.std.specs.String.{string_bytes};
 ghost use Rattle.explain.specs.Lines.{IsLineOf};
 
-use crate::json::changes::change_value;
+use crate::json::above::{changes_above, domain_above};
 use crate::json::item_object::{put_form, put_item};
 use crate::json::object::Object;
 use crate::json::scene::Scene;
+use crate::lines::then_of;
 use explanation_text::{Choice, Decided, Item, Kind, Label, Thing};
 use report_json::{Choice as ReportedChoice, Root, chosen_object, word_object};
 use serde_json::Value;
-use std::alloc::{AllocError, Global};
-use std::mem;
+use std::alloc::AllocError;
 
 /// What is kept from item to item.
 #[derive(Drop)]
 pub(crate) struct Telling<'a, 'b> {
     scene: Scene<'a, 'b>,
+    items: &'b [Item],
     /// The root of the domain whose section it is, by number.
     root: Option<usize>,
     /// How deep the item stands that tells of calls made otherwise, if the words below it tell what
     /// these would do.
     then: Option<usize>,
-    /// The changes that no decision followed yet.
-    changes: Vec<Value>,
 }
 
 impl<'a, 'b> Telling<'a, 'b> {
-    pub(crate) fn new(alloc: Global, scene: Scene<'a, 'b>) -> Telling<'a, 'b> {
+    pub(crate) fn new(scene: Scene<'a, 'b>, items: &'b [Item]) -> Telling<'a, 'b> {
         Telling {
             scene,
+            items,
             root: None,
             then: None,
-            changes: Vec::new(alloc),
         }
     }
 
-    /// The line of the next item.
-    pub(crate) fn line(&mut self, item: &Item) -> Result<String, AllocError>
+    /// The line of the next item, which has this index.
+    pub(crate) fn line(&mut self, index: usize, item: &Item) -> Result<String, AllocError>
         ensures { IfOk result (λ line. IsLineOf (string_bytes item.now.text) (string_bytes line)) }
     {
-        let object = self.object(item)?;
+        let object = self.object(index, item)?;
         let line = object.into_line(&item.text)?;
         Ok(line)
     }
 
     /// What the line says beside the text.
-    fn object(&mut self, item: &Item) -> Result<Object, AllocError> {
+    fn object(&mut self, index: usize, item: &Item) -> Result<Object, AllocError> {
         let alloc = *item.text.allocator();
         let mut object = Object::new(alloc);
         let has_words = matches!(item.kind, Kind::Words | Kind::Source);
-        let is_of_other = self.is_below_then(item) && has_words;
-        if is_of_other {
+        if self.is_below_then(item) && has_words {
             put_form(&mut object, item)?;
         } else {
             put_item(&mut object, &self.scene, item)?;
         }
         match item.kind {
             Kind::Title => self.begin(&mut object, item)?,
-            Kind::Decision => self.decide(&mut object, item)?,
-            Kind::Words if !is_of_other => self.keep(item)?,
+            Kind::Decision => self.decide(&mut object, index, item)?,
             _ => {}
         }
         if let Some(root) = self.root {
@@ -72,23 +69,13 @@ impl<'a, 'b> Telling<'a, 'b> {
     /// Whether an item tells what calls would do that are made otherwise: the numbers and names in
     /// its words are of another script.
     fn is_below_then(&mut self, item: &Item) -> bool {
-        match self.then {
-            Some(depth) if item.depth > depth => true,
-            _ => {
-                self.then = if item.label == Label::Then {
-                    Some(item.depth)
-                } else {
-                    None
-                };
-                false
-            }
-        }
+        self.then = then_of(item, self.then);
+        matches!(self.then, Some(depth) if item.depth > depth)
     }
 
     /// Begins a section: of the domain whose root its title names first, if it names one.
     fn begin(&mut self, object: &mut Object, item: &Item) -> Result<(), AllocError> {
         self.root = None;
-        self.changes.clear();
         let (Some(first), Some(played)) = (item.mentions.first(), self.scene.played) else {
             return Ok(());
         };
@@ -120,30 +107,25 @@ impl<'a, 'b> Telling<'a, 'b> {
         }
     }
 
-    /// Keeps a change until its decision comes; with those before it, if they are made together.
-    fn keep(&mut self, item: &Item) -> Result<(), AllocError> {
-        if item.label != Label::And {
-            self.changes.clear();
+    /// Puts the changes with which a decision would come, and in the section of a domain what is
+    /// decided.
+    fn decide(&self, object: &mut Object, index: usize, item: &Item) -> Result<(), AllocError> {
+        let alloc = object.alloc();
+        if item.label == Label::Promised {
+            object.list(
+                "changes",
+                changes_above(alloc, &self.scene, self.items, index)?,
+            )?;
         }
-        if !item.label.is_change() {
-            return Ok(());
-        }
-        let value = change_value(*item.text.allocator(), &self.scene, item)?;
-        self.changes.push(value)?;
-        Ok(())
-    }
-
-    /// Puts a decision, and the changes with which it would come, in the section of a domain.
-    fn decide(&mut self, object: &mut Object, item: &Item) -> Result<(), AllocError> {
         let (Some(root), Some(played)) = (self.root, self.scene.played) else {
             return Ok(());
         };
-        let alloc = object.alloc();
-        let changes = mem::replace(&mut self.changes, Vec::new(alloc));
-        object.list("changes", changes)?;
-        let root = Root {
-            path: played.story.path(root),
-            name: Some(played.story.name(root)),
+        let root = match domain_above(self.items, index) {
+            Some(other) => other,
+            None => Root {
+                path: played.story.path(root),
+                name: Some(played.story.name(root)),
+            },
         };
         let told = match &item.decided {
             Some(Decided::Chosen(one)) => {
