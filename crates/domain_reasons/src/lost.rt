@@ -1,7 +1,7 @@
 //! Domains that are chosen now, and have no settings once something is otherwise.
 
 use crate::domains::add_domain;
-use explanation_text::{Items, Label, TextBuilder, are_same};
+use explanation_text::{Fact, Items, Label, TextBuilder, are_same};
 use negotiation_inputs::Platform;
 use script_story::{Became, Domain, MadeCall, Scenario, Story, left_out, put_domain, story_of};
 use serde_json::Value;
@@ -157,10 +157,12 @@ pub fn put_head(items: &mut Items, story: &Story<'_>, domain: &Domain, depth: us
 /// The same, also where nothing stands below.
 fn put_became(items: &mut Items, story: &Story<'_>, domain: &Domain, depth: usize, is_head: bool) {
     let mut words = TextBuilder::new(items.alloc());
-    put_domain(&mut words, story, domain.root);
+    let (path, name) = put_domain(&mut words, story, domain.root);
     words.put(" would be ").put(domain.became.word());
     if is_head {
         words.head();
+        words.tell(Fact::Value(path));
+        words.tell(Fact::Value(name));
     }
     items.say(depth, Label::Plain, words)
 }

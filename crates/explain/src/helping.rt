@@ -11,7 +11,7 @@ use constraint_changes::{RestatedConstraints, put_choice, restated};
 use domain_reasons::{
     add_domain, add_gone, add_reasons, choices_in, domain_now, put_end, put_head,
 };
-use explanation_text::{Items, Label, Text, are_same};
+use explanation_text::{Items, Label, Text, TextBuilder, are_same};
 use other_outcomes::{
     Otherwise, add_ended_earlier, add_groups_exchanged, add_later_children, add_released,
     add_taken_pairs, add_then, add_without, reordered, with_calls,
@@ -26,9 +26,6 @@ use sysmem_tree::Refusal;
 pub(crate) const LEVELS: usize = 3;
 /// How often it goes on with what would help at most, once calls or the text are others.
 pub(crate) const HELPED: usize = 2;
-
-/// What stands above what the script has with the first change.
-pub(crate) const WITH_FIRST: &str = "with the first of these decisions the script has:";
 
 /// The domain at a path, whose story goes on so often at most.
 #[derive(Clone, Copy)]
@@ -143,7 +140,10 @@ fn add_replayed(
     if !is_answered_otherwise(now, &story) && are_all_chosen(&story) {
         return Ok(());
     }
-    items.list_text(1, Label::Then, WITH_FIRST);
+    let text = "with the first of these decisions the script has";
+    let mut words = TextBuilder::of(items.alloc(), text);
+    words.head();
+    items.say(1, Label::Then, words);
     add_refused(items, draft, &other, &story, levels)?;
     add_new(items, draft, &other, &story, now, None, levels)?;
     add_empty_otherwise(items, draft, &other, &story, now, levels)

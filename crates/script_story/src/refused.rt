@@ -3,7 +3,7 @@
 use crate::story::{Became, MadeCall, Milestone, Story};
 use crate::unchosen::{end_of, put_left_out};
 use explanation_text::wording::{MOST_NAMES, put_few, put_joined};
-use explanation_text::{Items, Label, Name, Phrase, Standing, Step, Text, TextBuilder};
+use explanation_text::{Items, Label, Name, Phrase, Said, Standing, Step, Text, TextBuilder};
 use record_reading::{Code, Fault, FaultPlace};
 use script_faults::{Document, add_record_fault};
 use script_reading::Act;
@@ -548,10 +548,19 @@ impl<'b, 'a> Refused<'b, 'a> {
     }
 }
 
-/// Puts a domain with its root's name after a text: `domain /0 (camera)`.
-pub fn put_domain(text: &mut TextBuilder, story: &Story<'_>, root: usize) {
-    text.put("domain ").put(story.path(root));
-    text.put(" (").name(story.called(root)).put(")");
+/// Puts a domain with its root's name after a text: `domain /0 (camera)`. Gives where the path and
+/// the name stand.
+pub fn put_domain(text: &mut TextBuilder, story: &Story<'_>, root: usize) -> (Said, Said) {
+    text.put("domain ");
+    let start = text.len();
+    text.put(story.path(root));
+    let path = text.since(start);
+    text.put(" (");
+    let start = text.len();
+    text.name(story.called(root));
+    let name = text.since(start);
+    text.put(")");
+    (path, name)
 }
 
 /// Puts those who are still awaited after a text.

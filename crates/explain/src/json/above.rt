@@ -1,10 +1,9 @@
 //! What stands above an item: the changes with which it comes, and the domain of which it tells.
 
-use crate::helping::WITH_FIRST;
 use crate::json::changes::change_value;
 use crate::json::object::Object;
 use crate::json::scene::Scene;
-use explanation_text::{Fact, Item, Label, ListBuilder};
+use explanation_text::{Fact, Item, Label, ListBuilder, Said};
 use report_json::Root;
 use serde_json::Value;
 use std::alloc::{AllocError, Global};
@@ -78,7 +77,7 @@ fn is_above(item: &Item, depth: usize) -> bool {
 
 /// Whether what the script has with the first change stands below an item.
 fn is_with_first(item: &Item) -> bool {
-    item.label == Label::Then && item.text.as_str() == WITH_FIRST
+    item.label == Label::Then && item.facts.contains(&Fact::Heads)
 }
 
 /// Where the first decision stands that comes by changes listed before an item, and as deep; where
@@ -129,16 +128,23 @@ pub(crate) fn domain_above<'a>(items: &'a [Item], index: usize) -> Option<Root<'
     None
 }
 
-/// The domain that a head names: `domain /1 (viewer) would be empty:`. Neither a path nor a name has
-/// a blank or a bracket.
+/// The domain that a head names, if it names one: it tells its path, and then its root's name.
 fn root_in(item: &Item) -> Option<Root<'_>> {
     if !item.facts.contains(&Fact::Heads) {
         return None;
     }
-    let (path, rest) = item.text.as_str().strip_prefix("domain ")?.split_once(' ')?;
-    let (name, _) = rest.strip_prefix("(")?.split_once(')')?;
-    Some(Root {
-        path,
-        name: Some(name),
-    })
+    let mut path = None;
+    for fact in &item.facts {
+        if let Fact::Value(Said::Words(span)) = fact {
+            let said = span.text_in(&item.text);
+            if let Some(path) = path {
+                return Some(Root {
+                    path,
+                    name: Some(said),
+                });
+            }
+            path = Some(said);
+        }
+    }
+    None
 }

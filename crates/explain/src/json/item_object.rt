@@ -78,6 +78,9 @@ fn put_told(object: &mut Object, item: &Item) -> Result<(), AllocError> {
     if item.label == Label::Lines {
         return object.list("lines", lines_in(alloc, item)?);
     }
+    if item.facts.contains(&Fact::Heads) {
+        return Ok(());
+    }
     for fact in &item.facts {
         if let Fact::Value(said) = fact {
             let value = said_value(alloc, &item.text, *said)?;
