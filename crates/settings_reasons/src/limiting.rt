@@ -101,27 +101,34 @@ pub(crate) fn put_limit(text: &mut TextBuilder, wishes: Wishes<'_, '_>, limit: L
 
 /// Puts who limits width and height after a text: at once where these are the same.
 pub(crate) fn put_side_limits(text: &mut TextBuilder, wishes: Wishes<'_, '_>) {
-    let alloc = text.alloc();
-    let width = limits(alloc, wishes, Limit::Side(Side::Width));
-    let height = limits(alloc, wishes, Limit::Side(Side::Height));
-    match (width, height) {
-        (Ok(Some(width)), Ok(Some(height))) if are_same(&width.those, &height.those) => {
-            put_those(text, &width, "");
-            text.put_number(width.most).put("x").put_number(height.most);
-            put_field(text, Limit::Side(Side::Width));
-        }
-        (Ok(width), Ok(height)) => {
-            put_side(text, width, Side::Width);
-            put_side(text, height, Side::Height);
-        }
-        _ => text.refuse(),
+    match add_side_limits(text, wishes) {
+        Ok(()) => {}
+        Err(AllocError) => text.refuse(),
     }
 }
 
+fn add_side_limits(text: &mut TextBuilder, wishes: Wishes<'_, '_>) -> Result<(), AllocError> {
+    let alloc = text.alloc();
+    let width = limits(alloc, wishes, Limit::Side(Side::Width))?;
+    let height = limits(alloc, wishes, Limit::Side(Side::Height))?;
+    if let Some(wide) = &width
+        && let Some(high) = &height
+        && are_same(&wide.those, &high.those)
+    {
+        put_those(text, wide, "");
+        text.put_number(wide.most).put("x").put_number(high.most);
+        put_field(text, Limit::Side(Side::Width));
+    } else {
+        put_side(text, &width, Side::Width);
+        put_side(text, &height, Side::Height);
+    }
+    Ok(())
+}
+
 /// Puts who limits one of the sides, if anybody does.
-fn put_side(text: &mut TextBuilder, limited: Option<Limiting<'_>>, side: Side) {
+fn put_side(text: &mut TextBuilder, limited: &Option<Limiting<'_>>, side: Side) {
     if let Some(limited) = limited {
-        put_those(text, &limited, side.name());
+        put_those(text, limited, side.name());
         text.put_number(limited.most);
         put_field(text, Limit::Side(side));
     }
