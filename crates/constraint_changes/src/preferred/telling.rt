@@ -20,7 +20,7 @@ use std::slice::from_ref;
 use value_sources::NamedParticipant;
 
 /// How many changes are told.
-const MOST: usize = 8;
+const MOST: usize = 5;
 
 /// How many are run.
 const RUNS: usize = 32;
