@@ -76,10 +76,11 @@ pub(crate) fn recolours(
 /// Whether the colour spaces of these names are others with one more, or with that alone, if they
 /// have it.
 fn is_recoloured(names: &[&str], colour: &str, is_alone: bool) -> bool {
+    let has = names.iter().any(|name| *name == colour);
     if is_alone {
-        names.len() > 1 && names.contains(&colour) || names.contains(&ANY)
+        has && names.len() > 1 || names.iter().any(|name| *name == ANY)
     } else {
-        !names.contains(&colour)
+        !has
     }
 }
 
