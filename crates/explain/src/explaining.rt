@@ -461,7 +461,10 @@ fn add_repeat(items: &mut Items, document: &Document<'_>, first: Span, again: Sp
         .put_number(column_of(document.bytes, at))
         .put(") is ignored");
     match words.done() {
-        Ok(note) => document.show(items, 1, again, "", &note, &[]),
+        Ok(note) => {
+            document.show(items, 1, again, "", &note, &[]);
+            document.show(items, 1, first, "", "ignored", &[])
+        }
         Err(AllocError) => items.refuse(),
     }
 }
