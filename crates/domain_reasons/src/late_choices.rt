@@ -6,7 +6,7 @@ use crate::passed_over::next_chosen;
 use crate::room::{accepted_before, add_lacking_with, settings_above};
 use crate::selecting::{Choice, DomainView, add_empty, with_choice};
 use explanation_text::{Items, Label, TextBuilder};
-use script_story::Domain;
+use script_story::{Domain, Story};
 use std::alloc::AllocError;
 use sysmem_merge::Settings;
 use value_sources::NamedParticipant;
@@ -19,7 +19,7 @@ const MOST_TOGETHER: usize = 4;
 
 /// The index of a domain that was attached, and the settings that it has.
 #[derive(Clone, Copy)]
-pub(crate) struct LateDomain<'b> {
+struct LateDomain<'b> {
     index: usize,
     settings: &'b Settings,
 }
@@ -32,14 +32,14 @@ pub(crate) fn add_late_left_out<'a, 'b>(
     index: usize,
     domain: &Domain,
 ) -> Result<(), AllocError> {
-    let Some(settings) = settings_above(view.story, domain) else {
+    if settings_above(view.story, domain).is_none() {
         return Ok(());
-    };
+    }
     let late = DomainView {
         platform: view.platform,
         story: view.story,
         root: view.root,
-        late: Some(LateDomain { index, settings }),
+        late: Some(index),
     };
     let alloc = items.alloc();
     let mut choices: Vec<Choice> = Vec::new(alloc);
@@ -98,10 +98,13 @@ pub(crate) fn add_unfit<'a>(
     items: &mut Items,
     depth: usize,
     view: DomainView<'a, '_>,
-    late: LateDomain<'_>,
+    index: usize,
     participants: Vec<NamedParticipant<'a>>,
 ) -> Result<bool, AllocError> {
     let alloc = items.alloc();
+    let Some(late) = late_domain(view.story, index) else {
+        return Ok(false);
+    };
     let those = Combination {
         participants,
         children: Vec::new(alloc),
@@ -111,6 +114,12 @@ pub(crate) fn add_unfit<'a>(
     let is_unfit = !why.is_empty();
     items.append_section(why, depth.saturating_sub(1), MOST_TOGETHER)?;
     Ok(is_unfit)
+}
+
+/// The domain of an index, with the settings that it has from the one that it was attached to.
+fn late_domain<'b>(story: &'b Story<'_>, index: usize) -> Option<LateDomain<'b>> {
+    let settings = settings_above(story, story.domains.get(index)?)?;
+    Some(LateDomain { index, settings })
 }
 
 /// Tells why the settings that were decided don't do for these who come late.

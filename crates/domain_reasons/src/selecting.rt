@@ -1,7 +1,7 @@
 //! Why no selection of groups' children has settings.
 
 use crate::choosing::MOST_CHOICES;
-use crate::late_choices::{LateDomain, add_unfit};
+use crate::late_choices::add_unfit;
 use explanation_text::wording::{put_few, put_joined};
 use explanation_text::{Items, Label, ListBuilder, Name, Text, TextBuilder, are_same};
 use negotiation_inputs::Platform;
@@ -101,8 +101,9 @@ pub(crate) struct DomainView<'a, 'b> {
     pub(crate) platform: &'b Platform,
     pub(crate) story: &'b Story<'a>,
     pub(crate) root: usize,
-    /// Of one that was attached, whose children were chosen for settings that it has from another.
-    pub(crate) late: Option<LateDomain<'b>>,
+    /// Of one that was attached, whose children were chosen for settings that it has from another:
+    /// its index.
+    pub(crate) late: Option<usize>,
 }
 
 /// Whom choices select.
