@@ -184,11 +184,13 @@ def json_written(text, parts, fault, new, was):
 
 def replaced(text, parts, fault, field, known, was):
     """A value of a field stands in the place of another, or a name in that of the key or the value at the fault, of
-    the call, of its actor, or of a node on which no call is made; in that of a node's name as often as lines are
-    told."""
+    the call, of its actor, of a node on which no call is made, or of an actor who makes one call alone; in that of a
+    node's name as often as lines are told."""
     part = parts.get((*fault.part.path, field), fault.part)
     if fault.note == "no earlier call makes this name" and text[part.value : part.end] == f'"{known}"':
         part = next(one for one in parts.values() if one.path[2:] == ("as",) and text[one.value : one.end] == f'"{was}"')
+    if fault.note == "the 17th actor":
+        part = next(one for one in parts.values() if one.path[2:] == ("actor",) and text[one.value : one.end] == f'"{was}"')
     near = [parts.get((*part.path[:2], key), part) for key in ("actor", "call")]
     spots = [(one.value, one.end) for one in (part, *near)]
     if fault.note == "unknown key" and part.path[-1] != "constraints":

@@ -190,9 +190,71 @@ fn of_call(alloc: Global, index: usize, what: &str) -> TextBuilder {
 fn add_actors(items: &mut Items, faulty: Faulty<'_, '_>) -> Result<(), AllocError> {
     let alloc = items.alloc();
     let actors = actors_before(alloc, faulty)?;
-    let help = Help::of(listed(alloc, "at most 16 may call: ", &actors, "and"));
-    faulty.point(items, "actor", "the 17th actor", help);
+    let Some((index, near)) = misspelt_actor(alloc, faulty, &actors)? else {
+        let help = Help::of(listed(alloc, "at most 16 may call: ", &actors, "and"));
+        faulty.point(items, "actor", "the 17th actor", help);
+        return Ok(());
+    };
+    let mut words = TextBuilder::of(alloc, "at most 16 may call: did you mean ");
+    words
+        .put(near)
+        .put(" in call ")
+        .put_number(index.saturating_add(1))
+        .put("? Its actor makes no other call");
+    faulty.point(items, "actor", "the 17th actor", Help::of(words));
+    let source = Faulty { index, ..faulty };
+    source.mean_name(items, "actor", near, Naming::Given);
     Ok(())
+}
+
+/// The call whose actor is likely misspelt, and what is likely meant: the only one of some actors, or
+/// of the call with the fault, who makes one call alone and whose name is near one of these.
+fn misspelt_actor<'a>(
+    alloc: Global,
+    faulty: Faulty<'a, '_>,
+    actors: &[&'a str],
+) -> Result<Option<(usize, &'a str)>, AllocError> {
+    let mut found: Option<(usize, &str)> = None;
+    let last = [actor_of(faulty.call)];
+    for actor in actors.iter().chain(last.iter()) {
+        let near = near_actor(alloc, *actor, actors, &last)?;
+        match (only_call_by(faulty.calls, *actor), near) {
+            (Some(_), Some(_)) if found.is_some() => return Ok(None),
+            (Some(index), Some(near)) => found = Some((index, near)),
+            _ => {}
+        }
+    }
+    Ok(found)
+}
+
+/// The index of the only one of these calls that an actor makes by its name; `None` where there are
+/// more, or none.
+fn only_call_by(calls: &[Value], actor: &str) -> Option<usize> {
+    let first = calls
+        .iter()
+        .position(|call| has_text(call, "actor", actor))?;
+    let behind = calls.get(first.saturating_add(1)..).unwrap_or(&[]);
+    if behind.iter().any(|call| has_text(call, "actor", actor)) {
+        None
+    } else {
+        Some(first)
+    }
+}
+
+/// The other one of some actors, or of further ones, whose name is near that of an actor.
+fn near_actor<'a>(
+    alloc: Global,
+    actor: &str,
+    actors: &[&'a str],
+    further: &[&'a str],
+) -> Result<Option<&'a str>, AllocError> {
+    let mut others: ListBuilder<&str> = ListBuilder::new(alloc);
+    for other in actors.iter().chain(further.iter()) {
+        if *other != actor {
+            others.add(*other);
+        }
+    }
+    nearest(alloc, actor, &others.done()?)
 }
 
 /// The first 16 actors of the calls before one.
@@ -455,15 +517,20 @@ fn good_name(alloc: Global, bad: &str) -> TextBuilder {
 /// Tells a name that is made again.
 fn add_made(items: &mut Items, faulty: Faulty<'_, '_>) {
     let alloc = items.alloc();
-    let words = match maker_of(faulty.earlier(), faulty.text("as")) {
-        Some(index) => of_call(alloc, index, " makes it"),
-        None => TextBuilder::of(alloc, "the program makes root"),
-    };
+    let words = of_maker(alloc, faulty, faulty.text("as"));
     let help = match only_unmade(faulty.calls, faulty.index) {
         Some(name) => Help::of_given(words, name),
         None => Help::of(words),
     };
     faulty.point(items, "as", "made before", help)
+}
+
+/// Who makes a name before a call: an earlier call, or the program.
+fn of_maker(alloc: Global, faulty: Faulty<'_, '_>, name: &str) -> TextBuilder {
+    match maker_of(faulty.earlier(), name) {
+        Some(index) => of_call(alloc, index, " makes it"),
+        None => TextBuilder::of(alloc, "the program makes root"),
+    }
 }
 
 /// Tells a name on which another actor made a call.
@@ -513,6 +580,10 @@ fn maker_of(calls: &[Value], name: &str) -> Option<usize> {
 fn add_unmade(items: &mut Items, faulty: Faulty<'_, '_>, on: &str) -> Result<(), AllocError> {
     let alloc = items.alloc();
     match maker_of(faulty.calls, on) {
+        None if is_exchanged(faulty, on) => {
+            add_exchanged(items, faulty, on);
+            Ok(())
+        }
         None => add_never_made(items, faulty, on),
         Some(maker) if maker == faulty.index => {
             let help = Help::of_text(alloc, "this call itself makes it");
@@ -525,6 +596,30 @@ fn add_unmade(items: &mut Items, faulty: Faulty<'_, '_>, on: &str) -> Result<(),
             mean_later(items, faulty, maker)
         }
     }
+}
+
+/// Whether a call that is made on a name which no call makes has `on` and `as` exchanged: it makes
+/// the root's name, or one that is made by then, and later calls are made on the other.
+fn is_exchanged(faulty: Faulty<'_, '_>, on: &str) -> bool {
+    let made = faulty.text("as");
+    let is_made = made == "root" || maker_of(faulty.earlier(), made).is_some();
+    is_made && makes_name(faulty.text("call")) && calls_on(faulty.calls, on) > 1
+}
+
+/// Tells that `on` and `as` of a call are likely exchanged.
+fn add_exchanged(items: &mut Items, faulty: Faulty<'_, '_>, on: &str) {
+    let made = faulty.text("as");
+    let mut words = TextBuilder::of(items.alloc(), "did you mean on ");
+    words
+        .put(made)
+        .put(" and as ")
+        .put(on)
+        .put("? They are exchanged");
+    faulty.point(items, "on", UNMADE, Help::of(words));
+    faulty.mean_name(items, "on", made, Naming::Given);
+    let words = of_maker(items.alloc(), faulty, made);
+    faulty.point(items, "as", "made before", Help::of(words));
+    faulty.mean_name(items, "as", on, Naming::Given)
 }
 
 /// Tells a name that no call makes.

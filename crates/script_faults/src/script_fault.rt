@@ -4,10 +4,13 @@ use crate::call_fault::add_call_fault;
 use crate::help::{Help, did_you_mean, missing};
 use crate::keys::SCRIPT;
 use crate::no_json::{Broken, add_break, is_blank};
-use crate::record::{Document, RecordPart, add_record_fault, first_unknown, key_of, wrong_kind};
+use crate::record::{
+    Document, RecordPart, add_record_fault, first_unknown, is_field_of, key_of, wrong_kind,
+};
 use explanation_text::{
     Correction, Item, Items, Kind, Label, Meant, Span, Step, TextBuilder, line_of, nearest,
 };
+use record_reading::PLATFORM_FIELDS;
 use script_reading::{LONGEST, ScriptFault};
 use serde_json::Value;
 use std::alloc::{AllocError, Global};
@@ -220,6 +223,9 @@ fn add_key(
     path: &[Step<'_>],
 ) -> Result<(), AllocError> {
     let alloc = items.alloc();
+    if is_of_platform(document, key_of(path)) {
+        return add_outside(items, document, path);
+    }
     let help = match nearest(alloc, key_of(path), SCRIPT)? {
         Some(near) => Help::near(alloc, near),
         None => help_of_member(alloc, document),
@@ -229,6 +235,46 @@ fn add_key(
         document.leave_out(items, path);
     }
     Ok(())
+}
+
+/// Whether a key is one of a platform's, and the script's platform lacks it.
+fn is_of_platform(document: &Document<'_>, key: &str) -> bool {
+    match document.at(&[Step::Key("platform")]) {
+        Some(platform) => {
+            is_field_of(key, &PLATFORM_FIELDS)
+                && platform.is_object()
+                && platform.get(key).is_none()
+        }
+        None => false,
+    }
+}
+
+/// Tells a member beside the platform that belongs in it: it is likely meant there.
+fn add_outside(
+    items: &mut Items,
+    document: &Document<'_>,
+    path: &[Step<'_>],
+) -> Result<(), AllocError> {
+    let alloc = items.alloc();
+    let help = Help::of_text(alloc, "it belongs in platform");
+    document.advise(items, 1, path, RecordPart::Key, "unknown key", help);
+    document.leave_out(items, path);
+    let platform = [Step::Key("platform")];
+    let note = missing(alloc, key_of(path));
+    document.note(items, 1, &platform, RecordPart::Begin, note);
+    let written = in_one_line(alloc, document.written(alloc, path)?);
+    document.add_member(items, &platform, key_of(path), written);
+    Ok(())
+}
+
+/// A part of a script in one line, as it stands there but for its blanks.
+fn in_one_line(alloc: Global, written: &[u8]) -> TextBuilder {
+    let mut text = TextBuilder::new(alloc);
+    let written = std::str::from_utf8(written).unwrap_or("");
+    for (k, word) in written.split_ascii_whitespace().enumerate() {
+        text.put(if k > 0 { " " } else { "" }).put(word);
+    }
+    text
 }
 
 /// What helps with a key that is near none: the one that is missing may be meant.
