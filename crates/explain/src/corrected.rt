@@ -4,7 +4,7 @@
 ghost use Rattle.std.specs.Prelude.{◌≤◌};
 
 use crate::drafts::{Draft, places_of, remade, restated, shown_calls, spelled, with_stated};
-use crate::helping::{HELPED, LEVELS, add_why, children_of};
+use crate::helping::{HELPED, LEVELS, add_why, children_of, index_at};
 use crate::idle_modifiers::add_idle_modifiers;
 use crate::mended::mended;
 use crate::mended_words::put_corrections;
@@ -518,7 +518,7 @@ fn add_chosen(
     let Some(domain) = story.domains.get(index) else {
         return Ok(());
     };
-    if is_said(now, story, domain) {
+    if is_said(now, story, domain) && are_as_many(now, story, index) {
         return Ok(());
     }
     let depth = if story.domains.len() < 2 {
@@ -536,6 +536,24 @@ fn add_chosen(
     put_choice(items, depth, children_of(items.alloc(), story, index)?);
     add_not_chosen(items, scenario, document.value, story, index, depth)?;
     add_idle_modifiers(items, document, story, index, depth)
+}
+
+/// Whether as many participants in the domain of an index have constraints now and then, chosen or
+/// not: else one of them may be a child that would do too.
+fn are_as_many(now: &Story<'_>, then: &Story<'_>, index: usize) -> bool {
+    match index_at(now, then.path(then.root_of(index))) {
+        Some(known) => stating_in(now, known) == stating_in(then, index),
+        None => false,
+    }
+}
+
+/// How many participants in the domain of an index have constraints.
+fn stating_in(story: &Story<'_>, domain: usize) -> usize {
+    story
+        .nodes
+        .iter()
+        .filter(|node| node.domain == domain && node.constraints.is_some())
+        .count()
 }
 
 /// Whether of each domain that is chosen now the same is said then.
