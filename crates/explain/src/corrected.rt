@@ -518,7 +518,7 @@ fn add_chosen(
     let Some(domain) = story.domains.get(index) else {
         return Ok(());
     };
-    if is_said(now, story, domain) && are_as_many(now, story, index) {
+    if is_said(now, story, domain) && are_as_many_left(now, story, index) {
         return Ok(());
     }
     let depth = if story.domains.len() < 2 {
@@ -538,21 +538,21 @@ fn add_chosen(
     add_idle_modifiers(items, document, story, index, depth)
 }
 
-/// Whether as many participants in the domain of an index have constraints now and then, chosen or
-/// not: else one of them may be a child that would do too.
-fn are_as_many(now: &Story<'_>, then: &Story<'_>, index: usize) -> bool {
+/// Whether as many participants in the domain of an index have constraints and aren't chosen now and
+/// then: else one of them may be a child that would do too.
+fn are_as_many_left(now: &Story<'_>, then: &Story<'_>, index: usize) -> bool {
     match index_at(now, then.path(then.root_of(index))) {
-        Some(known) => stating_in(now, known) == stating_in(then, index),
+        Some(known) => left_in(now, known) == left_in(then, index),
         None => false,
     }
 }
 
-/// How many participants in the domain of an index have constraints.
-fn stating_in(story: &Story<'_>, domain: usize) -> usize {
+/// How many participants in the domain of an index have constraints and aren't chosen.
+fn left_in(story: &Story<'_>, domain: usize) -> usize {
     story
         .nodes
         .iter()
-        .filter(|node| node.domain == domain && node.constraints.is_some())
+        .filter(|node| node.domain == domain && node.constraints.is_some() && !node.is_selected)
         .count()
 }
 
