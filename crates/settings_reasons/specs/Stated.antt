@@ -35,6 +35,8 @@ bound_at b _ = Number 0
 abbrev pub whole_at : Participant → Field → Amount
 whole_at p field.MinBufferCount = Number p.counts.min_buffer_count
 whole_at p field.MaxBufferCount = Number p.counts.max_buffer_count
+whole_at p field.MinBufferCountForSharedSlack =
+    Number p.counts.min_buffer_count_for_shared_slack
 whole_at p field.MinSizeBytes = Number p.memory.min_size_bytes
 whole_at p field.MaxSizeBytes = Number p.memory.max_size_bytes
 whole_at p _ = Number 0

@@ -8,7 +8,7 @@ use sysmem_counts::Field;
 use sysmem_image::{ImageBounds, Size, bounds_table};
 
 /// What a field states.
-#[derive(Clone, Copy)]
+#[derive(Clone, Copy, PartialEq, Eq)]
 pub(crate) enum Amount {
     Number(u64),
     Sides(Size),
@@ -25,6 +25,14 @@ impl Amount {
                 mine.width > most.width || mine.height > most.height
             }
             _ => false,
+        }
+    }
+
+    /// Whether it is above 1: of a size, whether a side is.
+    pub(crate) fn is_beyond_one(self) -> bool {
+        match self {
+            Amount::Number(number) => number > 1,
+            Amount::Sides(size) => size.width > 1 || size.height > 1,
         }
     }
 }

@@ -1,5 +1,7 @@
 //! What decided each value of a choice.
 
+use crate::amounts::Amount;
+use crate::asking_less::{put_less, put_multiples};
 use crate::later_places::{add_later_places, later_words};
 use crate::limiting::{Limit, put_limit, put_side_limits};
 use crate::listed::listed_before;
@@ -14,7 +16,7 @@ use negotiation_inputs::Platform;
 use std::alloc::{AllocError, Global};
 use sysmem_counts::Field;
 use sysmem_formats::{ColourSpace, Offer, Pair, bytes_per_pixel};
-use sysmem_image::entry_for;
+use sysmem_image::{Size, entry_for};
 use sysmem_memory::Place;
 use sysmem_merge::Settings;
 use value_sources::{DerivedNumber, LeastCount, NamedParticipant, Side, Wishes, held};
@@ -39,8 +41,7 @@ pub fn add_settings(
     add_chosen_place(items, parties, settings.place)?;
     add_offer(items, parties, settings.offer)?;
     add_sides(items, wishes)?;
-    let size = wishes.size(items.alloc(), false);
-    add_derived(items, Label::Size, wishes, size, Limit::Size);
+    add_size(items, wishes)?;
     note_size(items, wishes)
 }
 
@@ -56,27 +57,57 @@ fn add_count(items: &mut Items, wishes: Wishes<'_, '_>, count: u32) {
             words.put(mark).put_words(&least.why(items.alloc()));
         }
     }
+    let chosen = Amount::Number(u64::from(count));
+    put_less(&mut words, wishes, Field::MinBufferCount, chosen);
+    put_less_slack(&mut words, wishes);
     put_limit(&mut words, wishes, Limit::Count);
     items.say(1, Label::Count, words)
 }
 
-/// Tells a number, where it comes from, and who limits it; refuses the items where memory was
-/// refused to that.
-fn add_derived(
-    items: &mut Items,
-    label: Label,
-    wishes: Wishes<'_, '_>,
-    derived: Result<DerivedNumber, AllocError>,
-    limit: Limit,
-) {
-    match derived {
-        Ok(derived) => {
-            let mut words = number_words(items.alloc(), &derived);
-            put_limit(&mut words, wishes, limit);
-            items.say(1, label, words)
-        }
-        Err(AllocError) => items.refuse(),
+/// Puts who asks for fewer buffers that all share beside the others than the most that anybody does
+/// after a text.
+fn put_less_slack(text: &mut TextBuilder, wishes: Wishes<'_, '_>) {
+    let mut most = 0u32;
+    for participant in wishes.participants {
+        most = most.max(participant.asked.counts().min_buffer_count_for_shared_slack);
     }
+    let chosen = Amount::Number(u64::from(most));
+    put_less(text, wishes, Field::MinBufferCountForSharedSlack, chosen)
+}
+
+/// Tells the bytes of a buffer, where they come from, who asks for less, and who limits them.
+fn add_size(items: &mut Items, wishes: Wishes<'_, '_>) -> Result<(), AllocError> {
+    let size = wishes.size(items.alloc(), false)?;
+    let mut words = number_words(items.alloc(), &size);
+    put_less(
+        &mut words,
+        wishes,
+        Field::MinSizeBytes,
+        number_of(size.value),
+    );
+    put_limit(&mut words, wishes, Limit::Size);
+    items.say(1, Label::Size, words);
+    Ok(())
+}
+
+/// Tells the bytes of a row, in the same way.
+fn add_row(items: &mut Items, wishes: Wishes<'_, '_>) -> Result<(), AllocError> {
+    let alloc = items.alloc();
+    let row = wishes.row(alloc, false)?;
+    let mut words = number_words(alloc, &row);
+    let asked = number_of(wishes.row_asked(alloc)?);
+    put_less(&mut words, wishes, Field::MinBytesPerRow, asked);
+    if asked == number_of(row.value) {
+        put_multiples(&mut words, wishes, Field::BytesPerRowDivisor);
+    }
+    put_limit(&mut words, wishes, Limit::Row);
+    items.say(1, Label::Row, words);
+    Ok(())
+}
+
+/// A number as one of 64 bits; the greatest of these where it is above.
+fn number_of(number: u128) -> Amount {
+    Amount::Number(u64::try_from(number).unwrap_or(u64::MAX))
 }
 
 /// A number, and where it comes from.
@@ -239,7 +270,10 @@ fn add_later_colours(
             names.add_text(offer_name(alloc, &offer));
         }
     }
-    if let Some(words) = later_words(alloc, &names.done()?) {
+    if let Some(mut words) = later_words(alloc, &names.done()?) {
+        words
+            .put(", whose order decides, not that of anybody's ")
+            .field(Field::ColorSpaces);
         items.say(2, Label::Plain, words);
     }
     Ok(())
@@ -310,14 +344,7 @@ fn add_sides(items: &mut Items, wishes: Wishes<'_, '_>) -> Result<(), AllocError
     } else {
         add_each_side(items, wishes, &width, &height);
     }
-    add_derived(
-        items,
-        Label::Row,
-        wishes,
-        wishes.row(alloc, false),
-        Limit::Row,
-    );
-    Ok(())
+    add_row(items, wishes)
 }
 
 /// Tells where an image's width and height come from, if from the same.
@@ -334,6 +361,11 @@ fn add_both_sides(
         .put_number(height.value);
     tell_sides(&mut words, width.value, height.value);
     words.put(": ").put_text(&width.why);
+    put_less_sides(&mut words, wishes, &[Side::Width, Side::Height]);
+    let is_asked = width.value == wishes.asked(Side::Width);
+    if is_asked && height.value == wishes.asked(Side::Height) {
+        put_multiples(&mut words, wishes, Field::SizeAlignment);
+    }
     put_side_limits(&mut words, wishes);
     put_limit(&mut words, wishes, Limit::Pixels);
     items.say(1, Label::Pixels, words)
@@ -347,12 +379,31 @@ fn add_each_side(
     height: &DerivedNumber,
 ) {
     let mut words = number_words(items.alloc(), width);
+    put_less_sides(&mut words, wishes, &[Side::Width]);
     put_limit(&mut words, wishes, Limit::Side(Side::Width));
     items.say(1, Label::Width, words);
     let mut words = number_words(items.alloc(), height);
+    put_less_sides(&mut words, wishes, &[Side::Height]);
     put_limit(&mut words, wishes, Limit::Side(Side::Height));
     put_limit(&mut words, wishes, Limit::Pixels);
     items.say(1, Label::Height, words)
+}
+
+/// Puts who asks for images less wide or less high than somebody does after a text; only less wide, or
+/// only less high, where one side alone is told.
+fn put_less_sides(text: &mut TextBuilder, wishes: Wishes<'_, '_>, sides: &[Side]) {
+    let mut size = Size {
+        width: 0,
+        height: 0,
+    };
+    for side in sides {
+        let asked = u32::try_from(wishes.asked(*side)).unwrap_or(u32::MAX);
+        match side {
+            Side::Width => size.width = asked,
+            Side::Height => size.height = asked,
+        }
+    }
+    put_less(text, wishes, Field::MinSize, Amount::Sides(size))
 }
 
 /// Keeps the sides that a text tells.

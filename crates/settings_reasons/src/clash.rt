@@ -115,7 +115,7 @@ impl<'a> Clash<'a> {
 }
 
 /// What a participant states at a field: in an entry, or apart from its entries.
-fn stated_at(asked: &Constraints, entry: Option<&Entry>, field: Field) -> Amount
+pub(crate) fn stated_at(asked: &Constraints, entry: Option<&Entry>, field: Field) -> Amount
     ensures { result ≡ stated_at asked.now (option_copied entry.entry) field }
 {
     match entry {
@@ -132,6 +132,9 @@ fn whole_at(asked: &Constraints, field: Field) -> Amount
     match field {
         Field::MinBufferCount => Amount::Number(u64::from(counts.min_buffer_count)),
         Field::MaxBufferCount => Amount::Number(u64::from(counts.max_buffer_count)),
+        Field::MinBufferCountForSharedSlack => {
+            Amount::Number(u64::from(counts.min_buffer_count_for_shared_slack))
+        }
         Field::MinSizeBytes => Amount::Number(memory.min_size_bytes),
         Field::MaxSizeBytes => Amount::Number(memory.max_size_bytes),
         _ => Amount::Number(0),

@@ -13,6 +13,7 @@ use crate::offering::{are_refused, offers_of};
 use crate::place_reason::PlaceReason;
 use crate::placing::{put_place, put_place_reason};
 use crate::refusing::{Parties, add_offers};
+use crate::rows::put_those;
 use explanation_text::{Items, Label, ListBuilder, TextBuilder};
 use negotiation_inputs::{Constraints, Platform};
 use std::alloc::{AllocError, Global};
@@ -74,7 +75,8 @@ fn add_misfit(
         let Some(misfit) = Misfit::of(platform, settings, participant, *field) else {
             continue;
         };
-        let text = misfit_text(items.alloc(), &misfit);
+        let mut text = misfit_text(items.alloc(), &misfit);
+        put_deciding(&mut text, &misfit, before);
         items.say(1, Label::Misfit, text);
         if matches!(field, Field::PixelFormat | Field::ColorSpaces) {
             add_refused_images(items, platform, participant, before)?;
@@ -248,6 +250,42 @@ fn put_bound(text: &mut TextBuilder, misfit: &Misfit<'_, '_>) {
     text.put(", but ").put(how(field));
     put_amount(text, decided);
     text.put(" was decided before");
+}
+
+/// Puts who of those before asks for what was decided of a bound after a text, or that nobody does.
+fn put_deciding(text: &mut TextBuilder, misfit: &Misfit<'_, '_>, before: &[NamedParticipant<'_>]) {
+    let settings = misfit.settings();
+    let decided = amount_at(&settings.bounds, misfit.field());
+    if is_unlimited(decided) || how(misfit.field()).is_empty() {
+        return;
+    }
+    if !decided.is_beyond_one() {
+        text.put("; nobody before asks for more");
+        return;
+    }
+    let mut those = ListBuilder::new(text.alloc());
+    for participant in before {
+        if asks_for(participant, &settings.offer, misfit.field(), decided) {
+            those.add(*participant);
+        }
+    }
+    match those.done() {
+        Ok(those) => put_those(text, &those, "asks for that", "ask for that"),
+        Err(AllocError) => text.refuse(),
+    }
+}
+
+/// Whether a participant's entry for an offer has an amount of a bound.
+fn asks_for(
+    participant: &NamedParticipant<'_>,
+    offer: &Offer,
+    field: Field,
+    amount: Amount,
+) -> bool {
+    match entry_for(participant.asked.entries(), offer) {
+        Some(entry) => amount_at(&entry.bounds.asked, field) == amount,
+        None => false,
+    }
 }
 
 /// Whether an amount is that of a greatest value that nobody states.

@@ -10,6 +10,7 @@
 #![tactic(auto)]
 
 mod amounts;
+mod asking_less;
 mod chosen;
 mod clash;
 mod contradicting;

@@ -64,7 +64,7 @@ pub(crate) fn add(
 }
 
 /// How many of so many are told, if these are the most; one more is shown rather than counted.
-fn told_of(count: usize, most: usize) -> usize {
+pub(crate) fn told_of(count: usize, most: usize) -> usize {
     if count <= most.saturating_add(1) {
         count
     } else {

@@ -151,6 +151,13 @@ impl<'a> Wishes<'a, '_> {
         rounded(value, multiple, Some(" = "), why)
     }
 
+    /// The least row that somebody asks for, or that the pixels of the least width take, before it is
+    /// rounded.
+    pub fn row_asked(&self, alloc: Global) -> Result<u128, AllocError> {
+        let (row, _) = self.plain_row(alloc, false)?;
+        Ok(row)
+    }
+
     /// The least row before it is rounded, and where it comes from: that of the least width, or a
     /// longer one that somebody asks for.
     fn plain_row(&self, alloc: Global, is_alone: bool) -> Result<(u128, TextBuilder), AllocError> {
