@@ -4,7 +4,7 @@
 use crate::known::RecordCache;
 use crate::together::CombinedChange;
 use crate::trials::{EditedCall, Group, RestatedConstraints};
-use constraint_edits::{Edit, amounts_in};
+use constraint_edits::{Amount, Edit, amounts_in};
 use domain_reasons::rooms_needed;
 use explanation_text::Items;
 use script_story::{Story, asked_in};
@@ -12,6 +12,9 @@ use settings_reasons::failing;
 use std::alloc::{AllocError, Global};
 use std::slice::from_ref;
 use sysmem_counts::Field;
+use sysmem_image::Size;
+use sysmem_memory::CoherencyDomain;
+use sysmem_merge::Settings;
 use value_sources::NamedParticipant;
 
 /// The bounds by which a late one may ask for what nobody asked before, and somebody might have.
@@ -39,6 +42,42 @@ pub(crate) fn initial_of(story: &Story<'_>) -> usize {
 /// The node to which the domain of an index was attached.
 pub(crate) fn host_of(story: &Story<'_>, index: usize) -> Option<usize> {
     story.domains.get(index)?.host
+}
+
+/// What was decided before the domain of a group, which was attached.
+fn decided_before<'b>(group: Group<'_, 'b>) -> Option<&'b Settings> {
+    let host = host_of(group.story, index_of(group)?)?;
+    group.story.domain_of(host)?.settings.as_ref()
+}
+
+/// The multiple that was decided of a bound before the domain of a group, which was attached; `None`
+/// of other bounds, and where any number does.
+pub(crate) fn multiple_before(group: Group<'_, '_>, field: Field) -> Option<Amount> {
+    let bounds = &decided_before(group)?.bounds;
+    let amount = match field {
+        Field::SizeAlignment => sides_of(bounds.size_alignment),
+        Field::DisplayRectAlignment => sides_of(bounds.display_rect_alignment),
+        Field::BytesPerRowDivisor => Amount::Number(u64::from(bounds.bytes_per_row_divisor)),
+        Field::StartOffsetDivisor => Amount::Number(u64::from(bounds.start_offset_divisor)),
+        _ => return None,
+    };
+    match amount {
+        Amount::Number(1) | Amount::Sides(1, 1) => None,
+        _ => Some(amount),
+    }
+}
+
+fn sides_of(size: Size) -> Amount {
+    Amount::Sides(u64::from(size.width), u64::from(size.height))
+}
+
+/// Whether what was decided before the domain of a group, which was attached, lies where no CPU
+/// reaches it.
+pub(crate) fn is_out_of_reach(group: Group<'_, '_>) -> bool {
+    match decided_before(group) {
+        Some(settings) => settings.place.coherency == CoherencyDomain::Inaccessible,
+        None => false,
+    }
 }
 
 /// That a bound is stated which those of a group ask for, and which what was decided before the

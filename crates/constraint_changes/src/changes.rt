@@ -1,11 +1,11 @@
 //! Single changes that make an empty decision one that chooses, found by trying each.
 
-ghost use Rattle.std.specs.Prelude.{[], ◌∷◌, map};
+ghost use Rattle.std.specs.Prelude.{[], ◌∷◌, map, IfOk};
 ghost use Rattle.script_reading.specs.Seen.{call_seen};
 ghost use Rattle.serde_json.specs.View.{view};
 ghost use Rattle.constraint_changes.specs.Edited.{IsPromised, IsTried};
 
-use crate::asked_before::{bounds_asked, host_of, initial_of};
+use crate::asked_before::{bounds_asked, host_of, initial_of, is_out_of_reach, multiple_before};
 use crate::beyond::{Farthest, words_of};
 use crate::camping::try_whole_count;
 use crate::exchanges::try_exchanges;
@@ -16,11 +16,14 @@ use crate::trials::{
     Group, Party, RestatedConstraints, Trial, TrialResult, are_sized, can_help, change_leaves_none,
     entries_behind, has_groups, is_worth, leaves_none, parties_of, put_choice, reached_by,
 };
-use constraint_edits::{Amount, Change, Edit, Slip, changes, edited, is_absurd, slips_of};
+use constraint_edits::{
+    Amount, Change, Edit, Slip, changes, edited, edited_alone, entries_without, is_absurd, slips_of,
+};
 use domain_reasons::{choices_in, rooms_needed};
 use explanation_text::wording::put_joined;
 use explanation_text::{Items, Label, Text, TextBuilder};
 use script_story::{Effort, Milestone, asked_in};
+use serde_json::Value;
 use std::alloc::{AllocError, Global};
 use std::slice::from_ref;
 use value_sources::NamedParticipant;
@@ -29,6 +32,8 @@ use value_sources::NamedParticipant;
 const MOST: usize = 5;
 /// How many are tried.
 const TRIES: usize = 300;
+/// Of how many entries of a record each is tried alone.
+const MOST_ENTRIES: usize = 4;
 
 /// What was found of changes so far.
 #[derive(Drop)]
@@ -264,11 +269,44 @@ fn try_edit(
         if search.is_done(group.scenario.effort) {
             break;
         }
-        if is_worth(edit, participant, group.participants, group.scenario, few) {
-            try_one(search, group, participant, edit)?;
+        if is_worth(edit, participant, group.participants, group.scenario, few)
+            || edit == Edit::NoCpu && is_out_of_reach(group)
+        {
+            try_where(search, group, participant, edit)?;
         }
     }
     Ok(())
+}
+
+/// Tries an edit of a participant's constraints: that a colour space is taken first of each of its
+/// entries alone, if these are few, and of all only where none of these helps.
+fn try_where(
+    search: &mut Search<'_, '_>,
+    group: Group<'_, '_>,
+    participant: &NamedParticipant<'_>,
+    edit: Edit,
+) -> Result<(), AllocError> {
+    let (Edit::TakesColour(colour), Some(value)) = (edit, participant.stated) else {
+        return try_one(search, group, participant, edit);
+    };
+    let before = search.count;
+    let entries = entries_without(search.alloc, value, colour)?;
+    if entries.len() <= MOST_ENTRIES {
+        for index in &entries {
+            if !search.is_done(group.scenario.effort) {
+                try_one(
+                    search,
+                    group,
+                    participant,
+                    Edit::TakesColourIn(colour, *index),
+                )?;
+            }
+        }
+    }
+    if search.count > before || entries.len() == 1 {
+        return Ok(());
+    }
+    try_one(search, group, participant, edit)
 }
 
 /// Tries an edit of a participant's constraints, if it has stated some.
@@ -359,6 +397,7 @@ fn put_least(
     try_whole_count(search, group, trial, participant, edit, &found)?;
     let far = Farthest::by(alloc, trial.place, &found)?;
     let least = trial.least(alloc, group, search.parties, value, edit, found)?;
+    let least = as_before(alloc, group, trial, value, edit, least)?;
     let enough = least.change.amount;
     let meant = try_slips(search, group, trial, participant, edit, enough)?;
     if meant.is_some() && (meant == enough || search.is_done(group.scenario.effort)) {
@@ -376,12 +415,45 @@ fn put_least(
     )
 }
 
+/// The change of a multiple to what was decided of it before an attached domain, where that helps and
+/// leaving the multiple out is the least that does; else that one.
+fn as_before(
+    alloc: Global,
+    group: Group<'_, '_>,
+    trial: Trial<'_, '_>,
+    value: &Value,
+    edit: Edit,
+    least: TrialResult,
+) -> Result<TrialResult, AllocError>
+    requires { IsTried trial.scenario.now.platform.now
+        (map call_seen trial.scenario.now.calls.now) trial.place (view least.value)
+        trial.path.now least.outcome }
+    ensures { IfOk result (λ best. IsTried trial.entry.scenario.now.platform.now
+        (map call_seen trial.entry.scenario.now.calls.now) trial.entry.place (view best.value)
+        trial.entry.path.now best.outcome) }
+{
+    let (Edit::NoBound(field), None) = (edit, least.change.amount) else {
+        return Ok(least);
+    };
+    let Some(amount) = multiple_before(group, field) else {
+        return Ok(least);
+    };
+    let Some(change) = edited_alone(alloc, value, edit, amount)? else {
+        return Ok(least);
+    };
+    trial.scenario.effort.change(trial.place, 1);
+    match trial.promised(alloc, change)? {
+        Some(same) => Ok(same),
+        None => Ok(least),
+    }
+}
+
 /// Whether an edit is tried before others since it is likely meant, or asks the same in another
 /// order.
 fn is_likely(edit: Edit) -> bool {
     matches!(
         edit,
-        Edit::MeansHeap(_) | Edit::EntryFirst(_) | Edit::LeastCount(_) | Edit::States(_, _)
+        Edit::MeansHeap(_) | Edit::EntryFirst(_) | Edit::LeastCount(_)
     )
 }
 
@@ -471,7 +543,9 @@ fn put_found(
     };
     let losses = losses_by(alloc, group, from_ref(&stated), 3)?;
     let like = place_like(&search.told, &words, &found.outcome, &losses);
-    let rank = Rank::of(group, &found.outcome, is_likely, losses.count());
+    let asked = usize::from(matches!(found.change.edit, Edit::States(_, _)));
+    let lost = losses.count().saturating_add(asked);
+    let rank = Rank::of(group, &found.outcome, is_likely, lost);
     let (whose, stated) = joined(alloc, search.take(like), who, stated)?;
     let mut items = Items::new(alloc);
     put_change(&mut items, trial, Label::Alone(0), &whose, &words, found);

@@ -23,6 +23,7 @@ mod preferred;
 mod together;
 mod told;
 mod trials;
+mod turned;
 mod walk;
 
 pub use changes::list_changes;

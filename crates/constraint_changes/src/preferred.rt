@@ -127,8 +127,8 @@ fn try_settings(
     try_pairs(found, wish, &selected, edits)?;
     try_colours(found, wish, &selected)?;
     try_places(found, wish, &selected)?;
-    try_other_domain(found, wish, &selected)?;
-    try_later_heaps(found, wish, &selected)
+    try_later_heaps(found, wish, &selected)?;
+    try_other_domain(found, wish, &selected)
 }
 
 fn put_head(items: &mut Items, found: &Found) {

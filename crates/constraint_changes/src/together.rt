@@ -18,6 +18,7 @@ use crate::trials::{
     chosen_with, edited_calls, is_worth, leave_none, parties_of, put_choice, put_promise,
     reached_by, restated,
 };
+use crate::turned::add_turned;
 use crate::walk::{Run, Walk};
 use constraint_edits::{Amount, Edit, Halving, Reached, changes, is_absurd};
 use domain_reasons::choices_in;
@@ -72,8 +73,10 @@ fn add_all(
     let all = joint.parts(alloc, edits)?;
     let mut shelf = RecordCache::new(alloc);
     let whole = add_whole_counts(items, joint)?;
-    let asked = add_asked_before(items, group, word_before(&whole))?;
-    let first = behind(items, group, whole, asked)?;
+    let turned = add_turned(items, joint, word_before(&whole))?;
+    let first = behind(items, group, whole, turned)?;
+    let asked = add_asked_before(items, group, word_before(&first))?;
+    let first = behind(items, group, first, asked)?;
     let plain = joint.put_plain(items, &mut shelf, &all, word_before(&first))?;
     let first = behind(items, group, first, plain)?;
     let others = joint.put_others(items, &mut shelf, &all)?;
@@ -124,7 +127,7 @@ fn add_least_changes(
             outcome = other;
         }
     }
-    joint.tell(items, &parts, before)
+    joint.tell(items, &parts, before, "fewer weren't found")
 }
 
 /// Changes made together, for those of a group.
@@ -642,12 +645,14 @@ impl CombinedChange<'_, '_> {
         Ok(edits)
     }
 
-    /// Tells changes, and the decision that comes by them; gives what calls state then.
-    fn tell(
+    /// Tells changes, with these words on why they are as many, and the decision that comes by them;
+    /// gives what calls state then.
+    pub(crate) fn tell(
         &self,
         items: &mut Items,
         parts: &[PartyChange],
         before: &str,
+        why: &str,
     ) -> Result<Vec<RestatedConstraints>, AllocError> {
         let alloc = items.alloc();
         let Some(promise) = self.promise(alloc, parts)? else {
@@ -659,7 +664,7 @@ impl CombinedChange<'_, '_> {
         }
         let stated = promise.stated(alloc)?;
         let is_alone = !self.is_so_beyond(alloc, parts, &stated, &promise.outcome)?;
-        self.put_head(items, parts.len(), before);
+        self.put_head(items, parts.len(), before, why);
         self.put_each(items, parts, is_alone)?;
         let selection = promise.outcome.selection();
         let choice = choices_in(alloc, self.group.story, self.group.root, selection)?;
@@ -691,13 +696,15 @@ impl CombinedChange<'_, '_> {
         far.is_as(alloc, self.group, stated, outcome)
     }
 
-    /// Puts above changes that so many help together.
-    fn put_head(&self, items: &mut Items, count: usize, before: &str) {
+    /// Puts above changes that so many help together, and why they are as many.
+    fn put_head(&self, items: &mut Items, count: usize, before: &str, why: &str) {
         let mut words = TextBuilder::of(items.alloc(), before);
         words
             .put("these ")
             .put_number(count)
-            .put(" together suffice (fewer weren't found):");
+            .put(" together suffice (")
+            .put(why)
+            .put("):");
         items.say(1, Label::Change, words);
     }
 

@@ -15,7 +15,8 @@ const MOST: usize = 4;
 pub(crate) struct Rank {
     /// Whether its change is likely meant: then it comes before all others.
     is_likely: bool,
-    /// How many other domains that are chosen now have no settings then.
+    /// How many other domains that are chosen now have no settings then; one more where somebody
+    /// there before is to ask for more.
     lost: usize,
     /// The numbers of the chosen children of groups, in sum.
     children: usize,

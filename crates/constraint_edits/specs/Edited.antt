@@ -46,6 +46,11 @@ naming pair entry = record entry { format = Some pair.format; modifier = Some pa
 abbrev pub put_first : {A : Type 0} → ℕ → ℕ → List A → List A
 put_first start end xs = take (end - start) (drop start xs) ++ (take start xs ++ drop end xs)
 
+-- the items, of which those from a place on to another are changed
+abbrev pub changed_between : {A : Type 0} → (A → A) → ℕ → ℕ → List A → List A
+changed_between f start end xs =
+    take start xs ++ (map f (take (end - start) (drop start xs)) ++ drop end xs)
+
 -- what the participant asks with other counts
 abbrev pub with_counts : Participant → Option CountConstraints → Option Participant
 with_counts p counts = option_map (λ c. record p { counts = c }) counts
@@ -95,6 +100,8 @@ after heaps c (edit.Replaces f was) p =
 after heaps c (edit.States f amount) p = with_entries p (bound_stated f amount p.entries)
 after heaps c (edit.TakesColour colour) p =
     Some (record p { entries = map (taking colour) p.entries })
+after heaps c (edit.TakesColourIn colour index) p =
+    Some (record p { entries = changed_between (taking colour) c.start c.end p.entries })
 after heaps c (edit.TakesColourAlone colour) p =
     Some (record p { entries = map (taking_alone colour) p.entries })
 after heaps c (edit.TakesPair pair) p =

@@ -3,7 +3,7 @@
 ghost use Rattle.std.specs.Prelude.{◌≡◌, [], ◌∷◌, map, set, slice_get, Some, None, option_and_then, option_map, if◌then◌else◌, IfOk, OnOk, IfSome, IsTrue};
 ghost use Rattle.sysmem_counts.specs.Usage.{uses_cpu};
 ghost use Rattle.constraint_edits.specs.Drafts.{drafted};
-ghost use Rattle.constraint_edits.specs.Edited.{edited, exchanged, naming, permitting, put_first, taking, taking_alone, with_counts, with_entries, with_heaps, with_memory, without_cpu};
+ghost use Rattle.constraint_edits.specs.Edited.{changed_between, edited, exchanged, naming, permitting, put_first, taking, taking_alone, with_counts, with_entries, with_heaps, with_memory, without_cpu};
 ghost use Rattle.constraint_edits.specs.EditedNumbers.{counts_edited, memory_edited, supporting, unsupporting};
 ghost use Rattle.constraint_edits.specs.EditedBounds.{bound_edited, bound_replaced, bound_stated, bounds_exchanged};
 
@@ -86,6 +86,9 @@ impl Draft {
             Edit::Replaces(field, was) => self.replace_bound(field, was, change.amount),
             Edit::States(field, amount) => self.state_bound(field, amount),
             Edit::TakesColour(colour) => self.take_colour(colour),
+            Edit::TakesColourIn(colour, _) => {
+                self.take_colour_in(colour, change.start, change.end)
+            }
             Edit::TakesColourAlone(colour) => self.take_colour_alone(colour),
             Edit::TakesPair(pair) => self.take_pair(pair, change.start),
             Edit::NoCpu => Ok(self.drop_cpu()),
@@ -297,6 +300,29 @@ impl Draft {
             { entries = map (taking colour) self.old.entries.items }) ≡ Some (drafted self.new)) }
     {
         self.entries = taking_colour(self.alloc, &self.entries, colour)?;
+        Ok(true)
+    }
+
+    /// Takes a colour space in the entries from one of an index on to another.
+    fn take_colour_in(
+        &mut self,
+        colour: ColourSpace,
+        start: usize,
+        end: usize,
+    ) -> Result<bool, AllocError>
+        ensures { IfOk result (λ made. IsTrue made → Some (record (drafted self.old)
+            { entries = changed_between (taking colour) start end self.old.entries.items })
+            ≡ Some (drafted self.new)) }
+    {
+        if start > end || end > self.entries.len() {
+            return Ok(false);
+        }
+        let old = self.entries.as_slice();
+        let mut entries = Vec::from_slice(self.alloc, &old[..start])?;
+        let taking = taking_colour(self.alloc, &old[start..end], colour)?;
+        entries.extend_from_slice(&taking)?;
+        entries.extend_from_slice(&old[end..])?;
+        self.entries = entries;
         Ok(true)
     }
 

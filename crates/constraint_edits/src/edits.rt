@@ -13,7 +13,9 @@ use crate::permitting::{
     meaning, means, permits_more, permits_others, permitting, permitting_alone,
 };
 use crate::stating::{can_state, stating};
-use crate::taking::{putting_first, recolours, taking_colour, taking_pair};
+use crate::taking::{
+    putting_first, recolours, recolours_in, taking_colour, taking_colour_in, taking_pair,
+};
 use crate::using::{asking_for, asks_for, has_cpu, without_cpu};
 use explanation_text::{Deed, Fact, ListBuilder, Said, Text, TextBuilder};
 use serde_json::Value;
@@ -46,6 +48,8 @@ pub enum Edit {
     States(Field, Amount),
     /// A colour space is taken by all entries too.
     TakesColour(ColourSpace),
+    /// A colour space is taken by the entry of an index too, from 0.
+    TakesColourIn(ColourSpace, usize),
     /// A colour space is the only one that is taken by each entry that takes it.
     TakesColourAlone(ColourSpace),
     /// A format with a modifier is taken by an entry more.
@@ -265,6 +269,7 @@ fn record_after(
         Edit::Replaces(_, _) => Ok(None),
         Edit::States(field, amount) => stating(alloc, value, field, amount),
         Edit::TakesColour(colour) => taking_colour(alloc, value, colour.name(), false),
+        Edit::TakesColourIn(colour, index) => taking_colour_in(alloc, value, colour.name(), index),
         Edit::TakesColourAlone(colour) => taking_colour(alloc, value, colour.name(), true),
         Edit::TakesPair(pair) => taking_pair(alloc, value, pair),
         Edit::PermitsHeap(index) => permitting(alloc, value, heaps.get(index)),
@@ -293,6 +298,7 @@ pub fn changes(
         Edit::Replaces(_, _) => false,
         Edit::States(field, amount) => can_state(value, field, amount),
         Edit::TakesColour(colour) => recolours(alloc, value, colour.name(), false)?,
+        Edit::TakesColourIn(colour, index) => recolours_in(alloc, value, colour.name(), index)?,
         Edit::TakesColourAlone(colour) => recolours(alloc, value, colour.name(), true)?,
         Edit::TakesPair(_) => !entries_of(value).is_empty(),
         Edit::PermitsHeap(index) => permits_more(value, heaps.get(index)),

@@ -36,3 +36,4 @@ pub use leaving::leave_out;
 pub use reached::Reached;
 pub use reading::{is_edited, read_asked};
 pub use slips::{Slip, slips_of};
+pub use taking::entries_without;

@@ -29,7 +29,7 @@ pub(crate) fn change_of(
             let index = first_naming(entries, pair.format.name());
             (pairs_before(entries, index), 0)
         }
-        Edit::EntryFirst(index) => (
+        Edit::EntryFirst(index) | Edit::TakesColourIn(_, index) => (
             pairs_before(entries, index),
             pairs_before(entries, index.saturating_add(1)),
         ),

@@ -1,5 +1,5 @@
-//! Constraints that take a colour space more, or alone, or a format with a modifier more, or have
-//! another entry first.
+//! Constraints that take a colour space more, in all entries or in one, or take one alone; or a format
+//! with a modifier more; or have another entry first.
 
 use crate::edits::{EditedRecord, with_entries};
 use crate::objects::{entries_of, lacking, text_value, with};
@@ -9,7 +9,7 @@ use explanation_text::{Deed, Fact, ListBuilder, TextBuilder};
 use serde_json::Value;
 use std::alloc::{AllocError, Global};
 use sysmem_counts::Field;
-use sysmem_formats::{Modifier, Pair, PixelFormat};
+use sysmem_formats::{ColourSpace, Modifier, Pair, PixelFormat};
 
 const COLOURS: &str = "color_spaces";
 
@@ -56,6 +56,85 @@ pub(crate) fn taking_colour(
     }
     let words = changed.into_words(words_beside(alloc, colour, &[]))?;
     with_entries(alloc, value, copy.done()?, words)
+}
+
+/// The constraints with a colour space more in the entry of an index, from 0; `None` where there is
+/// none, or it takes that.
+pub(crate) fn taking_colour_in(
+    alloc: Global,
+    value: &Value,
+    colour: &str,
+    index: usize,
+) -> Result<Option<EditedRecord>, AllocError> {
+    let Some(entry) = lacking_colour(alloc, value, colour, index)? else {
+        return Ok(None);
+    };
+    let names = names_in(alloc, entry.get(COLOURS))?;
+    let mut words = words_beside(alloc, colour, &names);
+    words
+        .put(" in entry ")
+        .put_number(index.saturating_add(1))
+        .put(" (");
+    put_named(&mut words, entry);
+    words.put(")");
+    let mut copy = ListBuilder::new(alloc);
+    for (k, other) in entries_of(value).iter().enumerate() {
+        if k == index {
+            copy.add(with_colour(alloc, other, colour, false)?);
+        } else {
+            copy.add(other.clone()?);
+        }
+    }
+    with_entries(alloc, value, copy.done()?, words.into_text()?)
+}
+
+/// The entry of an index, from 0, if there is one and it doesn't name a colour space.
+fn lacking_colour<'a>(
+    alloc: Global,
+    value: &'a Value,
+    colour: &str,
+    index: usize,
+) -> Result<Option<&'a Value>, AllocError> {
+    let Some(entry) = entries_of(value).get(index) else {
+        return Ok(None);
+    };
+    let names = names_in(alloc, entry.get(COLOURS))?;
+    Ok(if is_recoloured(&names, colour, false) {
+        Some(entry)
+    } else {
+        None
+    })
+}
+
+/// Whether there is an entry of an index, from 0, which doesn't name a colour space.
+pub(crate) fn recolours_in(
+    alloc: Global,
+    value: &Value,
+    colour: &str,
+    index: usize,
+) -> Result<bool, AllocError> {
+    Ok(lacking_colour(alloc, value, colour, index)?.is_some())
+}
+
+/// The indices of the entries, from 0, that don't name a colour space; none where a record has one
+/// entry alone, which needn't be told apart.
+pub fn entries_without(
+    alloc: Global,
+    value: &Value,
+    colour: ColourSpace,
+) -> Result<Vec<usize>, AllocError> {
+    let mut indices = Vec::new(alloc);
+    let entries = entries_of(value);
+    if entries.len() < 2 {
+        return Ok(indices);
+    }
+    for (index, entry) in entries.iter().enumerate() {
+        let names = names_in(alloc, entry.get(COLOURS))?;
+        if is_recoloured(&names, colour.name(), false) {
+            indices.push(index)?;
+        }
+    }
+    Ok(indices)
 }
 
 /// Whether the colour spaces of an entry are others with one more, or with that alone.

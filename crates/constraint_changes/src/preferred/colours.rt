@@ -3,9 +3,10 @@
 use crate::preferred::alike::{try_alike, try_first};
 use crate::preferred::telling::{Found, Wanted};
 use crate::preferred::wish::{Goal, Settled, Wish, settled_by};
-use crate::trials::{is_image_named, lacks_image};
-use constraint_edits::Edit;
-use std::alloc::AllocError;
+use crate::trials::{entry_place, is_image_named, lacks_image};
+use constraint_edits::{Edit, entries_without};
+use settings_reasons::is_taken;
+use std::alloc::{AllocError, Global};
 use sysmem_formats::{ColourSpace, Offer, Pair};
 use value_sources::NamedParticipant;
 
@@ -78,8 +79,9 @@ fn try_colour(
         return Ok(());
     }
     let goal = Goal::Colour(colour);
-    let edit = Edit::TakesColour(colour);
-    let mut told: Vec<usize> = Vec::new(found.items.alloc());
+    let alloc = found.items.alloc();
+    let edit = taking_in(alloc, participant, pair, colour)?;
+    let mut told: Vec<usize> = Vec::new(alloc);
     try_alike(
         found,
         Wish { goal, ..wish },
@@ -88,6 +90,24 @@ fn try_colour(
         &[],
         edit,
     )
+}
+
+/// That a participant takes a colour space too: of several entries the one that holds for a pair.
+fn taking_in(
+    alloc: Global,
+    participant: &NamedParticipant<'_>,
+    pair: Pair,
+    colour: ColourSpace,
+) -> Result<Edit, AllocError> {
+    let entries = participant.asked.entries();
+    let place = entries.iter().position(|entry| is_taken(entry, pair));
+    if let (Some(index), Some(value)) = (place, participant.stated) {
+        if !entries_without(alloc, value, colour)?.is_empty() {
+            let item = entry_place(participant.stated, index).item;
+            return Ok(Edit::TakesColourIn(colour, item));
+        }
+    }
+    Ok(Edit::TakesColour(colour))
 }
 
 /// The only one of participants who doesn't take a pair in a colour space; `None` where all do, or

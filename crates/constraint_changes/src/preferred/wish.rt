@@ -92,7 +92,7 @@ fn is_recoloured(is: Offer, was: Offer, colour: ColourSpace) -> bool {
 fn takes_more(edit: Edit, pair: Pair) -> bool {
     match edit {
         Edit::TakesPair(other) => pair == other,
-        Edit::TakesColour(_) => true,
+        Edit::TakesColour(_) | Edit::TakesColourIn(_, _) => true,
         Edit::NoBound(field) | Edit::NoMemory(field) => is_limit(field),
         _ => false,
     }
