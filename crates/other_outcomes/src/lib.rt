@@ -1,8 +1,8 @@
 //! What would become of a script's domains otherwise: with calls moved that stand too early or too
 //! late, made on the nodes that they may mean, or made that are missing, with a release in the place
-//! of a close, without those who are awaited, with a later child in the place of the chosen one, with
-//! another group made first, and on a platform that has a pair more, a pair first, or a heap that is
-//! contiguous or secure.
+//! of a close, without the constraints of who uses no buffer, without those who are awaited, with a
+//! later child in the place of the chosen one, with another group made first, and on a platform that
+//! has a pair more, a pair first, or a heap that is contiguous or secure.
 //!
 //! ```
 //! let moved = list_moved(&mut items, &value, &story)?;
@@ -20,6 +20,7 @@ mod heaps;
 mod later_pairs;
 mod meant;
 mod moved;
+mod onlookers;
 mod otherwise;
 mod pending;
 mod platforms;
@@ -35,6 +36,7 @@ pub use heaps::add_heaps;
 pub use later_pairs::add_taken_pairs;
 pub use meant::list_meant;
 pub use moved::{add_then, list_moved};
+pub use onlookers::add_onlooker;
 pub use otherwise::{Otherwise, reordered, with_calls};
 pub use pending::add_without;
 pub use platforms::add_platform;

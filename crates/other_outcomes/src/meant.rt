@@ -29,6 +29,19 @@ enum Meaning {
     Node(usize),
     /// The next child of the group on which it is made.
     Child,
+    /// A token that is attached to the collection on which it is made.
+    Late,
+}
+
+impl Meaning {
+    /// The kind of call that it is, if it is of another kind.
+    fn kind(self) -> Option<ActionKind> {
+        match self {
+            Meaning::Node(_) => None,
+            Meaning::Child => Some(ActionKind::CreateChild),
+            Meaning::Late => Some(ActionKind::AttachToken),
+        }
+    }
 }
 
 impl MeantCall {
@@ -41,8 +54,8 @@ impl MeantCall {
     }
 }
 
-/// Tells which calls may mean another node, or a child, if some do, and gives the script in which
-/// they are made so, if that isn't refused.
+/// Tells which calls may mean another node, a child or an attached token, if some do, and gives the
+/// script in which they are made so, if that isn't refused.
 pub fn list_meant(
     items: &mut Items,
     value: &Value,
@@ -61,8 +74,8 @@ pub fn list_meant(
     Ok(Some(other))
 }
 
-/// The calls that may mean something else since one was refused: a child, or another node where
-/// just one suits it.
+/// The calls that may mean something else since one was refused: a child, an attached token, or
+/// another node where just one suits it.
 fn meant_in(alloc: Global, story: &Story<'_>) -> Result<Vec<MeantCall>, AllocError> {
     let mut meant = Vec::new(alloc);
     for (index, call) in story.calls.iter().enumerate() {
@@ -94,6 +107,12 @@ fn meant_for(
             meaning: Meaning::Child,
         }));
     }
+    if is_late(story, call, number) {
+        return Ok(Some(MeantCall {
+            number,
+            meaning: Meaning::Late,
+        }));
+    }
     if lacks_bind(alloc, story, call, number)? {
         return Ok(None);
     }
@@ -113,6 +132,23 @@ fn is_child(story: &Story<'_>, call: &MadeCall<'_>, number: usize) -> bool {
         .milestone_before(group, Milestone::Complete, number)
         .is_some();
     !is_complete && is_open(story, group, NodeKind::Group, number)
+}
+
+/// Whether a call duplicates a collection of its actor, whose domain was chosen before, as if it were
+/// a token.
+fn is_late(story: &Story<'_>, call: &MadeCall<'_>, number: usize) -> bool {
+    let (Act::Duplicate(_), Some(node)) = (call.act, call.node) else {
+        return false;
+    };
+    let bound = story.milestone_before(node, Milestone::Bind, number);
+    let is_own = matches!(bound, Some(by) if story.actor(by) == call.actor);
+    let is_decided = match story.domain_of(node) {
+        Some(domain) => {
+            domain.became == Became::Chosen && matches!(domain.ended, Some(ended) if ended < number)
+        }
+        None => false,
+    };
+    is_own && is_decided && is_open(story, node, NodeKind::Collection, number)
 }
 
 /// Whether a call attaches a token to a node that wasn't selected later on, and a call on what it
@@ -269,9 +305,10 @@ fn all_meant(
     for (index, call) in calls.iter().enumerate() {
         let made = match meaning_of(meant, index.saturating_add(1)) {
             Some(Meaning::Node(node)) => with_word(alloc, call, "on", story.name(node))?,
-            Some(Meaning::Child) => {
-                with_word(alloc, call, "call", ActionKind::CreateChild.name())?
-            }
+            Some(meaning) => match meaning.kind() {
+                Some(kind) => with_word(alloc, call, "call", kind.name())?,
+                None => call.clone()?,
+            },
             None => call.clone()?,
         };
         list.add(made);
@@ -306,11 +343,16 @@ fn with_word(alloc: Global, call: &Value, key: &str, word: &str) -> Result<Value
     Ok(Value::Object(members))
 }
 
-/// Tells on which nodes calls are made, and which make children.
+/// Tells on which nodes calls are made, and which make children, or attach tokens.
 fn add_meant(items: &mut Items, story: &Story<'_>, meant: &[MeantCall]) {
     let mut words = TextBuilder::of(items.alloc(), "with ");
-    let are_some = put_on_nodes(&mut words, story, meant);
-    put_children(&mut words, meant, if are_some { " and " } else { "" });
+    let mut are_some = put_on_nodes(&mut words, story, meant);
+    for kind in [ActionKind::CreateChild, ActionKind::AttachToken] {
+        let mark = if are_some { " and " } else { "" };
+        if put_of_kind(&mut words, meant, kind, mark) {
+            are_some = true;
+        }
+    }
     words.put(" the script has:");
     items.say(1, Label::Then, words)
 }
@@ -330,26 +372,27 @@ fn put_on_nodes(text: &mut TextBuilder, story: &Story<'_>, meant: &[MeantCall]) 
     are_some
 }
 
-/// Puts which calls make children after a text with a mark, if some do: `calls 2 and 3 as
-/// create_child`.
-fn put_children(text: &mut TextBuilder, meant: &[MeantCall], mark: &str) {
-    let count = meant.iter().filter(|one| makes_child(one)).count();
+/// Puts which calls are of a kind after a text with a mark: `calls 2 and 3 as create_child`; whether
+/// some are.
+fn put_of_kind(text: &mut TextBuilder, meant: &[MeantCall], kind: ActionKind, mark: &str) -> bool {
+    let count = meant.iter().filter(|one| is_of_kind(one, kind)).count();
     if count == 0 {
-        return;
+        return false;
     }
     text.put(mark)
         .put(if count == 1 { "call " } else { "calls " });
     let mut put = 0usize;
     for one in meant {
-        if makes_child(one) {
+        if is_of_kind(one, kind) {
             text.call(one.number).put(mark_after(put, count));
             put = put.saturating_add(1);
         }
     }
-    text.put(" as ").put(ActionKind::CreateChild.name());
+    text.put(" as ").put(kind.name());
+    true
 }
 
-/// Whether a call may mean a child.
-fn makes_child(one: &MeantCall) -> bool {
-    matches!(one.meaning, Meaning::Child)
+/// Whether a call may mean one of a kind.
+fn is_of_kind(one: &MeantCall, kind: ActionKind) -> bool {
+    one.meaning.kind() == Some(kind)
 }

@@ -332,12 +332,13 @@ impl<'b, 'a> Refused<'b, 'a> {
         if domain.became == Became::Failed {
             return;
         }
-        self.put_when(text, node, domain.ended.unwrap_or(0))
+        self.put_when(text, node, domain.ended.unwrap_or(0), awaited)
     }
 
-    /// Puts that a call which asks for the verdict on a node is to be moved after the call of the
-    /// number `ended`, with which it comes; or who has released the node by then.
-    fn put_when(self, text: &mut TextBuilder, node: usize, ended: usize) {
+    /// Puts that a call which asks for the verdict on a node, for which these are awaited, is to be
+    /// moved after the call of the number `ended`, with which it comes; or who has released the node
+    /// by then.
+    fn put_when(self, text: &mut TextBuilder, node: usize, ended: usize, awaited: &[usize]) {
         let next = ended.saturating_add(1);
         if let Some(gone) = self.story.milestone_before(node, Milestone::End, next) {
             text.put(": a verdict comes only after call ").call(ended);
@@ -347,6 +348,27 @@ impl<'b, 'a> Refused<'b, 'a> {
         text.put(": move it after call ").call(ended);
         if let Act::Check = self.call.act {
             text.put(", or use wait");
+        }
+        if let [late] = awaited {
+            self.put_attached(text, *late);
+        }
+    }
+
+    /// Puts that a node may come later by another call than the one that made it after a text, where
+    /// that is a duplicate and no call was made on the node yet.
+    fn put_attached(self, text: &mut TextBuilder, late: usize) {
+        let Some(number) = self.story.nodes.get(late).and_then(|node| node.made_by) else {
+            return;
+        };
+        let is_duplicate = match self.story.call(number) {
+            Some(call) => matches!(call.act, Act::Duplicate(_)),
+            None => false,
+        };
+        let mut before = self.story.calls.iter().take(self.number);
+        if is_duplicate && !before.any(|call| call.node == Some(late)) {
+            text.put("; or, if ").name(self.story.called(late));
+            text.put(" is to come later, make it after this call by attach_token, not in call ");
+            text.call(number).put(" by duplicate");
         }
     }
 
@@ -492,7 +514,26 @@ impl<'b, 'a> Refused<'b, 'a> {
         let bound = self.earlier(node, Milestone::Bind).unwrap_or(0);
         self.put_on(text, " is no token any more: call ");
         text.call(bound).put(" bound it");
+        let is_own = self.story.actor(bound) == self.call.actor;
+        if let (Act::Duplicate(_), Some(ended)) = (self.call.act, self.decided_before(node))
+            && is_own
+        {
+            text.put("; its domain was decided after call ").call(ended);
+            text.put(": who comes then, comes by attach_token");
+            return;
+        }
         self.put_move(text, bound)
+    }
+
+    /// The number of the call after which the domain of a node was chosen, if that came before.
+    fn decided_before(self, node: usize) -> Option<usize> {
+        let domain = self.story.domain_of(node)?;
+        let ended = domain.ended?;
+        if domain.became == Became::Chosen && ended < self.number {
+            Some(ended)
+        } else {
+            None
+        }
     }
 
     /// Puts that an earlier call is to be moved, for a call that makes a name.
