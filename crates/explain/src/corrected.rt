@@ -518,7 +518,7 @@ fn add_chosen(
     let Some(domain) = story.domains.get(index) else {
         return Ok(());
     };
-    if is_said(now, story, domain) && are_as_many_left(now, story, index) {
+    if is_said(now, story, domain) && !leaves_out_more(now, story, index) {
         return Ok(());
     }
     let depth = if story.domains.len() < 2 {
@@ -538,12 +538,12 @@ fn add_chosen(
     add_idle_modifiers(items, document, story, index, depth)
 }
 
-/// Whether as many participants in the domain of an index have constraints and aren't chosen now and
-/// then: else one of them may be a child that would do too.
-fn are_as_many_left(now: &Story<'_>, then: &Story<'_>, index: usize) -> bool {
+/// Whether more participants in the domain of an index have constraints and aren't chosen then than
+/// now: one of them may be a child that would do too.
+fn leaves_out_more(now: &Story<'_>, then: &Story<'_>, index: usize) -> bool {
     match index_at(now, then.path(then.root_of(index))) {
-        Some(known) => left_in(now, known) == left_in(then, index),
-        None => false,
+        Some(known) => left_in(now, known) < left_in(then, index),
+        None => true,
     }
 }
 

@@ -13,8 +13,8 @@ use domain_reasons::{
 };
 use explanation_text::{Items, Label, Text, TextBuilder, are_same};
 use other_outcomes::{
-    Otherwise, add_ended_earlier, add_groups_exchanged, add_later_children, add_released,
-    add_taken_pairs, add_then, add_without, reordered, with_calls,
+    Otherwise, add_ended_earlier, add_groups_exchanged, add_later_children, add_onlooker,
+    add_released, add_taken_pairs, add_then, add_without, reordered, with_calls,
 };
 use script_reading::Call;
 use script_story::{Became, Domain, Scenario, Story, refused_calls, story_of};
@@ -69,6 +69,7 @@ pub(crate) fn list_help(
         Became::Empty if scenario.effort.is_spent() => Ok(()),
         Became::Empty => {
             let stated = add_edits(items, &draft.document, scenario, story, index)?;
+            add_onlooker(items, scenario, story, index, path)?;
             add_changed(items, draft, scenario, story, &stated, levels)
         }
         Became::Failed => {
