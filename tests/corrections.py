@@ -9,7 +9,7 @@ from explained import ENTRIES, MEMORY, STEERS, judge
 # calls on other nodes, or that make children.
 ANSWERED = re.compile(r"^with .* the script has(?:, its calls numbered anew)?:$")
 CORRECTED = re.compile(r"with (.* \(lines? [\d, and]+\))( and \d+ more)? the script has:")
-CALLED = re.compile(r"with calls? \d+(?: on .*|[\d, and]* as create_child) the script has:")
+CALLED = re.compile(r"with calls? \d+(?: on .*|[\d, and]* as (?:create_child|attach_token)(?: and .*)?) the script has:")
 DECODER = json.JSONDecoder()
 COLON, COMMA, BEHIND = re.compile(r"\s*:\s*"), re.compile(r"\s*,?\s*"), re.compile(r"\s*,")
 
@@ -332,11 +332,10 @@ def edited(text, edits):
 
 
 def called_on(text, words):
-    """The text of a script in which calls are made on other nodes, or make children."""
+    """The text of a script in which calls are made on other nodes, or make children or attached tokens."""
     parts = parts_of(text)
     on_nodes = [(number, "on", node) for number, node in re.findall(r"call (\d+) on (\S+)", words)]
-    children = re.search(r"calls? ([\d, and]+) as create_child", words)
-    numbers = re.findall(r"\d+", children[1]) if children else []
-    whats = on_nodes + [(number, "call", "create_child") for number in numbers]
+    kinds = re.findall(r"calls? ([\d, and]+) as (create_child|attach_token)", words)
+    whats = on_nodes + [(number, "call", kind) for some, kind in kinds for number in re.findall(r"\d+", some)]
     spots = [(parts["calls", int(number) - 1, key], word) for number, key, word in whats]
     return edited(text, [(part.value, part.end, f'"{word}"') for part, word in spots])

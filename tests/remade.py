@@ -100,7 +100,9 @@ def numbers_changed(before, after, told):
 def taken(constraints, what):
     """Makes a change that takes more, and says whether the words are of such a one."""
     exchange = re.fullmatch(r"(\w+) (?:\S+ )?and (\w+) (?:\S+ )?exchanged(?: in entries (.*))?", what)
-    colour = re.fullmatch(r"color_spaces (?:(.*), )?with (\w+) too(?: in entries (.*))?", what)
+    colour = re.fullmatch(
+        r"color_spaces (?:(.*), )?with (\w+) too(?: in entries (.*)| in entry (\d+) \((.*)\))?", what
+    )
     only = re.fullmatch(r"color_spaces (.+) becomes (\w+)", what)
     pair = re.fullmatch(
         r"pixel_format (\w+ \w+) too, in an entry before the others that is else like (?:the first|entry (\d+)) \(.*\)",
@@ -115,12 +117,16 @@ def taken(constraints, what):
         numbers_changed(before, constraints.get(ENTRIES, []), exchange[3])
     elif colour:
         before = json.loads(json.dumps(constraints[ENTRIES]))
-        for entry in constraints[ENTRIES]:
-            if colour[2] not in entry["color_spaces"]:
+        for number, entry in enumerate(constraints[ENTRIES], 1):
+            if colour[2] not in entry["color_spaces"] and int(colour[4] or number) == number:
                 told = len(entry["color_spaces"]) > 4 or colour[1] in (None, joined(entry["color_spaces"]))
                 judge(told, f"{what}: the list of an entry is {entry['color_spaces']}")
                 entry["color_spaces"].append(colour[2])
-        numbers_changed(before, constraints[ENTRIES], colour[3])
+        numbers_changed(before, constraints[ENTRIES], colour[3] or colour[4])
+        if colour[4]:
+            entry = constraints[ENTRIES][int(colour[4]) - 1]
+            names = [entry.get("pixel_format", "several pairs"), entry.get("pixel_format_modifier")]
+            judge(colour[5] == " ".join(filter(None, names)), f"{what}: the entry is of {names}")
     elif only:
         for entry in constraints[ENTRIES]:
             names = entry["color_spaces"]
@@ -499,8 +505,23 @@ def released(script, words):
     return script
 
 
+def unstated(script, words):
+    """A script in which a call states no constraints, whose participant uses the buffers for nothing."""
+    name, number = re.fullmatch(
+        r"(\S+) uses the buffers for nothing \(usage none\), but states constraints; without them in call (\d+) it would be:",
+        words,
+    ).groups()
+    made = script["calls"][int(number) - 1]
+    judge(made["call"] == "set_constraints" and made["on"] == name, f"{words}: it is {made}")
+    stated = made.pop("constraints")
+    counts = [stated.get(key, 0) for key in ("min_buffer_count", "min_buffer_count_for_camping")]
+    judge((stated["usage"], counts) == (["none"], [0, 0]), f"{words}: it states {stated}")
+    return script
+
+
 # Outcomes that are told in sentences of their own, by words of these; the first that fits.
 OTHERWISE = {
+    " but states constraints; without them in call ": unstated,
     " whose order decides, not the entries'; ": first_pair,
     " on the platform, which doesn't say so, ": other_heap,
     " on the platform, which doesn't have it, ": other_heap,
